@@ -1,0 +1,31 @@
+-- What calls do to the bytes that a source has left and a sink holds, where those are told.
+use Rattle.std.specs.Prelude.{◌≡◌, ℕ, ◌<◌, ◌≤◌, List, ◌++◌, length, take, Option, is_some}
+use Rattle.std.specs.Io.KnownBytes.{Appends, Consumes}
+
+-- the most bytes of a job text
+abbrev pub job_limit : ℕ
+job_limit = 4194304
+
+-- the bytes are told after the call exactly where they were told before it
+abbrev pub SameTold : Option (List ℕ) → Option (List ℕ) → Type 0
+SameTold old new = is_some new ≡ is_some old
+
+-- told bytes lost this many at their front
+abbrev pub Loses : Option (List ℕ) → Option (List ℕ) → ℕ → Type 0
+Loses old new count = (bytes : List ℕ) × Consumes old new bytes × (length bytes ≡ count)
+
+-- told bytes lost at most this many at their front
+abbrev pub LosesAtMost : Option (List ℕ) → Option (List ℕ) → ℕ → Type 0
+LosesAtMost old new limit = (bytes : List ℕ) × Consumes old new bytes × (length bytes ≤ limit)
+
+-- this many bytes moved from the front of those that a source has left to the end of a list
+abbrev pub Moves : Option (List ℕ) → Option (List ℕ) → List ℕ → List ℕ → ℕ → Type 0
+Moves old new list longer count = (bytes : List ℕ) × Consumes old new bytes × (longer ≡ list ++ bytes) × (length bytes ≡ count)
+
+-- told bytes grew by some prefix of these bytes
+abbrev pub AppendsPrefix : Option (List ℕ) → Option (List ℕ) → List ℕ → Type 0
+AppendsPrefix old new bytes = (count : ℕ) × (count ≤ length bytes) × Appends old new (take count bytes)
+
+-- told bytes grew by a prefix of these bytes that is not the whole
+abbrev pub AppendsProperPrefix : Option (List ℕ) → Option (List ℕ) → List ℕ → Type 0
+AppendsProperPrefix old new bytes = (count : ℕ) × (count < length bytes) × Appends old new (take count bytes)

@@ -1,0 +1,51 @@
+// Where bytes come from and where they go, as a call above sees it.
+ghost use Rattle.std.specs.Prelude.{◌≡◌, ◌<◌, List, ℕ, Option, length, take, IfOk, OnErr};
+ghost use Rattle.std.specs.Io.{ReadsAtMost, WritesAtMost};
+ghost use Rattle.std.specs.Io.KnownBytes.{Appends, Consumes, IsAtEnd, Keeps};
+ghost use Rattle.adp_io.specs.Causes.{HasCause, Rose};
+ghost use Rattle.adp_io.specs.Streams.{SameTold};
+
+/// A read or a write failed.
+#[derive(Clone, Copy, Debug, PartialEq, Eq)]
+pub struct Failed;
+
+/// What bytes are read from.
+pub trait Source {
+    /// The bytes still to come, where the source tells them.
+    ghost left: { Self → Option (List ℕ) };
+
+    /// How often a read has failed. The count never falls.
+    ghost faults: { Self → ℕ };
+
+    /// Reads some bytes into the front of `into` and answers how many. `Ok(0)` on a nonempty slice is the
+    /// end of the input. What stands in `into` behind the bytes that were read is left open.
+    fn read(&mut self, into: &mut [u8]) -> Result<usize, Failed>
+        ensures bound { ReadsAtMost result into.new }
+        ensures told { SameTold (left self.old) (left self.new) }
+        ensures taken { IfOk result (λ count.
+            Consumes (left self.old) (left self.new) (take count into.new)) }
+        ensures end { IfOk result (λ count. count ≡ 0 → 0 < length into.new → IsAtEnd (left self.new)) }
+        ensures kept { OnErr result (Keeps (left self.old) (left self.new)) }
+        ensures cause { HasCause (faults self.old) (faults self.new) result };
+}
+
+/// What bytes are written to.
+pub trait Sink {
+    /// The bytes taken so far, where the sink tells them.
+    ghost held: { Self → Option (List ℕ) };
+
+    /// How often a write has failed. The count never falls.
+    ghost faults: { Self → ℕ };
+
+    /// Takes some bytes from the front of `piece` and answers how many.
+    fn write(&mut self, piece: &[u8]) -> Result<usize, Failed>
+        ensures bound { WritesAtMost result piece.now }
+        ensures told { SameTold (held self.old) (held self.new) }
+        ensures taken { IfOk result (λ count.
+            Appends (held self.old) (held self.new) (take count piece.now)) }
+        // A sink that takes nothing of a nonempty piece counts that as a fault.
+        ensures stuck { IfOk result (λ count. count ≡ 0 → 0 < length piece.now
+            → Rose (faults self.old) (faults self.new)) }
+        ensures kept { OnErr result (Keeps (held self.old) (held self.new)) }
+        ensures cause { HasCause (faults self.old) (faults self.new) result };
+}

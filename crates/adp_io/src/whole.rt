@@ -1,0 +1,29 @@
+// A whole text to a sink, however few bytes the sink takes at a time.
+ghost use Rattle.std.specs.Prelude.{OnErr, OnOk};
+ghost use Rattle.std.specs.Io.KnownBytes.{Appends};
+ghost use Rattle.adp_io.specs.Causes.{HasCause};
+ghost use Rattle.adp_io.specs.Streams.{AppendsProperPrefix, SameTold};
+
+use crate::stream::{Failed, Sink};
+
+/// A write failed, or took nothing, before all was written.
+#[derive(Clone, Copy, Debug, PartialEq, Eq)]
+pub struct WriteFault;
+
+/// Writes all the bytes. After a fault the sink holds a part of them, and never the whole.
+#[tactic(auto, using(crate::proofs::Told::appends_more))]
+pub fn write_whole<K: Sink>(sink: &mut K, bytes: &[u8]) -> Result<(), WriteFault>
+    ensures told { SameTold (K.held sink.old) (K.held sink.new) }
+    ensures whole { OnOk result (Appends (K.held sink.old) (K.held sink.new) bytes.now) }
+    ensures part { OnErr result (AppendsProperPrefix (K.held sink.old) (K.held sink.new) bytes.now) }
+    ensures cause { HasCause (K.faults sink.old) (K.faults sink.new) result }
+{
+    let mut written = 0;
+    while written < bytes.len() {
+        match sink.write(&bytes[written..]) {
+            Ok(0) | Err(Failed) => return Err(WriteFault),
+            Ok(count) => written += count,
+        }
+    }
+    Ok(())
+}
