@@ -1,0 +1,5 @@
+use Rattle.adp_model.proofs.Principle.{Bellman-solvable}
+use Rattle.adp_model.proofs.laws.bellman.bellman.Goals as goal
+
+pub returns : goal.returns
+returns c = Bellman-solvable
