@@ -1,0 +1,4 @@
+mod Told
+mod Completeness
+mod TreeSteps
+mod Reports
