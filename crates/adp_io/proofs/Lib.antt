@@ -1,2 +1,3 @@
 pub mod Told
 pub mod MemoryLemmas
+pub mod Asked

@@ -1,5 +1,5 @@
--- The cause of a fault: the count of faults of what the call was lent rose in the call.
-use Rattle.std.specs.Prelude.{ℕ, ◌+◌, ◌-◌, ◌^◌, ◌≤◌, min, Result, OnErr}
+-- Counts of faults: where they rise, and by how much.
+use Rattle.std.specs.Prelude.{◌≡◌, ℕ, ◌+◌, ◌-◌, ◌^◌, ◌<◌, ◌≤◌, min, List, length, Result, Ok, Err}
 
 -- a count of 64 bits after one more; at its greatest value it stands still
 abbrev pub next_count : ℕ → ℕ
@@ -9,7 +9,13 @@ next_count count = min (count + 1) (2 ^ 64 - 1)
 abbrev pub Rose : ℕ → ℕ → Type 0
 Rose before now = next_count before ≤ now
 
--- the count has not fallen, and the call failed only where it rose
-pub record HasCause {T E : Type 0} (before now : ℕ) (result : Result T E) : Type 0 where
+-- over a call the count rises by one where the call failed and stands still where it did not: it never falls
+pub record RisesWhere (before now : ℕ) (failed : Type 0) : Type 0 where
   pub later : before ≤ now
-  pub failed : OnErr result (Rose before now)
+  pub rises : failed → now ≡ next_count before
+  pub stands : ¬ failed → now ≡ before
+
+-- a write failed, or took nothing of a piece that is not empty
+abbrev pub IsFailedWrite : {E : Type 0} → Result ℕ E → List ℕ → Type 0
+IsFailedWrite (Ok count) piece = (count ≡ 0) × (0 < length piece)
+IsFailedWrite (Err error) piece = Unit {0}

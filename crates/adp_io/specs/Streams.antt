@@ -1,10 +1,14 @@
 -- What calls do to the bytes that a source has left and a sink holds, where those are told.
-use Rattle.std.specs.Prelude.{◌≡◌, ℕ, ◌<◌, ◌≤◌, List, ◌++◌, length, take, Option, is_some}
+use Rattle.std.specs.Prelude.{◌≡◌, ℕ, ◌<◌, ◌≤◌, max, List, ◌++◌, length, take, Option, Some, None, is_some}
 use Rattle.std.specs.Io.KnownBytes.{Appends, Consumes}
 
 -- the most bytes of a job text
 abbrev pub job_limit : ℕ
 job_limit = 4194304
+
+-- the most bytes of one read of a job
+abbrev pub piece_limit : ℕ
+piece_limit = 65536
 
 -- the bytes are told after the call exactly where they were told before it
 abbrev pub SameTold : Option (List ℕ) → Option (List ℕ) → Type 0
@@ -29,3 +33,15 @@ AppendsPrefix old new bytes = (count : ℕ) × (count ≤ length bytes) × Appen
 -- told bytes grew by a prefix of these bytes that is not the whole
 abbrev pub AppendsProperPrefix : Option (List ℕ) → Option (List ℕ) → List ℕ → Type 0
 AppendsProperPrefix old new bytes = (count : ℕ) × (count < length bytes) × Appends old new (take count bytes)
+
+-- the most bytes that a source was asked for in one read, where it is told, after a read that asks for this many
+abbrev pub AsksFor : Option ℕ → Option ℕ → ℕ → Type 0
+AsksFor None now count = Unit {0}
+AsksFor (Some before) None count = ⊥
+AsksFor (Some before) (Some now) count = now ≡ max before count
+
+-- the same after reads that ask for at most this many each
+abbrev pub AsksForAtMost : Option ℕ → Option ℕ → ℕ → Type 0
+AsksForAtMost None now limit = Unit {0}
+AsksForAtMost (Some before) None limit = ⊥
+AsksForAtMost (Some before) (Some now) limit = (before ≤ now) × (now ≤ max before limit)

@@ -1,8 +1,8 @@
 // A whole job text from a source, up to the greatest length that a job may have.
 ghost use Rattle.std.specs.Prelude.{◌≡◌, ◌+◌, ◌-◌, ◌<◌, ◌≤◌, length, vec_len, IfOk, IfSome, OnOk, OnErr, IsErrOf};
-ghost use Rattle.std.specs.Io.KnownBytes.{IsAtEnd};
-ghost use Rattle.adp_io.specs.Causes.{Rose};
-ghost use Rattle.adp_io.specs.Streams.{Loses, LosesAtMost, Moves, SameTold, job_limit};
+ghost use Rattle.std.specs.Io.KnownBytes.{IsAtEnd, Keeps};
+ghost use Rattle.adp_io.specs.Causes.{RisesWhere};
+ghost use Rattle.adp_io.specs.Streams.{AsksForAtMost, Loses, LosesAtMost, Moves, SameTold, job_limit, piece_limit};
 
 use crate::stream::Source;
 use std::alloc::{AllocError, Global};
@@ -27,10 +27,11 @@ pub enum JobFault {
 
 /// Reads to the end of the source, or until one byte more than `JOB_LIMIT` has come, in pieces of at most
 /// `PIECE_LIMIT` bytes. After a refusal the bytes read are gone.
-#[tactic(auto, using(crate::proofs::Told::consumes_moved, crate::proofs::Told::loses_all))]
+#[tactic(auto, using(crate::proofs::Told::consumes_moved, crate::proofs::Told::loses_all, crate::proofs::Asked::asks_for_more))]
 pub fn read_job<S: Source>(alloc: Global, source: &mut S) -> Result<Vec<u8>, JobFault>
     ensures told { SameTold (S.left source.old) (S.left source.new) }
-    ensures later { S.faults source.old ≤ S.faults source.new }
+    ensures faults { RisesWhere (S.faults source.old) (S.faults source.new) (IsErrOf result JobFault.ReadFault) }
+    ensures asked { AsksForAtMost (S.asked source.old) (S.asked source.new) piece_limit }
 
     // The bytes are all that came, and the source was read to its end.
     ensures whole { IfOk result (λ bytes. IfSome (S.left source.old) (λ left. bytes.items ≡ left)) }
@@ -38,7 +39,7 @@ pub fn read_job<S: Source>(alloc: Global, source: &mut S) -> Result<Vec<u8>, Job
     ensures fits { IfOk result (λ bytes. vec_len bytes ≤ job_limit) }
 
     ensures read_fault { IsErrOf result JobFault.ReadFault
-        → Rose (S.faults source.old) (S.faults source.new) }
+        → LosesAtMost (S.left source.old) (S.left source.new) job_limit }
     ensures too_long { IsErrOf result JobFault.TooLong
         → Loses (S.left source.old) (S.left source.new) (job_limit + 1) }
     ensures long { IsErrOf result JobFault.TooLong
@@ -69,16 +70,17 @@ fn read_piece<S: Source>(
     bytes: &mut Vec<u8>,
 ) -> Result<usize, JobFault>
     requires piece { 0 < length piece.old }
+    requires short { length piece.old ≤ piece_limit }
     requires room { vec_len bytes.old ≤ job_limit }
     ensures told { SameTold (S.left source.old) (S.left source.new) }
-    ensures later { S.faults source.old ≤ S.faults source.new }
+    ensures faults { RisesWhere (S.faults source.old) (S.faults source.new) (IsErrOf result JobFault.ReadFault) }
+    ensures asked { AsksForAtMost (S.asked source.old) (S.asked source.new) piece_limit }
     ensures moved { IfOk result (λ count.
         Moves (S.left source.old) (S.left source.new) bytes.old.items bytes.new.items count) }
     ensures len { IfOk result (λ count. vec_len bytes.new ≡ vec_len bytes.old + count) }
     ensures fits { OnOk result (vec_len bytes.new ≤ job_limit + 1) }
     ensures end { IfOk result (λ count. count ≡ 0 → IsAtEnd (S.left source.new)) }
-    ensures read_fault { IsErrOf result JobFault.ReadFault
-        → Rose (S.faults source.old) (S.faults source.new) }
+    ensures read_fault { IsErrOf result JobFault.ReadFault → Keeps (S.left source.old) (S.left source.new) }
     ensures too_long { IsErrOf result JobFault.TooLong → ⊥ }
     ensures refused { OnErr result
         (LosesAtMost (S.left source.old) (S.left source.new) (job_limit + 1 - vec_len bytes.old)) }

@@ -2,6 +2,7 @@
 //! and `read_job` and `write_whole` read and write a whole text over any of them.
 #![tactic(auto)]
 
+mod clean;
 mod job;
 mod laws;
 mod memory;
@@ -9,6 +10,7 @@ mod standard;
 mod stream;
 mod whole;
 
+pub use clean::{CleanSink, CleanSource};
 pub use job::{JOB_LIMIT, JobFault, PIECE_LIMIT, read_job};
 pub use laws::{prefix_after_whole, whole_after_whole};
 pub use memory::{MemSink, MemSource};

@@ -1,6 +1,6 @@
 // A source and a sink in memory, which fail at the calls that they are told to fail at.
-ghost use Rattle.std.specs.Prelude.{◌≡◌, ◌+◌, ◌-◌, ◌<◌, ◌≤◌, ◌⊎◌, ◌↔◌, [], ◌++◌, length, take, drop, min, Some, IfOk, OnErr, IsErr, is_err, Contains, vec_len, vec_capacity, if◌then◌else◌};
-ghost use Rattle.adp_io.specs.Causes.{HasCause, next_count};
+ghost use Rattle.std.specs.Prelude.{◌≡◌, ◌+◌, ◌-◌, ◌<◌, ◌≤◌, ◌⊎◌, ◌↔◌, [], ◌++◌, length, take, drop, min, max, Some, IfOk, OnErr, IsErr, Contains, vec_len, vec_capacity};
+ghost use Rattle.adp_io.specs.Causes.{IsFailedWrite, RisesWhere, next_count};
 ghost use Rattle.adp_io.specs.Memory.{SourceState, SinkState};
 
 use crate::stream::{Failed, Sink, Source};
@@ -16,6 +16,7 @@ pub struct MemSource {
     fails: Vec<u64>,
     calls: u64,
     faults: u64,
+    asked: usize,
 }
 
 impl Model for MemSource {
@@ -27,6 +28,7 @@ impl Model for MemSource {
       fails = s.fails.items;
       calls = s.calls;
       faults = s.faults;
+      asked = s.asked;
     } };
 
     ghost invariant = { λ s. (s.at ≤ vec_len s.bytes) × (0 < s.piece) };
@@ -43,6 +45,7 @@ impl MemSource {
           fails = fails.items;
           calls = 0;
           faults = 0;
+          asked = 0;
         } }
     {
         MemSource {
@@ -52,6 +55,7 @@ impl MemSource {
             fails,
             calls: 0,
             faults: 0,
+            asked: 0,
         }
     }
 }
@@ -61,8 +65,9 @@ impl Source for MemSource {
 
     ghost faults = { λ s. s.faults };
 
+    ghost asked = { λ s. Some s.asked };
+
     fn read(&mut self, into: &mut [u8]) -> Result<usize, Failed>
-        ensures cause { HasCause self.old.faults self.new.faults result }
         ensures fails { IsErr result ↔ Contains self.old.fails self.old.calls }
         ensures count { IfOk result (λ count.
             count ≡ min self.old.piece (min (length into.new) (length self.old.left))) }
@@ -70,12 +75,13 @@ impl Source for MemSource {
         ensures end { IfOk result (λ count. count ≡ 0 → 0 < length into.new → self.new.left ≡ []) }
         ensures kept { OnErr result (self.new.left ≡ self.old.left) }
         ensures calls { self.new.calls ≡ next_count self.old.calls }
-        ensures faults { self.new.faults
-            ≡ (if is_err result then next_count self.old.faults else self.old.faults) }
+        ensures faults { RisesWhere self.old.faults self.new.faults (IsErr result) }
+        ensures asked { self.new.asked ≡ max self.old.asked (length into.new) }
         ensures same { (self.new.piece ≡ self.old.piece) × (self.new.fails ≡ self.old.fails) }
     {
         let call = self.calls;
         self.calls = call.saturating_add(1);
+        self.asked = self.asked.max(into.len());
         if self.fails.contains(&call) {
             self.faults = self.faults.saturating_add(1);
             return Err(Failed);
@@ -158,7 +164,6 @@ impl Sink for MemSink {
     ghost faults = { λ s. s.faults };
 
     fn write(&mut self, piece: &[u8]) -> Result<usize, Failed>
-        ensures cause { HasCause self.old.faults self.new.faults result }
         ensures fails { IsErr result
             ↔ (Contains self.old.fails self.old.calls ⊎ ((0 < length piece.now) × (self.old.room ≤ length self.old.held))) }
         ensures count { IfOk result (λ count.
@@ -167,8 +172,7 @@ impl Sink for MemSink {
         ensures stuck { IfOk result (λ count. count ≡ 0 → length piece.now ≡ 0) }
         ensures kept { OnErr result (self.new.held ≡ self.old.held) }
         ensures calls { self.new.calls ≡ next_count self.old.calls }
-        ensures faults { self.new.faults
-            ≡ (if is_err result then next_count self.old.faults else self.old.faults) }
+        ensures faults { RisesWhere self.old.faults self.new.faults (IsFailedWrite result piece.now) }
         ensures same { (self.new.room ≡ self.old.room)
             × (self.new.piece ≡ self.old.piece) × (self.new.fails ≡ self.old.fails) }
     {

@@ -1,8 +1,8 @@
 // The adapters over std's readers and writers. What those do outside is not known, so they tell no bytes.
-ghost use Rattle.std.specs.Prelude.{◌≡◌, ◌<◌, length, None, IfOk, OnErr, is_err, if◌then◌else◌};
+ghost use Rattle.std.specs.Prelude.{◌≡◌, None, IsErr};
 ghost use Rattle.std.specs.Io.{ReadsAtMost, WritesAtMost};
 ghost use Rattle.std.specs.Io.KnownBytes.{ReadConsumes, WriteAppends};
-ghost use Rattle.adp_io.specs.Causes.{HasCause, Rose, next_count};
+ghost use Rattle.adp_io.specs.Causes.{IsFailedWrite, RisesWhere};
 
 use crate::stream::{Failed, Sink, Source};
 use std::io::{Read, Write};
@@ -35,13 +35,11 @@ impl<R: Read + Drop> Source for StdSource<R> {
 
     fn read(&mut self, into: &mut [u8]) -> Result<usize, Failed>
         ensures bound { ReadsAtMost result into.new }
-        ensures cause { HasCause (source_faults self.old) (source_faults self.new) result }
+        ensures faults { RisesWhere (source_faults self.old) (source_faults self.new) (IsErr result) }
 
         // It gives what the reader gives.
         ensures passed { ReadConsumes (R.remaining (source_reader self.old))
             (R.remaining (source_reader self.new)) result into.new }
-        ensures counted { source_faults self.new
-            ≡ (if is_err result then next_count (source_faults self.old) else source_faults self.old) }
     {
         match self.reader.read(into) {
             Ok(count) => Ok(count),
@@ -82,16 +80,11 @@ impl<W: Write + Drop> Sink for StdSink<W> {
 
     fn write(&mut self, piece: &[u8]) -> Result<usize, Failed>
         ensures bound { WritesAtMost result piece.now }
-        ensures stuck { IfOk result (λ count. count ≡ 0 → 0 < length piece.now
-            → Rose (sink_faults self.old) (sink_faults self.new)) }
-        ensures cause { HasCause (sink_faults self.old) (sink_faults self.new) result }
+        ensures faults { RisesWhere (sink_faults self.old) (sink_faults self.new) (IsFailedWrite result piece.now) }
 
         // The writer takes what it is given.
         ensures passed { WriteAppends (W.contents (sink_writer self.old))
             (W.contents (sink_writer self.new)) result piece.now }
-        ensures counted { OnErr result (sink_faults self.new ≡ next_count (sink_faults self.old)) }
-        ensures uncounted { IfOk result (λ count. (count ≡ 0 → length piece.now ≡ 0)
-            → sink_faults self.new ≡ sink_faults self.old) }
     {
         match self.writer.write(piece) {
             Ok(0) if !piece.is_empty() => {

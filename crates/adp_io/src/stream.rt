@@ -1,9 +1,9 @@
 // Where bytes come from and where they go, as a call above sees it.
-ghost use Rattle.std.specs.Prelude.{◌≡◌, ◌<◌, List, ℕ, Option, length, take, IfOk, OnErr};
+ghost use Rattle.std.specs.Prelude.{◌≡◌, ◌<◌, List, ℕ, Option, None, length, take, IfOk, OnErr, IsErr};
 ghost use Rattle.std.specs.Io.{ReadsAtMost, WritesAtMost};
 ghost use Rattle.std.specs.Io.KnownBytes.{Appends, Consumes, IsAtEnd, Keeps};
-ghost use Rattle.adp_io.specs.Causes.{HasCause, Rose};
-ghost use Rattle.adp_io.specs.Streams.{SameTold};
+ghost use Rattle.adp_io.specs.Causes.{IsFailedWrite, RisesWhere};
+ghost use Rattle.adp_io.specs.Streams.{AsksFor, SameTold};
 
 /// A read or a write failed.
 #[derive(Clone, Copy, Debug, PartialEq, Eq)]
@@ -14,8 +14,11 @@ pub trait Source {
     /// The bytes still to come, where the source tells them.
     ghost left: { Self → Option (List ℕ) };
 
-    /// How often a read has failed. The count never falls.
+    /// How often a read has failed, up to 2^64 - 1.
     ghost faults: { Self → ℕ };
+
+    /// The most bytes that it was asked for in one read, where the source tells it.
+    ghost asked: { Self → Option ℕ } = { λ _. None };
 
     /// Reads some bytes into the front of `into` and answers how many. `Ok(0)` on a nonempty slice is the
     /// end of the input. What stands in `into` behind the bytes that were read is left open.
@@ -26,7 +29,8 @@ pub trait Source {
             Consumes (left self.old) (left self.new) (take count into.new)) }
         ensures end { IfOk result (λ count. count ≡ 0 → 0 < length into.new → IsAtEnd (left self.new)) }
         ensures kept { OnErr result (Keeps (left self.old) (left self.new)) }
-        ensures cause { HasCause (faults self.old) (faults self.new) result };
+        ensures faults { RisesWhere (faults self.old) (faults self.new) (IsErr result) }
+        ensures asked { AsksFor (asked self.old) (asked self.new) (length into.new) };
 }
 
 /// What bytes are written to.
@@ -34,7 +38,7 @@ pub trait Sink {
     /// The bytes taken so far, where the sink tells them.
     ghost held: { Self → Option (List ℕ) };
 
-    /// How often a write has failed. The count never falls.
+    /// How often a write has failed, or has taken nothing of a nonempty piece, up to 2^64 - 1.
     ghost faults: { Self → ℕ };
 
     /// Takes some bytes from the front of `piece` and answers how many.
@@ -43,9 +47,6 @@ pub trait Sink {
         ensures told { SameTold (held self.old) (held self.new) }
         ensures taken { IfOk result (λ count.
             Appends (held self.old) (held self.new) (take count piece.now)) }
-        // A sink that takes nothing of a nonempty piece counts that as a fault.
-        ensures stuck { IfOk result (λ count. count ≡ 0 → 0 < length piece.now
-            → Rose (faults self.old) (faults self.new)) }
         ensures kept { OnErr result (Keeps (held self.old) (held self.new)) }
-        ensures cause { HasCause (faults self.old) (faults self.new) result };
+        ensures faults { RisesWhere (faults self.old) (faults self.new) (IsFailedWrite result piece.now) };
 }

@@ -1,7 +1,7 @@
 // A whole text to a sink, however few bytes the sink takes at a time.
-ghost use Rattle.std.specs.Prelude.{OnErr, OnOk};
+ghost use Rattle.std.specs.Prelude.{IsErr, OnErr, OnOk};
 ghost use Rattle.std.specs.Io.KnownBytes.{Appends};
-ghost use Rattle.adp_io.specs.Causes.{HasCause};
+ghost use Rattle.adp_io.specs.Causes.{RisesWhere};
 ghost use Rattle.adp_io.specs.Streams.{AppendsProperPrefix, SameTold};
 
 use crate::stream::{Failed, Sink};
@@ -16,7 +16,7 @@ pub fn write_whole<K: Sink>(sink: &mut K, bytes: &[u8]) -> Result<(), WriteFault
     ensures told { SameTold (K.held sink.old) (K.held sink.new) }
     ensures whole { OnOk result (Appends (K.held sink.old) (K.held sink.new) bytes.now) }
     ensures part { OnErr result (AppendsProperPrefix (K.held sink.old) (K.held sink.new) bytes.now) }
-    ensures cause { HasCause (K.faults sink.old) (K.faults sink.new) result }
+    ensures faults { RisesWhere (K.faults sink.old) (K.faults sink.new) (IsErr result) }
 {
     let mut written = 0;
     while written < bytes.len() {

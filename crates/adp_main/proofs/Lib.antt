@@ -1,4 +1,4 @@
 mod Told
-mod Completeness
+mod Endings
 mod TreeSteps
 mod Reports

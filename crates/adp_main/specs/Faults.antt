@@ -1,9 +1,9 @@
 -- The faults of a run: what each says on the error output, its status, and where it comes from.
-use Rattle.std.specs.Prelude.{ℕ, List, codes}
+use Rattle.std.specs.Prelude.{ℕ, List, codes, Result, Ok, Err}
 use Rattle.adp_io.specs.declared.job.JobFault.{JobFault}
 use Rattle.adp_io.specs.declared.job.JobFault.TheVariants as job_faults
-use Rattle.grammar_text.specs.declared.small_reader.SmallError.{SmallError}
-use Rattle.grammar_text.specs.declared.small_reader.SmallError.TheVariants as small_errors
+use Rattle.small_text.specs.declared.small_reader.SmallError.{SmallError}
+use Rattle.small_text.specs.declared.small_reader.SmallError.TheVariants as small_errors
 use Rattle.adp_main.specs.declared.fault.Fault.{Fault}
 use Rattle.adp_main.specs.declared.fault.Fault.TheVariants.{Usage, Read, Later, Memory, Write}
 use Rattle.adp_main.specs.declared.status.Status.{Status}
@@ -15,6 +15,11 @@ status_of Read = statuses.ReadFault
 status_of Later = statuses.Later
 status_of Memory = statuses.Memory
 status_of Write = statuses.WriteFault
+
+-- the status that a run ends with after this result
+abbrev pub status_after : Result (Unit {0}) Fault → Status
+status_after (Ok written) = statuses.Done
+status_after (Err fault) = status_of fault
 
 abbrev pub line_of : Fault → List ℕ
 line_of Usage = codes "fault usage\n"

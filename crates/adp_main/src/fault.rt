@@ -3,7 +3,7 @@ ghost use Rattle.std.specs.Prelude.{◌≡◌};
 use crate::status::Status;
 use crate::words;
 use adp_io::{JobFault, WriteFault};
-use grammar_text::SmallError;
+use small_text::SmallError;
 use std::alloc::AllocError;
 
 /// Why a run wrote no report, or a part of one.

@@ -1,19 +1,19 @@
 ghost use Rattle.std.specs.Prelude.{◌≡◌, ◌++◌, List, ℕ, IfOk, OnOk, IsErrOf};
 ghost use Rattle.std.specs.Fmt.{decimal};
-ghost use Rattle.adp_model.specs.Instance.{axiom_cell};
-ghost use Rattle.adp_model.specs.Tree.{Tree};
-ghost use Rattle.adp_model.specs.Scores.{score_of};
-ghost use Rattle.adp_model.specs.Preference.{IsPreferred};
-ghost use Rattle.adp_model.specs.Report.{IsAnswerText, IsReport, line, tree_lines};
-ghost use Rattle.adp_model.specs.Verdict.{IsSmallSpelling, IsSmallReport};
-ghost use Rattle.seq_reference.specs.Solves.{Solves};
+ghost use Rattle.small_model.specs.PosedProblem.{axiom_cell};
+ghost use Rattle.small_model.specs.Tree.{Tree};
+ghost use Rattle.small_model.specs.Scores.{score_of};
+ghost use Rattle.small_model.specs.Preference.{IsPreferred};
+ghost use Rattle.small_model.specs.Report.{IsAnswerText, IsReport, line, tree_lines};
+ghost use Rattle.small_model.specs.Verdict.{IsSmallSpelling, IsSmallReport};
+ghost use Rattle.small_solver.specs.Solves.{Solves};
 
 use crate::fault::Fault;
 use crate::tree_text::push_tree;
-use adp_model::laws::small::sizes_of_small_jobs;
-use adp_model::{Answer, Cell, Problem, push_decimal, push_signed, small_problem};
-use grammar_text::read_small;
-use seq_reference::{Solved, solve};
+use small_model::laws::small::sizes_of_small_jobs;
+use small_model::{Answer, Cell, Problem, push_decimal, push_signed, small_problem};
+use small_solver::{Solved, solve};
+use small_text::read_small;
 use std::alloc::{AllocError, Global};
 
 // The report of the small job that the bytes spell.

@@ -1,10 +1,9 @@
-ghost use Rattle.std.specs.Prelude.{◌≡◌, ◌↔◌, ◌⊎◌, ◌≤◌, map, length, IfSome, IsErrOf, OnOk, List, ℕ};
+ghost use Rattle.std.specs.Prelude.{◌≡◌, ◌≤◌, map, length, IsErrOf, List, ℕ};
 ghost use Rattle.std.specs.String.{string_bytes};
-ghost use Rattle.std.specs.Io.KnownBytes.{Appends, IsAtEnd};
-ghost use Rattle.adp_io.specs.Causes.{Rose};
-ghost use Rattle.adp_io.specs.Streams.{AppendsPrefix};
-ghost use Rattle.adp_model.specs.Command.{IsBestAlone};
-ghost use Rattle.adp_model.specs.Verdict.{IsVerdict, Later, Report, IsSmallSpelling, greatest_length};
+ghost use Rattle.small_model.specs.Command.{IsBestAlone};
+ghost use Rattle.small_model.specs.Verdict.{greatest_length};
+ghost use Rattle.adp_main.specs.Ending.{Ending, IsOfVerdict, OutputAfter, ShowsPart, ShowsVerdict, WritesText, fault_line};
+ghost use Rattle.adp_main.specs.Faults.{status_after};
 
 use crate::fault::Fault;
 use crate::report::small_report;
@@ -22,31 +21,11 @@ pub fn run<S: Source, K: Sink, E: Sink>(
     out: &mut K,
     err: &mut E,
 ) -> Status
-    // When each status comes.
-    ensures usage { (result ≡ Status.Usage) ↔ (IsBestAlone (map string_bytes words.now) → ⊥) }
-    ensures read_fault { result ≡ Status.ReadFault → Rose (S.faults input.old) (S.faults input.new) }
-    ensures write_fault { result ≡ Status.WriteFault → Rose (K.faults out.old) (K.faults out.new) }
-    ensures later { result ≡ Status.Later → IfSome (S.left input.old) (λ bytes. IsVerdict (map string_bytes words.now) bytes Later) }
-
-    // What is written, where the input and the output tell their bytes.
-    ensures report { result ≡ Status.Done → IfSome (S.left input.old) (λ bytes.
-        (report : List ℕ) × IsVerdict (map string_bytes words.now) bytes (Report report) × Appends (K.held out.old) (K.held out.new) report) }
-    ensures part { result ≡ Status.WriteFault → IfSome (S.left input.old) (λ bytes.
-        (report : List ℕ) × IsVerdict (map string_bytes words.now) bytes (Report report) × AppendsPrefix (K.held out.old) (K.held out.new) report) }
-    ensures read_to_end { result ≡ Status.Done → IsAtEnd (S.left input.new) }
-
-    // What stays as it was.
-    ensures nothing_read { result ≡ Status.Usage → input.new ≡ input.old }
-    ensures untouched_by_usage { result ≡ Status.Usage → out.new ≡ out.old }
-    ensures untouched_by_read_fault { result ≡ Status.ReadFault → out.new ≡ out.old }
-    ensures untouched_by_later { result ≡ Status.Later → out.new ≡ out.old }
-    ensures untouched_by_memory { result ≡ Status.Memory → out.new ≡ out.old }
-
-    // A small job's bytes give its report, unless memory runs out.
-    ensures complete { IsBestAlone (map string_bytes words.now) → IfSome (S.left input.old) (λ bytes.
-        length bytes ≤ greatest_length → IsSmallSpelling bytes
-        → (Rose (S.faults input.old) (S.faults input.new) → ⊥) → (Rose (K.faults out.old) (K.faults out.new) → ⊥)
-        → (result ≡ Status.Done) ⊎ (result ≡ Status.Memory)) }
+    ensures ending { Ending S.left S.faults K.held K.faults (map string_bytes words.now)
+        input.old input.new out.old out.new result }
+    ensures silent { result ≡ Status.Done → err.new ≡ err.old }
+    ensures fault_line { (result ≡ Status.Done → ⊥)
+        → WritesText (E.held err.old) (E.held err.new) (E.faults err.old) (E.faults err.new) (fault_line result) }
 {
     match answer(alloc, words, input, out) {
         Ok(()) => Status::Done,
@@ -58,31 +37,33 @@ pub fn run<S: Source, K: Sink, E: Sink>(
     }
 }
 
-// Reads the job and writes its report.
+// Reads the job and writes its reports.
 fn answer<S: Source, K: Sink>(
     alloc: Global,
     words: &[String],
     input: &mut S,
     out: &mut K,
 ) -> Result<(), Fault>
-    ensures usage { IsErrOf result Fault.Usage ↔ (IsBestAlone (map string_bytes words.now) → ⊥) }
-    ensures read { IsErrOf result Fault.Read → Rose (S.faults input.old) (S.faults input.new) }
-    ensures write { IsErrOf result Fault.Write → Rose (K.faults out.old) (K.faults out.new) }
-    ensures later { IsErrOf result Fault.Later → IfSome (S.left input.old) (λ bytes. IsVerdict (map string_bytes words.now) bytes Later) }
-    ensures report { OnOk result (IfSome (S.left input.old) (λ bytes.
-        (report : List ℕ) × IsVerdict (map string_bytes words.now) bytes (Report report) × Appends (K.held out.old) (K.held out.new) report)) }
-    ensures part { IsErrOf result Fault.Write → IfSome (S.left input.old) (λ bytes.
-        (report : List ℕ) × IsVerdict (map string_bytes words.now) bytes (Report report) × AppendsPrefix (K.held out.old) (K.held out.new) report) }
-    ensures read_to_end { OnOk result (IsAtEnd (S.left input.new)) }
-    ensures nothing_read { IsErrOf result Fault.Usage → input.new ≡ input.old }
-    ensures untouched_by_usage { IsErrOf result Fault.Usage → out.new ≡ out.old }
-    ensures untouched_by_read { IsErrOf result Fault.Read → out.new ≡ out.old }
-    ensures untouched_by_later { IsErrOf result Fault.Later → out.new ≡ out.old }
-    ensures untouched_by_memory { IsErrOf result Fault.Memory → out.new ≡ out.old }
+    ensures { Ending S.left S.faults K.held K.faults (map string_bytes words.now)
+        input.old input.new out.old out.new (status_after result) }
 {
     read_words(words)?;
     let bytes = read_job(alloc, input)?;
-    let report = small_report(alloc, &bytes)?;
+    write_reports(alloc, &bytes, out)
+}
+
+// Writes the reports of the job that the bytes spell.
+fn write_reports<K: Sink>(alloc: Global, bytes: &[u8], out: &mut K) -> Result<(), Fault>
+    requires { length bytes.now ≤ greatest_length }
+    ensures usage { IsErrOf result Fault.Usage → ⊥ }
+    ensures read { IsErrOf result Fault.Read → ⊥ }
+    ensures writing { OutputAfter K.held K.faults out.old out.new (status_after result) }
+    ensures verdict { (words : List (List ℕ)) → IsBestAlone words → IsOfVerdict (status_after result)
+        → ShowsVerdict words bytes.now (status_after result) (K.held out.old) (K.held out.new) }
+    ensures part { (words : List (List ℕ)) → IsBestAlone words → IsErrOf result Fault.Write
+        → ShowsPart words bytes.now (K.held out.old) (K.held out.new) }
+{
+    let report = small_report(alloc, bytes)?;
     write_whole(out, &report)?;
     Ok(())
 }

@@ -1,15 +1,15 @@
 ghost use Rattle.std.specs.Prelude.{◌≡◌, ◌↔◌, ◌<◌, ◌++◌, ◌∷◌, ℕ, length, replicate, slice_index, slice_index_or, IsTrue, IfOk, OnOk};
-ghost use Rattle.adp_model.specs.Instance.{Instance, IsSpan, axiom_cell};
-ghost use Rattle.adp_model.specs.Parts.{alternative_at, alternatives_of, sign_at};
-ghost use Rattle.adp_model.specs.Tree.{Tree};
-ghost use Rattle.adp_model.specs.TreeText.{quoted, tree_text};
-ghost use Rattle.adp_model.specs.Preference.{IsPreferred};
-ghost use Rattle.seq_reference.specs.Solves.{Solves};
+ghost use Rattle.small_model.specs.PosedProblem.{PosedProblem, IsSpan, axiom_cell};
+ghost use Rattle.small_model.specs.Parts.{alternative_at, alternatives_of, sign_at};
+ghost use Rattle.small_model.specs.Tree.{Tree};
+ghost use Rattle.small_model.specs.TreeText.{quoted, tree_text};
+ghost use Rattle.small_model.specs.Preference.{IsPreferred};
+ghost use Rattle.small_solver.specs.Solves.{Solves};
 ghost use Rattle.adp_main.specs.TreeWriting.{WritesNode};
 
-use adp_model::laws::bellman::bellman_small;
-use adp_model::{Alt, Answer, Cell, Choice, Problem, push_quoted};
-use seq_reference::Solved;
+use small_model::laws::bellman::bellman_small;
+use small_model::{Alt, Answer, Cell, Choice, Problem, push_quoted};
+use small_solver::Solved;
 use std::alloc::AllocError;
 
 // Appends the text of the word's preferred tree: each node's sign and letters from the root down, and then the

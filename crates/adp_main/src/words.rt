@@ -1,6 +1,6 @@
 ghost use Rattle.std.specs.Prelude.{◌≡◌, ◌↔◌, map, None, IsOk, IfOk};
 ghost use Rattle.std.specs.String.{string_bytes};
-ghost use Rattle.adp_model.specs.Command.{IsBestAlone};
+ghost use Rattle.small_model.specs.Command.{IsBestAlone};
 ghost use Rattle.adp_main.specs.declared.words.Mode.TheVariants.{Best};
 
 /// What the program is asked for.

@@ -1,7 +1,7 @@
 -- The first of finitely many trees of one cell.
 use Rattle.std.proofs.Common.{◌≡◌, ℕ, zero, suc, ◌<◌, ◌⊎◌, inl, inr, subst, arith}
 use Rattle.adp_model.specs.declared.cell.Cell.{Cell}
-use Rattle.adp_model.specs.Instance.{Instance}
+use Rattle.adp_model.specs.PosedProblem.{PosedProblem}
 use Rattle.adp_model.specs.Tree.{Tree}
 use Rattle.adp_model.specs.Derivation.{Derives}
 use Rattle.adp_model.specs.Preference.{IsBefore}
@@ -9,24 +9,24 @@ use Rattle.adp_model.proofs.Derived.{HasFewArguments}
 use Rattle.adp_model.proofs.Order.{Trichotomy, IsBefore_irrefl, IsBefore_trans, IsBefore_total}
 
 -- of the trees for which this holds, none is before the tree
-pub record IsFirst (p : Instance) (Holds : Tree → Type 0) (tree : Tree) : Type 0 where
+pub record IsFirst (p : PosedProblem) (Holds : Tree → Type 0) (tree : Tree) : Type 0 where
   pub holds : Holds tree
   pub first : (other : Tree) → Holds other → IsBefore p other tree → ⊥
 
 -- it holds for no tree, or for a first one
-abbrev pub HasFirst : Instance → (Tree → Type 0) → Type 0
+abbrev pub HasFirst : PosedProblem → (Tree → Type 0) → Type 0
 HasFirst p Holds = ((tree : Tree) → Holds tree → ⊥) ⊎ ((tree : Tree) × IsFirst p Holds tree)
 
-pub HasFirst-same : (p : Instance) (A B : Tree → Type 0) → ((tree : Tree) → A tree → B tree) → ((tree : Tree) → B tree → A tree) → HasFirst p A → HasFirst p B
+pub HasFirst-same : (p : PosedProblem) (A B : Tree → Type 0) → ((tree : Tree) → A tree → B tree) → ((tree : Tree) → B tree → A tree) → HasFirst p A → HasFirst p B
 HasFirst-same p A B to back (inl none) = inl (λ tree b. none tree (back tree b))
 HasFirst-same p A B to back (inr found) = inr (found.0, record { holds = to found.0 found.1.holds; first = λ other b. found.1.first other (back other b) })
 
 -- where it holds for one tree at most
-pub HasFirst-only : (p : Instance) (A : Tree → Type 0) → ((t u : Tree) → A t → A u → t ≡ u) → ((tree : Tree) × A tree) ⊎ ((tree : Tree) → A tree → ⊥) → HasFirst p A
+pub HasFirst-only : (p : PosedProblem) (A : Tree → Type 0) → ((t u : Tree) → A t → A u → t ≡ u) → ((tree : Tree) × A tree) ⊎ ((tree : Tree) → A tree → ⊥) → HasFirst p A
 HasFirst-only p A same (inl found) = inr (found.0, record { holds = found.1; first = λ other a b. IsBefore_irrefl p found.0 (subst (λ x. IsBefore p x found.0) (same other found.0 a found.1) b) })
 HasFirst-only p A same (inr none) = inl none
 
-module _ (p : Instance) (few : HasFewArguments p.grammar) (cell : Cell) where
+module _ (p : PosedProblem) (few : HasFewArguments p.grammar) (cell : Cell) where
   -- the earlier of two firsts is the first of both
   first_joined : (A B : Tree → Type 0) (t u : Tree) → IsFirst p A t → IsFirst p B u → IsBefore p t u → IsFirst p (λ tree. A tree ⊎ B tree) t
   first_joined A B t u a b before = record { holds = inl a.holds; first = none }

@@ -7,7 +7,7 @@ use Rattle.adp_model.specs.declared.grammar.Arg.TheVariants.{Rule, Literal, Lett
 use Rattle.adp_model.specs.declared.grammar.Goal.{Goal}
 use Rattle.adp_model.specs.declared.grammar.Goal.TheVariants.{Least, Greatest}
 use Rattle.adp_model.specs.declared.cell.Cell.{Cell}
-use Rattle.adp_model.specs.Instance.{Instance}
+use Rattle.adp_model.specs.PosedProblem.{PosedProblem}
 use Rattle.adp_model.specs.Parts.{algebra_of, arguments_of}
 use Rattle.adp_model.specs.Tree.{Tree, Leaf, Node, Trees, Nil, Cons, end_of, ends_of}
 use Rattle.adp_model.specs.Derivation.{Derives, DeriveArguments}
@@ -19,7 +19,7 @@ use Rattle.std.specs.Prelude.{IsTrue}
 use Rattle.adp_model.specs.declared.cell.Answer.{Answer}
 use Rattle.adp_model.specs.declared.cell.Answer.TheVariants.{NoCandidate, Best}
 use Rattle.adp_model.specs.Answers.{choice_of, IsAnswer}
-use Rattle.adp_model.proofs.Derived.{HasFewArguments, ends-derived_unique, length-cuts_of, leaf_told}
+use Rattle.adp_model.proofs.Derived.{HasFewArguments, ends-derived_unique, length-cuts_of, leaf_unique}
 
 -- ---- one comparison, and a second where the first finds no difference
 
@@ -91,13 +91,13 @@ LexicographicallyLess_total (x ∷ xs) (y ∷ ys) e =
 -- ---- trees
 
 -- the scores of trees are compared by a strict total order
-pub record AreOrdered (better : ℤ → ℤ → Type 0) (score : Tree → ℤ) : Type 0 where
-  pub irreflexive : (a : ℤ) → better a a → ⊥
-  pub transitive : (a b c : ℤ) → better a b → better b c → better a c
+pub record AreOrdered {S : Type 0} (better : S → S → Type 0) (score : Tree → S) : Type 0 where
+  pub irreflexive : (a : S) → better a a → ⊥
+  pub transitive : (a b c : S) → better a b → better b c → better a c
   pub total : (t u : Tree) → Trichotomy (score t ≡ score u) (better (score t) (score u)) (better (score u) (score t))
 
 mutual
-  pub Precedes_irrefl : (better : ℤ → ℤ → Type 0) (score : Tree → ℤ) → AreOrdered better score → (t : Tree) → Precedes better score t t → ⊥
+  pub Precedes_irrefl : {S : Type 0} (better : S → S → Type 0) (score : Tree → S) → AreOrdered better score → (t : Tree) → Precedes better score t t → ⊥
   Precedes_irrefl better score ordered (Leaf from to) h = h
   Precedes_irrefl better score ordered (Node rule alternative from to children) h =
       Then_none
@@ -107,13 +107,13 @@ mutual
       (Then_none (LexicographicallyLess_irrefl (cuts_of to children)) (FirstDifferencePrecedes_irrefl better score ordered children)))
       h
 
-  pub FirstDifferencePrecedes_irrefl : (better : ℤ → ℤ → Type 0) (score : Tree → ℤ) → AreOrdered better score → (ts : Trees) → FirstDifferencePrecedes better score ts ts → ⊥
+  pub FirstDifferencePrecedes_irrefl : {S : Type 0} (better : S → S → Type 0) (score : Tree → S) → AreOrdered better score → (ts : Trees) → FirstDifferencePrecedes better score ts ts → ⊥
   FirstDifferencePrecedes_irrefl better score ordered Nil h = h
   FirstDifferencePrecedes_irrefl better score ordered (Cons t ts) h =
       Then_none (Precedes_irrefl better score ordered t) (FirstDifferencePrecedes_irrefl better score ordered ts) h
 
 mutual
-  pub Precedes_trans : (better : ℤ → ℤ → Type 0) (score : Tree → ℤ) → AreOrdered better score → (t u v : Tree) → Precedes better score t u → Precedes better score u v → Precedes better score t v
+  pub Precedes_trans : {S : Type 0} (better : S → S → Type 0) (score : Tree → S) → AreOrdered better score → (t u v : Tree) → Precedes better score t u → Precedes better score u v → Precedes better score t v
   Precedes_trans better score ordered (Leaf from to) u v h k = absurd h
   Precedes_trans better score ordered (Node rule alternative from to children) (Leaf from' to') v h k = absurd h
   Precedes_trans better score ordered (Node rule alternative from to children) (Node rule' alternative' from' to' children') (Leaf from'' to'') h k = absurd k
@@ -143,7 +143,7 @@ mutual
       h
       k
 
-  pub FirstDifferencePrecedes_trans : (better : ℤ → ℤ → Type 0) (score : Tree → ℤ) → AreOrdered better score → (ts us vs : Trees) → FirstDifferencePrecedes better score ts us → FirstDifferencePrecedes better score us vs → FirstDifferencePrecedes better score ts vs
+  pub FirstDifferencePrecedes_trans : {S : Type 0} (better : S → S → Type 0) (score : Tree → S) → AreOrdered better score → (ts us vs : Trees) → FirstDifferencePrecedes better score ts us → FirstDifferencePrecedes better score us vs → FirstDifferencePrecedes better score ts vs
   FirstDifferencePrecedes_trans better score ordered Nil us vs h k = absurd h
   FirstDifferencePrecedes_trans better score ordered (Cons t ts) Nil vs h k = absurd h
   FirstDifferencePrecedes_trans better score ordered (Cons t ts) (Cons u us) Nil h k = absurd k
@@ -162,10 +162,10 @@ children_joined : {Less Greater : Type 0} (t u : Tree) (ts us : Trees) → t ≡
 children_joined t u ts us same (inl others) = inl cc
 children_joined t u ts us same (inr differ) = inr differ
 
-abbrev pub ChildrenTotal : (ℤ → ℤ → Type 0) → (Tree → ℤ) → Trees → Trees → Type 0
+abbrev pub ChildrenTotal : {S : Type 0} → (S → S → Type 0) → (Tree → S) → Trees → Trees → Type 0
 ChildrenTotal better score ts us = Trichotomy (ts ≡ us) (FirstDifferencePrecedes better score ts us) (FirstDifferencePrecedes better score us ts)
 
-token_first : (better : ℤ → ℤ → Type 0) (score : Tree → ℤ) (t u : Tree) (ts us : Trees) → t ≡ u → ChildrenTotal better score ts us → ChildrenTotal better score (Cons t ts) (Cons u us)
+token_first : {S : Type 0} (better : S → S → Type 0) (score : Tree → S) (t u : Tree) (ts us : Trees) → t ≡ u → ChildrenTotal better score ts us → ChildrenTotal better score (Cons t ts) (Cons u us)
 token_first better score t u ts us same others = second_decides same (sym same) (children_joined t u ts us same others)
 
 node_joined : {Less Greater : Type 0} (rule alternative from to : ℕ) (children : Trees) (rule' alternative' from' to' : ℕ) (children' : Trees) → rule ≡ rule' → alternative ≡ alternative' → from ≡ from' → to ≡ to' → Trichotomy (children ≡ children') Less Greater → Trichotomy (Node rule alternative from to children ≡ Node rule' alternative' from' to' children') Less Greater
@@ -173,7 +173,7 @@ node_joined rule alternative from to children rule' alternative' from' to' child
 node_joined rule alternative from to children rule' alternative' from' to' children' a b c d (inr differ) = inr differ
 
 mutual
-  pub Precedes_total : (better : ℤ → ℤ → Type 0) (score : Tree → ℤ) → AreOrdered better score → (p : Instance) → HasFewArguments p.grammar → (cell : Cell) (t u : Tree) → Derives p cell t → Derives p cell u → Trichotomy (t ≡ u) (Precedes better score t u) (Precedes better score u t)
+  pub Precedes_total : {S : Type 0} (better : S → S → Type 0) (score : Tree → S) → AreOrdered better score → (p : PosedProblem) → HasFewArguments p.grammar → (cell : Cell) (t u : Tree) → Derives p cell t → Derives p cell u → Trichotomy (t ≡ u) (Precedes better score t u) (Precedes better score u t)
   Precedes_total better score ordered p few cell (Leaf from to) u derived derived' = absurd derived
   Precedes_total better score ordered p few cell (Node rule alternative from to children) (Leaf from' to') derived derived' = absurd derived'
   Precedes_total better score ordered p few cell (Node rule alternative from to children) (Node rule' alternative' from' to' children') derived derived' =
@@ -196,7 +196,7 @@ mutual
       (nat_trichotomy alternative alternative'))
       (ordered.total (Node rule alternative from to children) (Node rule' alternative' from' to' children'))
 
-  pub FirstDifferencePrecedes_total : (better : ℤ → ℤ → Type 0) (score : Tree → ℤ) → AreOrdered better score → (p : Instance) → HasFewArguments p.grammar → (arguments : List Arg) (from to : ℕ) (ts us : Trees) → DeriveArguments p arguments from to ts → DeriveArguments p arguments from to us → ends_of ts ≡ ends_of us → ChildrenTotal better score ts us
+  pub FirstDifferencePrecedes_total : {S : Type 0} (better : S → S → Type 0) (score : Tree → S) → AreOrdered better score → (p : PosedProblem) → HasFewArguments p.grammar → (arguments : List Arg) (from to : ℕ) (ts us : Trees) → DeriveArguments p arguments from to ts → DeriveArguments p arguments from to us → ends_of ts ≡ ends_of us → ChildrenTotal better score ts us
   FirstDifferencePrecedes_total better score ordered p few [] from to Nil Nil derived derived' same = inl refl
   FirstDifferencePrecedes_total better score ordered p few [] from to Nil (Cons u us) derived derived' same = absurd derived'
   FirstDifferencePrecedes_total better score ordered p few [] from to (Cons t ts) us derived derived' same = absurd derived
@@ -213,17 +213,17 @@ mutual
   FirstDifferencePrecedes_total better score ordered p few (Literal text ∷ arguments) from to (Cons t ts) (Cons u us) derived derived' same =
       let end : end_of t ≡ end_of u = cc in
       let others : ends_of ts ≡ ends_of us = cc in
-      token_first better score t u ts us (leaf_told p (Literal text) from t u derived.0 derived'.0 end)
+      token_first better score t u ts us (leaf_unique p (Literal text) from t u derived.0 derived'.0 end)
       (FirstDifferencePrecedes_total better score ordered p few arguments (end_of t) to ts us derived.1 (subst (λ x. DeriveArguments p arguments x to us) (sym end) derived'.1) others)
   FirstDifferencePrecedes_total better score ordered p few (Letter class ∷ arguments) from to (Cons t ts) (Cons u us) derived derived' same =
       let end : end_of t ≡ end_of u = cc in
       let others : ends_of ts ≡ ends_of us = cc in
-      token_first better score t u ts us (leaf_told p (Letter class) from t u derived.0 derived'.0 end)
+      token_first better score t u ts us (leaf_unique p (Letter class) from t u derived.0 derived'.0 end)
       (FirstDifferencePrecedes_total better score ordered p few arguments (end_of t) to ts us derived.1 (subst (λ x. DeriveArguments p arguments x to us) (sym end) derived'.1) others)
   FirstDifferencePrecedes_total better score ordered p few (Run class low high ∷ arguments) from to (Cons t ts) (Cons u us) derived derived' same =
       let end : end_of t ≡ end_of u = cc in
       let others : ends_of ts ≡ ends_of us = cc in
-      token_first better score t u ts us (leaf_told p (Run class low high) from t u derived.0 derived'.0 end)
+      token_first better score t u ts us (leaf_unique p (Run class low high) from t u derived.0 derived'.0 end)
       (FirstDifferencePrecedes_total better score ordered p few arguments (end_of t) to ts us derived.1 (subst (λ x. DeriveArguments p arguments x to us) (sym end) derived'.1) others)
 
 -- ---- the order of preference, and the order without scores
@@ -245,7 +245,7 @@ IsBetter_total Greatest a b = turned (int_trichotomy b a)
     turned (inr differ) = inr differ
 
 -- scores are ordered by the goal
-pub AreOrdered-scores : (p : Instance) → AreOrdered (IsBetter (algebra_of p).goal) (score_of p)
+pub AreOrdered-scores : (p : PosedProblem) → AreOrdered (IsBetter (algebra_of p).goal) (score_of p)
 AreOrdered-scores p = record {
   irreflexive = IsBetter_irrefl (algebra_of p).goal;
   transitive = IsBetter_trans (algebra_of p).goal;
@@ -257,20 +257,20 @@ pub AreOrdered-never : AreOrdered (λ _ _. ⊥) (λ _. pos 0)
 AreOrdered-never = record { irreflexive = λ a h. h; transitive = λ a b c h k. h; total = λ t u. inl refl }
 
 -- no tree is before itself
-pub IsBefore_irrefl : (p : Instance) (t : Tree) → IsBefore p t t → ⊥
+pub IsBefore_irrefl : (p : PosedProblem) (t : Tree) → IsBefore p t t → ⊥
 IsBefore_irrefl p t h = Precedes_irrefl (IsBetter (algebra_of p).goal) (score_of p) (AreOrdered-scores p) t h
 
-pub IsBefore_trans : (p : Instance) (t u v : Tree) → IsBefore p t u → IsBefore p u v → IsBefore p t v
+pub IsBefore_trans : (p : PosedProblem) (t u v : Tree) → IsBefore p t u → IsBefore p u v → IsBefore p t v
 IsBefore_trans p t u v h k = Precedes_trans (IsBetter (algebra_of p).goal) (score_of p) (AreOrdered-scores p) t u v h k
 
 -- of two trees of one cell one is before the other
-pub IsBefore_total : (p : Instance) → HasFewArguments p.grammar → (cell : Cell) (t u : Tree) → Derives p cell t → Derives p cell u → Trichotomy (t ≡ u) (IsBefore p t u) (IsBefore p u t)
+pub IsBefore_total : (p : PosedProblem) → HasFewArguments p.grammar → (cell : Cell) (t u : Tree) → Derives p cell t → Derives p cell u → Trichotomy (t ≡ u) (IsBefore p t u) (IsBefore p u t)
 IsBefore_total p few cell t u derived derived' = Precedes_total (IsBetter (algebra_of p).goal) (score_of p) (AreOrdered-scores p) p few cell t u derived derived'
 
 -- ---- preferred trees and answers
 
 -- a cell has at most one preferred tree
-pub IsPreferred_unique : (p : Instance) → HasFewArguments p.grammar → (cell : Cell) (t u : Tree) → IsPreferred p cell t → IsPreferred p cell u → t ≡ u
+pub IsPreferred_unique : (p : PosedProblem) → HasFewArguments p.grammar → (cell : Cell) (t u : Tree) → IsPreferred p cell t → IsPreferred p cell u → t ≡ u
 IsPreferred_unique p few cell t u first other = told (IsBefore_total p few cell t u first.derived other.derived)
   where
     told : Trichotomy (t ≡ u) (IsBefore p t u) (IsBefore p u t) → t ≡ u
@@ -279,7 +279,7 @@ IsPreferred_unique p few cell t u first other = told (IsBefore_total p few cell 
     told (inr (inr before)) = absurd (first.first u other.derived before)
 
 -- a cell has at most one answer
-pub IsAnswer_unique : (p : Instance) → HasFewArguments p.grammar → (cell : Cell) (a b : Answer) → IsAnswer p cell a → IsAnswer p cell b → a ≡ b
+pub IsAnswer_unique : (p : PosedProblem) → HasFewArguments p.grammar → (cell : Cell) (a b : Answer) → IsAnswer p cell a → IsAnswer p cell b → a ≡ b
 IsAnswer_unique p few cell NoCandidate NoCandidate h k = refl
 IsAnswer_unique p few cell NoCandidate (Best score choice) h k = absurd (h k.0 k.1.derived)
 IsAnswer_unique p few cell (Best score choice) NoCandidate h k = absurd (k h.0 h.1.derived)
@@ -292,13 +292,13 @@ IsAnswer_unique p few cell (Best score choice) (Best score' choice') h k =
 -- ---- scores
 
 -- a better score comes first
-pub IsBefore-better : (p : Instance) (cell : Cell) (t u : Tree) → Derives p cell t → Derives p cell u → IsBetter (algebra_of p).goal (score_of p t) (score_of p u) → IsBefore p t u
+pub IsBefore-better : (p : PosedProblem) (cell : Cell) (t u : Tree) → Derives p cell t → Derives p cell u → IsBetter (algebra_of p).goal (score_of p t) (score_of p u) → IsBefore p t u
 IsBefore-better p cell (Leaf from to) u derived derived' better = absurd derived
 IsBefore-better p cell (Node rule alternative from to children) (Leaf from' to') derived derived' better = absurd derived'
 IsBefore-better p cell (Node rule alternative from to children) (Node rule' alternative' from' to' children') derived derived' better = inl better
 
 -- what comes first has no worse score
-pub IsBefore_not_worse : (p : Instance) (t u : Tree) → IsBefore p t u → IsBetter (algebra_of p).goal (score_of p u) (score_of p t) → ⊥
+pub IsBefore_not_worse : (p : PosedProblem) (t u : Tree) → IsBefore p t u → IsBetter (algebra_of p).goal (score_of p u) (score_of p t) → ⊥
 IsBefore_not_worse p (Leaf from to) u before better = absurd before
 IsBefore_not_worse p (Node rule alternative from to children) (Leaf from' to') before better = absurd before
 IsBefore_not_worse p (Node rule alternative from to children) (Node rule' alternative' from' to' children') (inl less) better =
@@ -311,12 +311,12 @@ IsBefore_not_worse p (Node rule alternative from to children) (Node rule' altern
     IsBetter_irrefl (algebra_of p).goal (score_of p t) (subst (λ x. IsBetter (algebra_of p).goal x (score_of p t)) (sym same) better)
 
 -- no derived tree has a better score than the preferred tree
-pub IsPreferred-best : (p : Instance) (cell : Cell) (t u : Tree) → IsPreferred p cell t → Derives p cell u → IsBetter (algebra_of p).goal (score_of p u) (score_of p t) → ⊥
+pub IsPreferred-best : (p : PosedProblem) (cell : Cell) (t u : Tree) → IsPreferred p cell t → Derives p cell u → IsBetter (algebra_of p).goal (score_of p u) (score_of p t) → ⊥
 IsPreferred-best p cell t u preferred derived better = preferred.first u derived (IsBefore-better p cell u t derived preferred.derived better)
 
 -- ---- the same of well-formed grammars
 
-pub IsBefore_total-formed : (p : Instance) (cell : Cell) (t u : Tree) → IsTrue (is_well_formed p.grammar) → Derives p cell t → Derives p cell u → Trichotomy (t ≡ u) (IsBefore p t u) (IsBefore p u t)
+pub IsBefore_total-formed : (p : PosedProblem) (cell : Cell) (t u : Tree) → IsTrue (is_well_formed p.grammar) → Derives p cell t → Derives p cell u → Trichotomy (t ≡ u) (IsBefore p t u) (IsBefore p u t)
 IsBefore_total-formed p cell t u formed derived derived' = IsBefore_total p (HasFewArguments-formed p.grammar formed) cell t u derived derived'
 
 pub IsEarlierInGrammar_irrefl : (t : Tree) → IsEarlierInGrammar t t → ⊥
@@ -325,14 +325,14 @@ IsEarlierInGrammar_irrefl t h = Precedes_irrefl (λ _ _. ⊥) (λ _. pos 0) AreO
 pub IsEarlierInGrammar_trans : (t u v : Tree) → IsEarlierInGrammar t u → IsEarlierInGrammar u v → IsEarlierInGrammar t v
 IsEarlierInGrammar_trans t u v h k = Precedes_trans (λ _ _. ⊥) (λ _. pos 0) AreOrdered-never t u v h k
 
-pub IsEarlierInGrammar_total-formed : (p : Instance) (cell : Cell) (t u : Tree) → IsTrue (is_well_formed p.grammar) → Derives p cell t → Derives p cell u → Trichotomy (t ≡ u) (IsEarlierInGrammar t u) (IsEarlierInGrammar u t)
+pub IsEarlierInGrammar_total-formed : (p : PosedProblem) (cell : Cell) (t u : Tree) → IsTrue (is_well_formed p.grammar) → Derives p cell t → Derives p cell u → Trichotomy (t ≡ u) (IsEarlierInGrammar t u) (IsEarlierInGrammar u t)
 IsEarlierInGrammar_total-formed p cell t u formed derived derived' =
     Precedes_total (λ _ _. ⊥) (λ _. pos 0) AreOrdered-never p (HasFewArguments-formed p.grammar formed) cell t u derived derived'
 
-pub IsPreferred_unique-formed : (p : Instance) (cell : Cell) (t u : Tree) → IsTrue (is_well_formed p.grammar) → IsPreferred p cell t → IsPreferred p cell u → t ≡ u
+pub IsPreferred_unique-formed : (p : PosedProblem) (cell : Cell) (t u : Tree) → IsTrue (is_well_formed p.grammar) → IsPreferred p cell t → IsPreferred p cell u → t ≡ u
 IsPreferred_unique-formed p cell t u formed first other = IsPreferred_unique p (HasFewArguments-formed p.grammar formed) cell t u first other
 
-pub IsAnswer_unique-formed : (p : Instance) (cell : Cell) (a b : Answer) → IsTrue (is_well_formed p.grammar) → IsAnswer p cell a → IsAnswer p cell b → a ≡ b
+pub IsAnswer_unique-formed : (p : PosedProblem) (cell : Cell) (a b : Answer) → IsTrue (is_well_formed p.grammar) → IsAnswer p cell a → IsAnswer p cell b → a ≡ b
 IsAnswer_unique-formed p cell a b formed h k = IsAnswer_unique p (HasFewArguments-formed p.grammar formed) cell a b h k
 
 pub ruleset order_facts = (IsBefore_irrefl, IsBefore_trans, IsEarlierInGrammar_irrefl, IsEarlierInGrammar_trans, IsPreferred_unique-formed, IsAnswer_unique-formed, IsBefore-better, IsBefore_not_worse, IsPreferred-best)

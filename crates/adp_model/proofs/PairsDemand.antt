@@ -4,22 +4,23 @@ use Rattle.std.specs.List.{Contains, AllAdjacentBelow}
 use Rattle.adp_model.specs.declared.grammar.Arg.{Arg}
 use Rattle.adp_model.specs.declared.grammar.Arg.TheVariants.{Rule, Literal, Letter}
 use Rattle.adp_model.specs.declared.cell.Cell.{Cell}
-use Rattle.adp_model.specs.Instance.{Instance, IsSpan}
+use Rattle.adp_model.specs.PosedProblem.{PosedProblem, IsSpan}
 use Rattle.adp_model.specs.Tokens.{letters_between}
 use Rattle.adp_model.specs.Lengths.{HasLength, ByAlternative, NoArguments, FirstToken}
 use Rattle.adp_model.specs.Sizes.{IsLeastSize, IsUnbounded, AtOnce, IsWithinSizes}
 use Rattle.adp_model.specs.Splits.{Placed, place, placed, IsViable}
-use Rattle.adp_model.specs.Demand.{IsDemandedChild, IsDemanded, Axiom, Child, CellPrecedes, AreDemanded}
+use Rattle.adp_model.specs.Demand.{IsDemandedChild, IsDemanded, Axiom, Child, AreDemanded}
+use Rattle.adp_model.specs.Cells.{CellPrecedes}
 use Rattle.adp_model.specs.Examples.{pairs, pairs_grammar, cell_at, pq_cells}
-use Rattle.adp_model.proofs.PairsTrees.{length-letters_between}
+use Rattle.adp_model.proofs.Sized.{length-letters_between}
 
-abbrev pq : Instance
+abbrev pq : PosedProblem
 pq = pairs (codes "pq")
 
 -- ---- sizes
 
 nothing : HasLength pairs_grammar 0 0
-nothing = ByAlternative 0 0 0 (lit< tt) (FirstToken (Literal []) 0 [] 0 refl NoArguments)
+nothing = ByAlternative 0 0 0 (lit< tt) (FirstToken (Literal []) 0 [] 0 refl NoArguments) tt
 
 -- every length is within the rule's sizes
 pub any_length : (len : ℕ) → IsWithinSizes pairs_grammar 0 len
@@ -41,13 +42,14 @@ behind_demanded =
     Child (cell_at 0 2) (cell_at 1 2) whole_demanded (
       1,
       1 ∷ 2 ∷ 2 ∷ [],
-      record { in_range = lit< tt; three = refl; last = (refl, (refl, (refl, tt))); fits = ((span 0 1 (lit≤ tt) (lit≤ tt), (refl, (refl, tt))), ((span 1 2 (lit≤ tt) (lit≤ tt), any_length 1), tt)) },
+      record { in_range = lit< tt; allowed = tt; three = refl; last = (refl, (refl, (refl, tt))); fits = ((span 0 1 (lit≤ tt) (lit≤ tt), (refl, (refl, tt))), ((span 1 2 (lit≤ tt) (lit≤ tt), any_length 1), tt)) },
       (1, lit< tt, refl),
     )
 
 abbrev pair_split : IsViable pq (cell_at 0 2) 2 (1 ∷ 1 ∷ 2 ∷ [])
 pair_split = record {
   in_range = lit< tt;
+  allowed = tt;
   three = refl;
   last = (refl, tt);
   fits = (

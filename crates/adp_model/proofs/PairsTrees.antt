@@ -1,9 +1,9 @@
 -- The trees that the pairs grammar derives on `pq`, and which of them is preferred.
-use Rattle.std.proofs.Common.{◌≡◌, ℕ, zero, suc, ◌+◌, ◌-◌, ◌≤◌, ◌⊎◌, inl, inr, List, [], length, drop, codes, refl, ap, subst, ◌∙◌, arith, length-take, length-drop, add-zero, get_or}
+use Rattle.std.proofs.Common.{◌≡◌, ℕ, zero, suc, ◌+◌, ◌≤◌, ◌⊎◌, inl, inr, List, [], length, codes, refl, ap, subst, ◌∙◌, arith, add-zero, get_or}
 use Rattle.std.proofs.lemmas.Int.{ints}
 use Rattle.adp_model.specs.declared.grammar.Arg.{Arg}
 use Rattle.adp_model.specs.declared.grammar.Arg.TheVariants.{Literal, Letter}
-use Rattle.adp_model.specs.Instance.{Instance, IsSpan, axiom_cell}
+use Rattle.adp_model.specs.PosedProblem.{PosedProblem, axiom_cell}
 use Rattle.adp_model.specs.Tokens.{letters_between, Matches}
 use Rattle.adp_model.specs.Tree.{Tree, Leaf, Node, Trees, Nil, Cons, end_of}
 use Rattle.adp_model.specs.Derivation.{Derives, IsMatchingLeaf, IsCandidate}
@@ -11,19 +11,16 @@ use Rattle.adp_model.specs.Preference.{IsBefore, IsPreferred}
 use Rattle.adp_model.specs.Examples.{pairs, nil_at, skip_at, pair_at, pq_tree}
 use Rattle.adp_model.proofs.Derived.{IsSpan-derived}
 use Rattle.adp_model.proofs.Order.{IsBefore_irrefl}
-
--- letters of a span are as many as the span is long
-pub length-letters_between : (word : List ℕ) (from to : ℕ) → IsSpan word from to → from + length (letters_between word from to) ≡ to
-length-letters_between word from to span = omega (arith, length-take (to - from) (drop from word), length-drop from word)
+use Rattle.adp_model.proofs.Sized.{length-letters_between}
 
 -- a leaf of a token that matches one letter only
-pub record IsOneLetter (p : Instance) (token : Arg) (start : ℕ) (t : Tree) : Type 0 where
+pub record IsOneLetter (p : PosedProblem) (token : Arg) (start : ℕ) (t : Tree) : Type 0 where
   pub leaf : t ≡ Leaf start (suc start)
   pub matched : Matches p.grammar token (letters_between p.word start (suc start))
 
-pub one_letter : (p : Instance) (token : Arg) (start : ℕ) (t : Tree) → ((letters : List ℕ) → Matches p.grammar token letters → length letters ≡ 1) → IsMatchingLeaf p token start t → IsOneLetter p token start t
+pub one_letter : (p : PosedProblem) (token : Arg) (start : ℕ) (t : Tree) → ((letters : List ℕ) → Matches p.grammar token letters → length letters ≡ 1) → IsMatchingLeaf p token start t → IsOneLetter p token start t
 one_letter p token start (Leaf from to) one h =
-    let ends : to ≡ suc start = omega (arith, length-letters_between p.word from to h.1, one (letters_between p.word from to) h.2, h.0) in
+    let ends : to ≡ suc start = omega (arith, length-letters_between p.word from to h.1, h.1.in_order, one (letters_between p.word from to) h.2, h.0) in
     record {
       leaf = cc (h.0, ends);
       matched = subst (λ x. Matches p.grammar token (letters_between p.word start x)) ends (subst (λ x. Matches p.grammar token (letters_between p.word x to)) h.0 h.2);

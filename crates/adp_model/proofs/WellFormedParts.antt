@@ -1,12 +1,16 @@
 -- What a well-formed grammar keeps of its parts.
-use Rattle.std.proofs.Common.{◌≡◌, ℕ, zero, suc, ◌≤◌, Bool, true, false, ◌&&◌, nat_le, nat_lt, ◌==◌, IsTrue, List, [], ◌∷◌, length, slice_index_or, refl, arith, leb-true, eqb-true}
-use Rattle.std.specs.List.{list_all, zip}
+use Rattle.std.proofs.Common.{◌≡◌, ℕ, zero, suc, ◌<◌, ◌≤◌, Bool, true, false, ◌&&◌, nat_le, nat_lt, ◌==◌, IsTrue, Some, List, [], ◌∷◌, length, slice_index_or, refl, subst, arith, ltb-true, leb-true, eqb-true}
+use Rattle.std.specs.List.{list_all, zip, Contains}
+use Rattle.adp_model.specs.declared.grammar.Kind.{Kind}
+use Rattle.adp_model.specs.declared.grammar.Kind.TheVariants.{Score, Token}
+use Rattle.adp_model.specs.declared.grammar.Arg.{Arg}
+use Rattle.adp_model.specs.declared.grammar.Arg.TheVariants.{Rule, Run}
 use Rattle.adp_model.specs.declared.grammar.Sign.{Sign}
 use Rattle.adp_model.specs.declared.grammar.Alt.{Alt}
 use Rattle.adp_model.specs.declared.grammar.Rule as rules
 use Rattle.adp_model.specs.declared.grammar.Grammar.{Grammar}
-use Rattle.adp_model.specs.Parts.{sign_at, alternatives_of}
-use Rattle.adp_model.specs.WellFormed.{is_name, is_class, is_sign, is_algebra, is_argument, is_alternative, is_rule, counts_fit, names_differ, parts_fit, is_well_formed}
+use Rattle.adp_model.specs.Parts.{sign_at, alternatives_of, alternative_at, arguments_of}
+use Rattle.adp_model.specs.WellFormed.{is_name, is_class, is_sign, is_algebra, is_high_bound, is_argument, is_alternative, is_rule, counts_fit, names_differ, parts_fit, is_well_formed}
 use Rattle.adp_model.proofs.Derived.{HasFewArguments}
 
 pub and_first : (a b : Bool) → (a && b) ≡ true → a ≡ true
@@ -60,3 +64,97 @@ arguments-formed grammar h alternative k =
 pub HasFewArguments-formed : (grammar : Grammar) → IsTrue (is_well_formed grammar) → HasFewArguments grammar
 HasFewArguments-formed grammar h rule alternative =
     kept_at (is_alternative grammar) (λ a. length a.args ≤ 4) (arguments-formed grammar h) (alternatives_of grammar rule) alternative (record { sign = 0; args = [] }) (alternatives-formed grammar h rule) (omega arith)
+
+-- ---- numbers
+
+pub axiom-formed : (grammar : Grammar) → IsTrue (is_well_formed grammar) → grammar.axiom < length grammar.rules
+axiom-formed grammar h =
+    let counts = and_first (counts_fit grammar) (names_differ grammar) (and_first (counts_fit grammar && names_differ grammar) (parts_fit grammar) h) in
+    ltb-true _ _ (and_second (nat_le (length grammar.classes) 64 && nat_le (length grammar.signs) 256 && nat_le 1 (length grammar.algebras) && nat_le (length grammar.algebras) 16 && nat_le (length grammar.rules) 128) (nat_lt grammar.axiom (length grammar.rules)) counts)
+
+pub rules-few : (grammar : Grammar) → IsTrue (is_well_formed grammar) → length grammar.rules ≤ 128
+rules-few grammar h =
+    let counts = and_first (counts_fit grammar) (names_differ grammar) (and_first (counts_fit grammar && names_differ grammar) (parts_fit grammar) h) in
+    leb-true _ _ (and_second (nat_le (length grammar.classes) 64 && nat_le (length grammar.signs) 256 && nat_le 1 (length grammar.algebras) && nat_le (length grammar.algebras) 16) (nat_le (length grammar.rules) 128)
+    (and_first (nat_le (length grammar.classes) 64 && nat_le (length grammar.signs) 256 && nat_le 1 (length grammar.algebras) && nat_le (length grammar.algebras) 16 && nat_le (length grammar.rules) 128) (nat_lt grammar.axiom (length grammar.rules)) counts))
+
+-- each argument fits a kind
+fitting : (grammar : Grammar) (kinds : List Kind) (arguments : List Arg) (k : ℕ) (default : Arg) → length arguments ≡ length kinds → list_all (is_argument grammar) (zip kinds arguments) ≡ true → k < length arguments → (kind : Kind) × (is_argument grammar (kind, slice_index_or arguments k default) ≡ true)
+fitting grammar kinds [] k default e h l = absurd (omega arith)
+fitting grammar [] (argument ∷ arguments) k default e h l = absurd (omega arith)
+fitting grammar (kind ∷ kinds) (argument ∷ arguments) zero default e h l = (kind, and_first (is_argument grammar (kind, argument)) (list_all (is_argument grammar) (zip kinds arguments)) h)
+fitting grammar (kind ∷ kinds) (argument ∷ arguments) (suc k) default e h l =
+    fitting grammar kinds arguments k default (omega arith) (and_second (is_argument grammar (kind, argument)) (list_all (is_argument grammar) (zip kinds arguments)) h) (omega arith)
+
+-- an argument of an alternative of a well-formed grammar fits a kind
+fitting_argument : (grammar : Grammar) (alternative : Alt) (argument : Arg) → is_alternative grammar alternative ≡ true → Contains alternative.args argument → (kind : Kind) × (is_argument grammar (kind, argument) ≡ true)
+fitting_argument grammar alternative argument k contained =
+    let in_signs = nat_lt alternative.sign (length grammar.signs) in
+    let counted = length alternative.args == length (sign_at grammar alternative.sign).kinds in
+    let fit = list_all (is_argument grammar) (zip (sign_at grammar alternative.sign).kinds alternative.args) in
+    let same = eqb-true _ _ (and_second in_signs counted (and_first (in_signs && counted) fit k)) in
+    let it = fitting grammar (sign_at grammar alternative.sign).kinds alternative.args contained.0 argument same (and_second (in_signs && counted) fit k) contained.1 in
+    let P : Arg → Type 0 = λ a. is_argument grammar (it.0, a) ≡ true in
+    (it.0, subst P contained.2 it.1)
+
+rule_in_range : (grammar : Grammar) (kind : Kind) (other : ℕ) → is_argument grammar (kind, Rule other) ≡ true → other < length grammar.rules
+rule_in_range grammar Score other h = ltb-true _ _ h
+rule_in_range grammar Token other h = absurd cc
+
+run_in_order : (grammar : Grammar) (kind : Kind) (class low high : ℕ) → is_argument grammar (kind, Run class low (Some high)) ≡ true → low ≤ high
+run_in_order grammar Score class low high h = absurd cc
+run_in_order grammar Token class low high h =
+    leb-true _ _ (and_first (nat_le low high) (nat_le high 1000000) (and_second (nat_lt class (length grammar.classes) && nat_le low 1000000) (is_high_bound low (Some high)) h))
+
+-- each rule that an argument names is in the grammar
+pub named-formed : (grammar : Grammar) → IsTrue (is_well_formed grammar) → (rule alternative other : ℕ) → Contains (arguments_of grammar rule alternative) (Rule other) → other < length grammar.rules
+named-formed grammar h rule alternative other =
+    kept_at (is_alternative grammar) (λ a. Contains a.args (Rule other) → other < length grammar.rules)
+    (λ (a : Alt) k contained. let it = fitting_argument grammar a (Rule other) k contained in rule_in_range grammar it.0 other it.1)
+    (alternatives_of grammar rule) alternative (record { sign = 0; args = [] }) (alternatives-formed grammar h rule) (λ contained. absurd (omega (arith, contained.1)))
+
+-- a run's low bound is at most its high bound
+pub runs-formed : (grammar : Grammar) → IsTrue (is_well_formed grammar) → (rule alternative class low high : ℕ) → Contains (arguments_of grammar rule alternative) (Run class low (Some high)) → low ≤ high
+runs-formed grammar h rule alternative class low high =
+    kept_at (is_alternative grammar) (λ a. Contains a.args (Run class low (Some high)) → low ≤ high)
+    (λ (a : Alt) k contained. let it = fitting_argument grammar a (Run class low (Some high)) k contained in run_in_order grammar it.0 class low high it.1)
+    (alternatives_of grammar rule) alternative (record { sign = 0; args = [] }) (alternatives-formed grammar h rule) (λ contained. absurd (omega (arith, contained.1)))
+
+-- ---- signs of alternatives
+
+-- what all items keep, the item at an index below the length keeps
+pub kept_in : {X : Type 0} (test : X → Bool) (xs : List X) (i : ℕ) (default : X) → list_all test xs ≡ true → i < length xs → test (slice_index_or xs i default) ≡ true
+kept_in test [] i default h inside = absurd (omega arith)
+kept_in test (x ∷ xs) zero default h inside = and_first (test x) (list_all test xs) h
+kept_in test (x ∷ xs) (suc i) default h inside = kept_in test xs i default (and_second (test x) (list_all test xs) h) (omega arith)
+
+-- the sign of an alternative is one of the grammar's, and its kinds are those of the arguments
+pub record IsSigned (grammar : Grammar) (alternative : Alt) : Type 0 where
+  pub known : alternative.sign < length grammar.signs
+  pub count : length alternative.args ≡ length (sign_at grammar alternative.sign).kinds
+  pub fit : list_all (is_argument grammar) (zip (sign_at grammar alternative.sign).kinds alternative.args) ≡ true
+
+IsSigned-formed : (grammar : Grammar) (alternative : Alt) → is_alternative grammar alternative ≡ true → IsSigned grammar alternative
+IsSigned-formed grammar alternative h =
+    let in_signs = nat_lt alternative.sign (length grammar.signs) in
+    let counted = length alternative.args == length (sign_at grammar alternative.sign).kinds in
+    let fit = list_all (is_argument grammar) (zip (sign_at grammar alternative.sign).kinds alternative.args) in
+    record {
+      known = ltb-true _ _ (and_first in_signs counted (and_first (in_signs && counted) fit h));
+      count = eqb-true _ _ (and_second in_signs counted (and_first (in_signs && counted) fit h));
+      fit = and_second (in_signs && counted) fit h;
+    }
+
+pub IsSigned-at : (grammar : Grammar) → IsTrue (is_well_formed grammar) → (rule alternative : ℕ) → alternative < length (alternatives_of grammar rule) → IsSigned grammar (alternative_at grammar rule alternative)
+IsSigned-at grammar h rule alternative in_range =
+    IsSigned-formed grammar (alternative_at grammar rule alternative) (kept_in (is_alternative grammar) (alternatives_of grammar rule) alternative (record { sign = 0; args = [] }) (alternatives-formed grammar h rule) in_range)
+
+-- a well-formed grammar's alternatives have at least one argument
+pub some_arguments-formed : (grammar : Grammar) → IsTrue (is_well_formed grammar) → (rule alternative : ℕ) → alternative < length (alternatives_of grammar rule) → 1 ≤ length (arguments_of grammar rule alternative)
+some_arguments-formed grammar h rule alternative in_range =
+    let signed = IsSigned-at grammar h rule alternative in_range in
+    let sign = sign_at grammar (alternative_at grammar rule alternative).sign in
+    let k : is_sign sign ≡ true = kept_in is_sign grammar.signs (alternative_at grammar rule alternative).sign (record { name = []; kinds = [] }) (signs-formed grammar h) signed.known in
+    let some : 1 ≤ length sign.kinds = leb-true _ _ (and_second (is_name sign.name) (nat_le 1 (length sign.kinds)) (and_first (is_name sign.name && nat_le 1 (length sign.kinds)) (nat_le (length sign.kinds) 4) k)) in
+    let count = signed.count in
+    omega arith

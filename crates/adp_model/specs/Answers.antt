@@ -4,7 +4,7 @@ use Rattle.adp_model.specs.declared.cell.Answer.{Answer}
 use Rattle.adp_model.specs.declared.cell.Answer.TheVariants.{NoCandidate, Best}
 use Rattle.adp_model.specs.declared.cell.Cell.{Cell}
 use Rattle.adp_model.specs.declared.cell.Choice.{Choice}
-use Rattle.adp_model.specs.Instance.{Instance}
+use Rattle.adp_model.specs.PosedProblem.{PosedProblem}
 use Rattle.adp_model.specs.Tree.{Tree, Leaf, Node}
 use Rattle.adp_model.specs.Derivation.{Derives}
 use Rattle.adp_model.specs.Scores.{score_of}
@@ -16,11 +16,11 @@ choice_of (Leaf from to) = record { alt = 0; cuts = to ∷ to ∷ to ∷ [] }
 choice_of (Node rule alternative from to children) = record { alt = alternative; cuts = cuts_of to children }
 
 -- nothing is derived for the cell
-abbrev pub HasNoTree : Instance → Cell → Type 0
+abbrev pub HasNoTree : PosedProblem → Cell → Type 0
 HasNoTree p cell = (tree : Tree) → Derives p cell tree → ⊥
 
 -- what the cell's answer is
-abbrev pub IsAnswer : Instance → Cell → Answer → Type 0
+abbrev pub IsAnswer : PosedProblem → Cell → Answer → Type 0
 IsAnswer p cell NoCandidate = HasNoTree p cell
 IsAnswer p cell (Best score choice) =
     (tree : Tree) × IsPreferred p cell tree × (score ≡ score_of p tree) × (choice ≡ choice_of tree)

@@ -1,6 +1,85 @@
--- The words of the command line. Today there is one command: `best`, without options.
-use Rattle.std.specs.Prelude.{◌≡◌, ℕ, List, [], ◌∷◌, codes}
+-- The words of the command line: a mode, and then options in any order, each at most once, with its value in the next
+-- word.
+use Rattle.std.specs.Prelude.{◌≡◌, ℕ, ◌+◌, ◌^◌, ◌<◌, ◌≤◌, Option, None, Some, List, [], ◌∷◌, codes, IsTrue, map}
+use Rattle.std.specs.Str.Parse.{IsNumeral, digits_value}
+use Rattle.adp_model.specs.WellFormed.{is_name, are_distinct}
 
--- the words are `best` alone
-abbrev pub IsBestAlone : List (List ℕ) → Type 0
-IsBestAlone words = words ≡ codes "best" ∷ []
+-- what is asked for: the report of each word, by evaluators that share their results or by one sweep
+pub data Mode : Type 0 where
+  Best : Mode
+  Serial : Mode
+
+abbrev pub mode_word : Mode → List ℕ
+mode_word Best = codes "best"
+mode_word Serial = codes "serial"
+
+-- an option with its value: of an algebra's name the place among the words, from 0; a number of evaluators; the seed of
+-- their orders
+pub data Setting : Type 0 where
+  Algebra : (place : ℕ) → Setting
+  Workers : (workers : ℕ) → Setting
+  Seed : (seed : ℕ) → Setting
+
+abbrev pub option_word : Setting → List ℕ
+option_word (Algebra place) = codes "--algebra"
+option_word (Workers workers) = codes "--workers"
+option_word (Seed seed) = codes "--seed"
+
+-- one or more decimal digits with this value; zeros may come first
+abbrev pub IsNumberWord : List ℕ → ℕ → Type 0
+IsNumberWord word number = IsNumeral 10 word × (number ≡ digits_value 10 word)
+
+-- the word at this place is a value that the setting allows
+abbrev pub IsValue : ℕ → List ℕ → Setting → Type 0
+IsValue place word (Algebra named) = IsTrue (is_name word) × (named ≡ place)
+IsValue place word (Workers workers) = IsNumberWord word workers × (1 ≤ workers) × (workers ≤ 32)
+IsValue place word (Seed seed) = IsNumberWord word seed × (seed < 2 ^ 64)
+
+-- the words from this place on are these settings, one behind the other
+abbrev pub AreSettings : ℕ → List (List ℕ) → List Setting → Type 0
+AreSettings place [] [] = Unit {0}
+AreSettings place (option ∷ value ∷ words) (setting ∷ settings) =
+    (option ≡ option_word setting) × IsValue (place + 1) value setting × AreSettings (place + 2) words settings
+AreSettings place words settings = ⊥
+
+-- no option is set twice
+abbrev pub AreSetOnce : List Setting → Type 0
+AreSetOnce settings = IsTrue (are_distinct (map option_word settings))
+
+-- the value of an option, or what holds where it is not set: the first algebra, one evaluator, the seed 0
+abbrev pub algebra_set : List Setting → Option ℕ
+algebra_set [] = None
+algebra_set (Algebra place ∷ settings) = Some place
+algebra_set (setting ∷ settings) = algebra_set settings
+
+abbrev pub workers_set : List Setting → ℕ
+workers_set [] = 1
+workers_set (Workers workers ∷ settings) = workers
+workers_set (setting ∷ settings) = workers_set settings
+
+abbrev pub seed_set : List Setting → ℕ
+seed_set [] = 0
+seed_set (Seed seed ∷ settings) = seed
+seed_set (setting ∷ settings) = seed_set settings
+
+-- what the words of a command line say
+pub record Command : Type 0 where
+  pub mode : Mode
+  pub algebra : Option ℕ
+  pub workers : ℕ
+  pub seed : ℕ
+
+-- the words are this command
+pub record IsCommand (words : List (List ℕ)) (command : Command) : Type 0 where
+  pub options : List (List ℕ)
+  pub settings : List Setting
+  pub words_are : words ≡ mode_word command.mode ∷ options
+  pub set : AreSettings 1 options settings
+  pub once : AreSetOnce settings
+  pub algebra_is : command.algebra ≡ algebra_set settings
+  pub workers_are : command.workers ≡ workers_set settings
+  pub seed_is : command.seed ≡ seed_set settings
+
+-- the words are some command
+abbrev pub HasCommand : List (List ℕ) → Type 0
+HasCommand words = (command : Command) × IsCommand words command

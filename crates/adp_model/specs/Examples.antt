@@ -10,7 +10,7 @@ use Rattle.adp_model.specs.declared.grammar.Alt.{Alt}
 use Rattle.adp_model.specs.declared.grammar.Grammar.{Grammar}
 use Rattle.adp_model.specs.declared.job.Job.{Job}
 use Rattle.adp_model.specs.declared.cell.Cell.{Cell}
-use Rattle.adp_model.specs.Instance.{Instance}
+use Rattle.adp_model.specs.PosedProblem.{PosedProblem}
 use Rattle.adp_model.specs.Tree.{Tree, Leaf, Node, Nil, Cons}
 
 -- letters of one weight
@@ -37,8 +37,17 @@ only_token name = record { name = name; kinds = Token ∷ [] }
 abbrev pub pairs_grammar : Grammar
 pairs_grammar = record {
   classes = record { name = codes "any"; letters = letters_worth (pos 0) (codes "pqrs") } ∷ [];
-  signs = only_token (codes "nil") ∷ token_then_score (codes "skip") ∷ record { name = codes "pair"; kinds = Token ∷ Score ∷ Token ∷ Score ∷ [] } ∷ [];
-  algebras = record { name = codes "pairs"; goal = Greatest; terms = constant_of 0 ∷ onto_second 0 ∷ record { constant = pos 1; factors = pos 0 ∷ pos 1 ∷ pos 0 ∷ pos 1 ∷ [] } ∷ [] } ∷ [];
+  signs =
+      only_token (codes "nil") ∷ token_then_score (codes "skip")
+      ∷ record { name = codes "pair"; kinds = Token ∷ Score ∷ Token ∷ Score ∷ [] } ∷ [];
+  algebras =
+      record {
+        name = codes "pairs";
+        goal = Greatest;
+        terms =
+            constant_of 0 ∷ onto_second 0
+            ∷ record { constant = pos 1; factors = pos 0 ∷ pos 1 ∷ pos 0 ∷ pos 1 ∷ [] } ∷ [];
+      } ∷ [];
   rules =
       record {
         name = codes "s";
@@ -52,7 +61,7 @@ pairs_grammar = record {
   «axiom» = 0;
 }
 
-abbrev pub pairs : List ℕ → Instance
+abbrev pub pairs : List ℕ → PosedProblem
 pairs word = record { grammar = pairs_grammar; algebra = 0; word = word }
 
 abbrev pub nil_at : ℕ → Tree
@@ -87,11 +96,18 @@ pieces_grammar = record {
   classes = record { name = codes "w"; letters = letters_worth (pos 0) (codes "abc") } ∷ [];
   signs = only_token (codes "stop") ∷ token_then_score (codes "cut") ∷ [];
   algebras = record { name = codes "pieces"; goal = Least; terms = constant_of 0 ∷ onto_second 1 ∷ [] } ∷ [];
-  rules = record { name = codes "t"; alts = record { sign = 0; args = Literal [] ∷ [] } ∷ record { sign = 1; args = Run 0 1 (Some 3) ∷ Rule 0 ∷ [] } ∷ [] } ∷ [];
+  rules =
+      record {
+        name = codes "t";
+        alts =
+            record { sign = 0; args = Literal [] ∷ [] }
+            ∷ record { sign = 1; args = Run 0 1 (Some 3) ∷ Rule 0 ∷ [] }
+            ∷ [];
+      } ∷ [];
   «axiom» = 0;
 }
 
-abbrev pub pieces : List ℕ → Instance
+abbrev pub pieces : List ℕ → PosedProblem
 pieces word = record { grammar = pieces_grammar; algebra = 0; word = word }
 
 -- the first piece goes up to the cut
@@ -114,17 +130,31 @@ letters_grammar = record {
   classes = record { name = codes "any"; letters = letters_worth (pos 0) (codes "ab") } ∷ [];
   signs = only_token (codes "nil") ∷ token_then_score (codes "put") ∷ [];
   algebras = record { name = codes "len"; goal = Greatest; terms = constant_of 0 ∷ onto_second 1 ∷ [] } ∷ [];
-  rules = record { name = codes "s"; alts = record { sign = 0; args = Literal [] ∷ [] } ∷ record { sign = 1; args = Letter 0 ∷ Rule 0 ∷ [] } ∷ [] } ∷ [];
+  rules =
+      record {
+        name = codes "s";
+        alts =
+            record { sign = 0; args = Literal [] ∷ [] }
+            ∷ record { sign = 1; args = Letter 0 ∷ Rule 0 ∷ [] }
+            ∷ [];
+      } ∷ [];
   «axiom» = 0;
 }
 
 abbrev pub letters_job : Job
-letters_job = record { grammar = letters_grammar; words = codes "ab" ∷ []; well_formed = refl; few_words = refl }
+letters_job = record {
+  grammar = letters_grammar;
+  words = codes "ab" ∷ [];
+  well_formed = refl;
+  printable_words = refl;
+  few_words = refl;
+}
 
 -- ---- a line of words, by cost
 
 abbrev pub line_terms : ℕ → ℕ → ℕ → ℕ → List Linear
-line_terms long short rare other = constant_of 0 ∷ onto_second long ∷ onto_second short ∷ onto_second rare ∷ onto_second other ∷ []
+line_terms long short rare other =
+    constant_of 0 ∷ onto_second long ∷ onto_second short ∷ onto_second rare ∷ onto_second other ∷ []
 
 -- a literal and then the rule
 abbrev pub word_then_line : ℕ → List ℕ → Alt
@@ -134,7 +164,9 @@ word_then_line sign word = record { sign = sign; args = Literal word ∷ Rule 0 
 abbrev pub line_grammar : Grammar
 line_grammar = record {
   classes = record { name = codes "any"; letters = letters_worth (pos 0) (codes "abcdefghijklmnopqrstuvwxyz") } ∷ [];
-  signs = only_token (codes "end") ∷ token_then_score (codes "long") ∷ token_then_score (codes "short") ∷ token_then_score (codes "rare") ∷ token_then_score (codes "other") ∷ [];
+  signs =
+      only_token (codes "end") ∷ token_then_score (codes "long") ∷ token_then_score (codes "short")
+      ∷ token_then_score (codes "rare") ∷ token_then_score (codes "other") ∷ [];
   algebras =
       record { name = codes "cost"; goal = Least; terms = line_terms 4 2 3 9 }
       ∷ record { name = codes "pieces"; goal = Least; terms = line_terms 1 1 1 1 }
@@ -154,7 +186,7 @@ line_grammar = record {
 }
 
 -- by cost, or by the number of words
-abbrev pub thered : ℕ → Instance
+abbrev pub thered : ℕ → PosedProblem
 thered algebra = record { grammar = line_grammar; algebra = algebra; word = codes "thered" }
 
 -- an alternative takes the letters up to the cut, and the line goes on
@@ -176,15 +208,22 @@ abbrev pub ties_grammar : Grammar
 ties_grammar = record {
   classes = [];
   signs = record { name = codes "f"; kinds = Score ∷ [] } ∷ only_token (codes "u") ∷ only_token (codes "v") ∷ [];
-  algebras = record { name = codes "ties"; goal = Least; terms = constant_of 0 ∷ constant_of 5 ∷ constant_of 3 ∷ [] } ∷ [];
+  algebras =
+      record { name = codes "ties"; goal = Least; terms = constant_of 0 ∷ constant_of 5 ∷ constant_of 3 ∷ [] } ∷ [];
   rules =
       record { name = codes "a"; alts = record { sign = 0; args = Rule 1 ∷ [] } ∷ [] }
-      ∷ record { name = codes "b"; alts = record { sign = 1; args = Literal (codes "x") ∷ [] } ∷ record { sign = 2; args = Literal (codes "x") ∷ [] } ∷ [] }
+      ∷ record {
+        name = codes "b";
+        alts =
+            record { sign = 1; args = Literal (codes "x") ∷ [] }
+            ∷ record { sign = 2; args = Literal (codes "x") ∷ [] }
+            ∷ [];
+      }
       ∷ [];
   «axiom» = 0;
 }
 
-abbrev pub ties : Instance
+abbrev pub ties : PosedProblem
 ties = record { grammar = ties_grammar; algebra = 0; word = codes "x" }
 
 -- `f(u("x"))` for the alternative 0, `f(v("x"))` for the alternative 1
@@ -198,18 +237,31 @@ abbrev pub weight_grammar : Class → Grammar
 weight_grammar class = record {
   classes = class ∷ [];
   signs = only_token (codes "take") ∷ [];
-  algebras = record { name = codes "weight"; goal = Least; terms = record { constant = pos 0; factors = pos 1 ∷ [] } ∷ [] } ∷ [];
+  algebras =
+      record {
+        name = codes "weight";
+        goal = Least;
+        terms = record { constant = pos 0; factors = pos 1 ∷ [] } ∷ [];
+      } ∷ [];
   rules = record { name = codes "t"; alts = record { sign = 0; args = Run 0 1 None ∷ [] } ∷ [] } ∷ [];
   «axiom» = 0;
 }
 
 -- `a` is worth 5 and `b` is worth -2
-abbrev pub weighed : Instance
-weighed = record { grammar = weight_grammar (record { name = codes "w"; letters = (97, pos 5) ∷ (98, negsuc 1) ∷ [] }); algebra = 0; word = codes "aab" }
+abbrev pub weighed : PosedProblem
+weighed = record {
+  grammar = weight_grammar (record { name = codes "w"; letters = (97, pos 5) ∷ (98, negsuc 1) ∷ [] });
+  algebra = 0;
+  word = codes "aab";
+}
 
 -- the letters `"` and `\`
-abbrev pub marks : Instance
-marks = record { grammar = weight_grammar (record { name = codes "q"; letters = letters_worth (pos 0) (34 ∷ 92 ∷ []) }); algebra = 0; word = 34 ∷ 92 ∷ [] }
+abbrev pub marks : PosedProblem
+marks = record {
+  grammar = weight_grammar (record { name = codes "q"; letters = letters_worth (pos 0) (codes "\"\\") });
+  algebra = 0;
+  word = codes "\"\\";
+}
 
 -- the whole word as one run
 abbrev pub take_tree : ℕ → Tree

@@ -2,7 +2,7 @@
 -- of demanded cells.
 use Rattle.std.specs.Prelude.{◌≡◌, ℕ, ◌⊎◌, List, [], ◌∷◌, ◌++◌, codes}
 use Rattle.std.specs.Fmt.{decimal, signed_decimal}
-use Rattle.adp_model.specs.Instance.{Instance, axiom_cell}
+use Rattle.adp_model.specs.PosedProblem.{PosedProblem, axiom_cell}
 use Rattle.adp_model.specs.Tree.{Tree}
 use Rattle.adp_model.specs.Scores.{score_of}
 use Rattle.adp_model.specs.Preference.{IsPreferred}
@@ -15,17 +15,18 @@ abbrev pub line : List ℕ → List ℕ
 line content = content ++ 10 ∷ []
 
 -- the lines of a candidate
-abbrev pub tree_lines : Instance → Tree → List ℕ
-tree_lines p tree = line (codes "score " ++ signed_decimal (score_of p tree)) ++ line (codes "tree " ++ tree_text p tree)
+abbrev pub tree_lines : PosedProblem → Tree → List ℕ
+tree_lines p tree =
+    line (codes "score " ++ signed_decimal (score_of p tree)) ++ line (codes "tree " ++ tree_text p tree)
 
 -- the lines of the preferred tree, or the line of a word without a candidate
-abbrev pub IsAnswerText : Instance → List ℕ → Type 0
+abbrev pub IsAnswerText : PosedProblem → List ℕ → Type 0
 IsAnswerText p text =
     ((tree : Tree) × IsPreferred p (axiom_cell p) tree × (text ≡ tree_lines p tree))
     ⊎ (HasNoTree p (axiom_cell p) × (text ≡ line (codes "none")))
 
 -- the report of the word with this number, counted from 1
-abbrev pub IsReport : ℕ → Instance → List ℕ → Type 0
+abbrev pub IsReport : ℕ → PosedProblem → List ℕ → Type 0
 IsReport number p report =
     (answer : List ℕ) × (count : ℕ) × IsAnswerText p answer × IsDemandedCount p count
     × (report ≡ line (codes "word " ++ decimal number) ++ answer ++ line (codes "cells " ++ decimal count))

@@ -1,5 +1,5 @@
 -- The canonical spelling of a job, in the text format `adp 1`.
-use Rattle.std.specs.Prelude.{ℕ, ◌+◌, ℤ, pos, negsuc, zero, suc, Option, Some, None, List, [], ◌∷◌, ◌++◌, codes, if◌then◌else◌, slice_index_or}
+use Rattle.std.specs.Prelude.{ℕ, ◌+◌, ℤ, pos, negsuc, zero, suc, Option, Some, None, List, [], ◌∷◌, ◌++◌, codes, if◌then◌else◌}
 use Rattle.std.specs.Ordering.{int_eq}
 use Rattle.std.specs.Fmt.{decimal, signed_decimal}
 use Rattle.std.specs.List.{flat_map, join_by, zip}
@@ -17,7 +17,7 @@ use Rattle.adp_model.specs.declared.grammar.Alt.{Alt}
 use Rattle.adp_model.specs.declared.grammar.Grammar.{Grammar}
 use Rattle.adp_model.specs.declared.job.Job.{Job}
 use Rattle.adp_model.specs.declared.grammar.Rule as rules
-use Rattle.adp_model.specs.Parts.{sign_at}
+use Rattle.adp_model.specs.Parts.{class_at, sign_at, rule_at}
 use Rattle.adp_model.specs.TreeText.{quoted}
 use Rattle.adp_model.specs.Report.{line}
 
@@ -50,7 +50,8 @@ kind_text Token = codes "token"
 
 -- `sign NAME(token, score)`
 abbrev pub sign_line : Sign → List ℕ
-sign_line sign = line (codes "sign " ++ sign.name ++ codes "(" ++ separated kind_text (codes ", ") sign.kinds ++ codes ")")
+sign_line sign =
+    line (codes "sign " ++ sign.name ++ codes "(" ++ separated kind_text (codes ", ") sign.kinds ++ codes ")")
 
 abbrev pub goal_text : Goal → List ℕ
 goal_text Least = codes "min"
@@ -78,18 +79,22 @@ term_text term = signed_decimal term.constant ++ factors_text 1 term.factors
 -- `let NAME(x1, x2) = 1 + 1*x2`
 abbrev pub let_line : Sign × Linear → List ℕ
 let_line entry =
-    line (codes "let " ++ entry.0.name ++ codes "(" ++ separated (λ name. name) (codes ", ") (variables 1 entry.0.kinds) ++ codes ") = " ++ term_text entry.1)
+    line (
+    codes "let " ++ entry.0.name ++ codes "(" ++ separated (λ name. name) (codes ", ") (variables 1 entry.0.kinds)
+    ++ codes ") = " ++ term_text entry.1
+    )
 
 -- `algebra NAME min`, and a `let` for each sign
 abbrev pub algebra_lines : List Sign → Algebra → List ℕ
 algebra_lines signs algebra =
-    line (codes "algebra " ++ algebra.name ++ codes " " ++ goal_text algebra.goal) ++ flat_map let_line (zip signs algebra.terms)
+    line (codes "algebra " ++ algebra.name ++ codes " " ++ goal_text algebra.goal)
+    ++ flat_map let_line (zip signs algebra.terms)
 
 abbrev pub class_name : Grammar → ℕ → List ℕ
-class_name grammar class = (slice_index_or grammar.classes class (record { name = []; letters = [] })).name
+class_name grammar class = (class_at grammar class).name
 
 abbrev pub rule_name : Grammar → ℕ → List ℕ
-rule_name grammar rule = (slice_index_or grammar.rules rule (record { name = []; alts = [] })).name
+rule_name grammar rule = (rule_at grammar rule).name
 
 abbrev pub high_text : Option ℕ → List ℕ
 high_text None = []
@@ -106,7 +111,8 @@ argument_text grammar (Run class low high) =
 -- `name(arg, arg)`
 abbrev pub alternative_text : Grammar → Alt → List ℕ
 alternative_text grammar alternative =
-    (sign_at grammar alternative.sign).name ++ codes "(" ++ separated (argument_text grammar) (codes ", ") alternative.args ++ codes ")"
+    (sign_at grammar alternative.sign).name ++ codes "("
+    ++ separated (argument_text grammar) (codes ", ") alternative.args ++ codes ")"
 
 -- `rule NAME = ALT | ALT`
 abbrev pub rule_line : Grammar → rules.Rule → List ℕ
@@ -116,7 +122,8 @@ rule_line grammar rule =
 -- the lines of a grammar
 abbrev pub grammar_lines : Grammar → List ℕ
 grammar_lines grammar =
-    flat_map class_line grammar.classes ++ flat_map sign_line grammar.signs ++ flat_map (algebra_lines grammar.signs) grammar.algebras
+    flat_map class_line grammar.classes ++ flat_map sign_line grammar.signs
+    ++ flat_map (algebra_lines grammar.signs) grammar.algebras
     ++ flat_map (rule_line grammar) grammar.rules ++ line (codes "grammar " ++ rule_name grammar grammar.axiom)
 
 -- the canonical spelling of a job

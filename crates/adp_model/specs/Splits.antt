@@ -4,9 +4,10 @@ use Rattle.std.specs.List.{AllByRecursion}
 use Rattle.adp_model.specs.declared.grammar.Arg.{Arg}
 use Rattle.adp_model.specs.declared.grammar.Arg.TheVariants.{Rule}
 use Rattle.adp_model.specs.declared.cell.Cell.{Cell}
-use Rattle.adp_model.specs.Instance.{Instance, IsSpan}
-use Rattle.adp_model.specs.Parts.{alternatives_of, arguments_of}
+use Rattle.adp_model.specs.PosedProblem.{PosedProblem, IsSpan}
+use Rattle.adp_model.specs.Parts.{alternatives_of, alternative_at, arguments_of}
 use Rattle.adp_model.specs.Tokens.{letters_between, Matches}
+use Rattle.adp_model.specs.Lengths.{AllowsLength}
 use Rattle.adp_model.specs.Sizes.{IsWithinSizes}
 
 -- an argument on a span
@@ -15,32 +16,43 @@ pub record Placed : Type 0 where
   pub from : ℕ
   pub to : ℕ
 
+-- it holds of the cell of the argument, where that is a rule
+abbrev pub AtRule : (Cell → Type 0) → Placed → Type 0
+AtRule Holds placed = holds placed.argument
+  where
+    holds : Arg → Type 0
+    holds (Rule rule) = Holds (record { rule = rule; from = placed.from; to = placed.to })
+    holds token = Unit {0}
+
 -- the arguments laid from left to right, the first from `from` on, each up to the next of the ends
 abbrev pub place : List Arg → ℕ → List ℕ → List Placed
 place [] from ends = []
 place (argument ∷ arguments) from [] = []
-place (argument ∷ arguments) from (to ∷ ends) = record { argument = argument; from = from; to = to } ∷ place arguments to ends
+place (argument ∷ arguments) from (to ∷ ends) =
+    record { argument = argument; from = from; to = to } ∷ place arguments to ends
 
 -- the ends of a cell's arguments: the cuts, then the cell's end
 abbrev pub ends_by : Cell → List ℕ → List ℕ
 ends_by cell cuts = cuts ++ cell.to ∷ []
 
 -- the arguments of an alternative, laid along the cell by the cuts
-abbrev pub placed : Instance → Cell → ℕ → List ℕ → List Placed
+abbrev pub placed : PosedProblem → Cell → ℕ → List ℕ → List Placed
 placed p cell alternative cuts = place (arguments_of p.grammar cell.rule alternative) cell.from (ends_by cell cuts)
 
 -- the span is one that the argument may have: its length is within a rule's sizes, a token matches its letters
-abbrev pub FitsSpan : Instance → Placed → Type 0
+abbrev pub FitsSpan : PosedProblem → Placed → Type 0
 FitsSpan p placed = IsSpan p.word placed.from placed.to × fits placed.argument
   where
     fits : Arg → Type 0
     fits (Rule rule) = IsWithinSizes p.grammar rule (placed.to - placed.from)
     fits token = Matches p.grammar token (letters_between p.word placed.from placed.to)
 
--- the cuts divide the cell into spans that the alternative's arguments may have
-pub record IsViable (p : Instance) (cell : Cell) (alternative : ℕ) (cuts : List ℕ) : Type 0 where
+-- the alternative allows the cell's length, and the cuts divide the cell into spans that its arguments may have
+pub record IsViable (p : PosedProblem) (cell : Cell) (alternative : ℕ) (cuts : List ℕ) : Type 0 where
   pub in_range : alternative < length (alternatives_of p.grammar cell.rule)
+  pub allowed : AllowsLength (alternative_at p.grammar cell.rule alternative) (cell.to - cell.from)
   pub three : length cuts ≡ 3
   -- the last argument ends where the cell ends, and so do the boundaries that the alternative lacks
-  pub last : AllByRecursion (λ boundary. boundary ≡ cell.to) (drop (length (arguments_of p.grammar cell.rule alternative) - 1) (ends_by cell cuts))
+  pub last : AllByRecursion (λ boundary. boundary ≡ cell.to)
+      (drop (length (arguments_of p.grammar cell.rule alternative) - 1) (ends_by cell cuts))
   pub fits : AllByRecursion (FitsSpan p) (placed p cell alternative cuts)

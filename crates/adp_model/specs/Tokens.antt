@@ -34,7 +34,8 @@ Matches grammar (Rule rule) letters = ⊥
 Matches grammar (Literal text) letters = letters ≡ text
 Matches grammar (Letter class) letters = (length letters ≡ 1) × AllByRecursion (IsIn (letters_of grammar class)) letters
 Matches grammar (Run class low high) letters =
-    (low ≤ length letters) × IfSome high (λ most. length letters ≤ most) × AllByRecursion (IsIn (letters_of grammar class)) letters
+    (low ≤ length letters) × IfSome high (λ most. length letters ≤ most)
+    × AllByRecursion (IsIn (letters_of grammar class)) letters
 
 -- what letters that a token matches are worth: nothing for a literal, else the sum of their weights
 abbrev pub token_value : Grammar → Arg → List ℕ → ℤ

@@ -1,5 +1,5 @@
 -- Trees: a leaf is a span of the word, a node applies an alternative of a rule to its children.
-use Rattle.std.specs.Prelude.{ℕ, List, [], ◌∷◌}
+use Rattle.std.specs.Prelude.{ℕ, ◌+◌, List, [], ◌∷◌}
 
 mutual
   pub data Tree : Type 0 where
@@ -24,3 +24,14 @@ end_of (Node rule alternative from to children) = to
 abbrev pub ends_of : Trees → List ℕ
 ends_of Nil = []
 ends_of (Cons first others) = end_of first ∷ ends_of others
+
+abbrev mutual
+  -- the nodes of a tree; leaves don't count
+  pub node_count : Tree → ℕ
+  node_count (Leaf from to) = 0
+  node_count (Node rule alternative from to children) = 1 + node_counts children
+
+  -- the nodes of all children
+  pub node_counts : Trees → ℕ
+  node_counts Nil = 0
+  node_counts (Cons first others) = node_count first + node_counts others

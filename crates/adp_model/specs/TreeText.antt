@@ -1,7 +1,7 @@
 -- The text of a tree: signs with their children in brackets, leaves as quoted letters.
 use Rattle.std.specs.Prelude.{ℕ, List, [], ◌∷◌, ◌++◌, if◌then◌else◌, ◌==◌, ◌||◌}
 use Rattle.std.specs.List.{flat_map}
-use Rattle.adp_model.specs.Instance.{Instance}
+use Rattle.adp_model.specs.PosedProblem.{PosedProblem}
 use Rattle.adp_model.specs.Parts.{alternative_at, sign_at}
 use Rattle.adp_model.specs.Tokens.{letters_between}
 use Rattle.adp_model.specs.Tree.{Tree, Leaf, Node, Trees, Nil, Cons}
@@ -16,16 +16,17 @@ quoted letters = 34 ∷ flat_map escaped letters ++ 34 ∷ []
 
 abbrev mutual
   -- a leaf is its letters in quotes; a node is its sign's name and its children, `name(first,second)`
-  pub tree_text : Instance → Tree → List ℕ
+  pub tree_text : PosedProblem → Tree → List ℕ
   tree_text p (Leaf from to) = quoted (letters_between p.word from to)
   tree_text p (Node rule alternative from to children) =
-      (sign_at p.grammar (alternative_at p.grammar rule alternative).sign).name ++ 40 ∷ children_text p children ++ 41 ∷ []
+      (sign_at p.grammar (alternative_at p.grammar rule alternative).sign).name
+      ++ 40 ∷ children_text p children ++ 41 ∷ []
 
   -- the children's texts with a comma between two
-  pub children_text : Instance → Trees → List ℕ
+  pub children_text : PosedProblem → Trees → List ℕ
   children_text p Nil = []
   children_text p (Cons first others) = tree_text p first ++ further_text p others
 
-  pub further_text : Instance → Trees → List ℕ
+  pub further_text : PosedProblem → Trees → List ℕ
   further_text p Nil = []
   further_text p (Cons first others) = 44 ∷ tree_text p first ++ further_text p others

@@ -1,5 +1,5 @@
 -- Well-formed grammars and jobs: names, numbers, indices and kinds fit together, and counts keep their limits.
-use Rattle.std.specs.Prelude.{ℕ, ◌^◌, ℤ, nat_abs, Bool, true, false, ◌&&◌, ◌||◌, not, nat_eq, nat_lt, nat_le, ◌==◌, Option, Some, None, List, [], ◌∷◌, length, map}
+use Rattle.std.specs.Prelude.{ℕ, ◌^◌, ◌<◌, ℤ, nat_abs, Bool, true, false, ◌&&◌, ◌||◌, not, nat_eq, nat_lt, nat_le, ◌==◌, Option, Some, None, List, [], ◌∷◌, length, map}
 use Rattle.std.specs.List.{list_all, list_any, zip}
 use lib.Pointwise.{pointwise}
 use Rattle.adp_model.specs.declared.grammar.Class.{Class}
@@ -36,7 +36,8 @@ are_distinct (text ∷ texts) = not (list_any (pointwise nat_eq text) texts) && 
 -- no letter stands twice
 abbrev pub letters_are_distinct : List (ℕ × ℤ) → Bool
 letters_are_distinct [] = true
-letters_are_distinct (entry ∷ entries) = not (list_any (λ other. entry.0 == other.0) entries) && letters_are_distinct entries
+letters_are_distinct (entry ∷ entries) =
+    not (list_any (λ other. entry.0 == other.0) entries) && letters_are_distinct entries
 
 -- from -(2^62 - 1) to 2^62 - 1
 abbrev pub is_in_range : ℤ → Bool
@@ -48,7 +49,8 @@ is_entry entry = is_printable_byte entry.0 && is_in_range entry.1
 
 abbrev pub is_class : Class → Bool
 is_class class =
-    is_name class.name && nat_le 1 (length class.letters) && list_all is_entry class.letters && letters_are_distinct class.letters
+    is_name class.name && nat_le 1 (length class.letters) && list_all is_entry class.letters
+    && letters_are_distinct class.letters
 
 abbrev pub is_sign : Sign → Bool
 is_sign sign = is_name sign.name && nat_le 1 (length sign.kinds) && nat_le (length sign.kinds) 4
@@ -56,7 +58,8 @@ is_sign sign = is_name sign.name && nat_le 1 (length sign.kinds) && nat_le (leng
 -- a term for a sign: a factor for each of its kinds, all numbers in range
 abbrev pub is_term : Sign × Linear → Bool
 is_term entry =
-    is_in_range entry.1.constant && list_all is_in_range entry.1.factors && length entry.1.factors == length entry.0.kinds
+    is_in_range entry.1.constant && list_all is_in_range entry.1.factors
+    && length entry.1.factors == length entry.0.kinds
 
 abbrev pub is_algebra : List Sign → Algebra → Bool
 is_algebra signs algebra =
@@ -77,7 +80,15 @@ is_argument grammar entry = fits entry.0 entry.1
     fits Token (Rule rule) = false
     fits Token (Literal text) = list_all is_printable_byte text
     fits Token (Letter class) = nat_lt class (length grammar.classes)
-    fits Token (Run class low high) = nat_lt class (length grammar.classes) && nat_le low 1000000 && is_high_bound low high
+    fits Token (Run class low high) =
+        nat_lt class (length grammar.classes) && nat_le low 1000000 && is_high_bound low high
+
+-- the argument's rule or class is one of the grammar's
+abbrev pub IsKnown : Grammar → Arg → Type 0
+IsKnown grammar (Rule rule) = rule < length grammar.rules
+IsKnown grammar (Literal text) = Unit {0}
+IsKnown grammar (Letter class) = class < length grammar.classes
+IsKnown grammar (Run class low high) = class < length grammar.classes
 
 abbrev pub is_alternative : Grammar → Alt → Bool
 is_alternative grammar alternative =
@@ -87,7 +98,8 @@ is_alternative grammar alternative =
 
 abbrev pub is_rule : Grammar → rules.Rule → Bool
 is_rule grammar rule =
-    is_name rule.name && nat_le 1 (length rule.alts) && nat_le (length rule.alts) 64 && list_all (is_alternative grammar) rule.alts
+    is_name rule.name && nat_le 1 (length rule.alts) && nat_le (length rule.alts) 64
+    && list_all (is_alternative grammar) rule.alts
 
 -- the counts keep their limits
 abbrev pub counts_fit : Grammar → Bool
@@ -99,13 +111,16 @@ counts_fit grammar =
 -- the names of each sort differ
 abbrev pub names_differ : Grammar → Bool
 names_differ grammar =
-    are_distinct (map (λ (class : Class). class.name) grammar.classes) && are_distinct (map (λ (sign : Sign). sign.name) grammar.signs)
-    && are_distinct (map (λ (algebra : Algebra). algebra.name) grammar.algebras) && are_distinct (map (λ (rule : rules.Rule). rule.name) grammar.rules)
+    are_distinct (map (λ (class : Class). class.name) grammar.classes)
+    && are_distinct (map (λ (sign : Sign). sign.name) grammar.signs)
+    && are_distinct (map (λ (algebra : Algebra). algebra.name) grammar.algebras)
+    && are_distinct (map (λ (rule : rules.Rule). rule.name) grammar.rules)
 
 -- each part is well-formed
 abbrev pub parts_fit : Grammar → Bool
 parts_fit grammar =
-    list_all is_class grammar.classes && list_all is_sign grammar.signs && list_all (is_algebra grammar.signs) grammar.algebras
+    list_all is_class grammar.classes && list_all is_sign grammar.signs
+    && list_all (is_algebra grammar.signs) grammar.algebras
     && list_all (is_rule grammar) grammar.rules
 
 abbrev pub is_well_formed : Grammar → Bool

@@ -1,6 +1,14 @@
 //! What follows from the definitions. Each law is the contract of a function with an empty body.
 
 pub mod bellman;
+pub mod bounds;
+pub mod cells;
+pub mod demand;
 pub mod derivation;
 pub mod order;
-pub mod small;
+pub mod report;
+pub mod sizes;
+pub mod strict;
+pub mod terms;
+pub mod text;
+pub mod well_formed;

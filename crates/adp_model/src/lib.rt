@@ -2,26 +2,29 @@
 //! that a promise of the engine cites (`specs/`).
 #![tactic(auto)]
 
+mod answers;
 mod cell;
+mod fault;
 mod grammar;
 mod job;
 pub mod laws;
 mod output;
 mod problem;
 mod sequence;
-mod small;
 #[cfg(test)]
 mod tests;
 mod text;
+pub mod text_vectors;
 pub mod vectors;
 mod well_formed;
 
+pub use answers::Answers;
 pub use cell::{Answer, Cell, Choice};
+pub use fault::{GrammarFault, LimitFault, TextFault};
 pub use grammar::{Algebra, Alt, Arg, Class, Goal, Grammar, Kind, Linear, Rule, Sign};
 pub use job::Job;
 pub use output::{push_decimal, push_escaped, push_quoted, push_signed};
 pub use problem::Problem;
 pub use sequence::Sequence;
-pub use small::{is_small, is_small_grammar, small_problem};
 pub use text::{Text, is_printable};
-pub use well_formed::{is_name, is_well_formed};
+pub use well_formed::{is_name, is_well_formed, is_word_byte};

@@ -1,6 +1,7 @@
-//! Numbers and quoted letters as text. After an error, which only want of memory makes, `out` may hold a part of it.
+//! Numbers and quoted letters as text. After an error, which only want of memory makes, what stood in `out` still
+//! stands, and a part of the text may stand behind it.
 
-ghost use Rattle.std.specs.Prelude.{◌≡◌, ◌++◌, OnOk};
+ghost use Rattle.std.specs.Prelude.{◌≡◌, ◌++◌, List, ℕ, OnErr, OnOk};
 ghost use Rattle.std.specs.Fmt.{decimal, signed_decimal};
 ghost use Rattle.adp_model.specs.TreeText.{escaped, quoted};
 
@@ -9,7 +10,8 @@ use std::alloc::AllocError;
 
 /// Appends a number in decimal digits.
 pub fn push_decimal(out: &mut Vec<u8>, number: u64) -> Result<(), AllocError>
-    ensures { OnOk result (out.new.items ≡ out.old.items ++ decimal number) }
+    ensures appended { OnOk result (out.new.items ≡ out.old.items ++ decimal number) }
+    ensures kept { OnErr result (out.new.items ≡ out.old.items) }
 {
     let mut digits = Buffer::new();
     out.extend_from_slice(digits.format(number).as_bytes())
@@ -17,7 +19,8 @@ pub fn push_decimal(out: &mut Vec<u8>, number: u64) -> Result<(), AllocError>
 
 /// Appends a number in decimal digits, with `-` before a negative one.
 pub fn push_signed(out: &mut Vec<u8>, number: i64) -> Result<(), AllocError>
-    ensures { OnOk result (out.new.items ≡ out.old.items ++ signed_decimal number) }
+    ensures appended { OnOk result (out.new.items ≡ out.old.items ++ signed_decimal number) }
+    ensures kept { OnErr result (out.new.items ≡ out.old.items) }
 {
     let mut buffer = Buffer::new();
     out.extend_from_slice(buffer.format(number).as_bytes())
@@ -25,7 +28,8 @@ pub fn push_signed(out: &mut Vec<u8>, number: i64) -> Result<(), AllocError>
 
 /// Appends a letter as it stands between quotes: `"` and `\` have a `\` before them.
 pub fn push_escaped(out: &mut Vec<u8>, letter: u8) -> Result<(), AllocError>
-    ensures { OnOk result (out.new.items ≡ out.old.items ++ escaped letter) }
+    ensures appended { OnOk result (out.new.items ≡ out.old.items ++ escaped letter) }
+    ensures kept { OnErr result ((part : List ℕ) × (out.new.items ≡ out.old.items ++ part)) }
 {
     if letter == b'"' || letter == b'\\' {
         out.push(b'\\')?;
@@ -36,7 +40,8 @@ pub fn push_escaped(out: &mut Vec<u8>, letter: u8) -> Result<(), AllocError>
 
 /// Appends letters in double quotes.
 pub fn push_quoted(out: &mut Vec<u8>, letters: &[u8]) -> Result<(), AllocError>
-    ensures { OnOk result (out.new.items ≡ out.old.items ++ quoted letters.now) }
+    ensures appended { OnOk result (out.new.items ≡ out.old.items ++ quoted letters.now) }
+    ensures kept { OnErr result ((part : List ℕ) × (out.new.items ≡ out.old.items ++ part)) }
 {
     out.push(b'"')?;
     for letter in letters {

@@ -3,38 +3,43 @@ use crate::sequence::Sequence;
 use crate::text::Text;
 use std::marker::Model;
 
-/// A grammar, one of its algebras by its number, and a word, with what the engine keeps of them: for each rule its
-/// least size, its greatest size (`None` where it is unbounded) and its rank, and the cell bound. Contracts see it as
-/// grammar, algebra and word.
+/// A problem that was admitted: a grammar that passed its checks, one of its algebras by its number, and a word within
+/// the limits, with what the checks found. For each rule there is its least size, its greatest size (`None` where it is
+/// unbounded), its rank, and whether its cells all begin where the word begins (`left`) or all end where it ends
+/// (`right`); `cells` is the cell bound and `score_bound` the score bound. Contracts see it as grammar, algebra and
+/// word. What depends on the grammar alone is borrowed, so that a problem costs nothing but its word.
 #[derive(Drop)]
-pub struct Problem {
-    pub grammar: Grammar,
+pub struct Problem<'a> {
+    pub grammar: &'a Grammar,
     pub algebra: u32,
-    pub word: Text,
-    pub least: Sequence<u32>,
-    pub greatest: Sequence<Option<u32>>,
-    pub ranks: Sequence<u32>,
+    pub word: &'a Text,
+    pub least: &'a Sequence<u32>,
+    pub greatest: &'a Sequence<Option<u32>>,
+    pub ranks: &'a Sequence<u32>,
+    pub left: &'a Sequence<bool>,
+    pub right: &'a Sequence<bool>,
     pub cells: u64,
+    pub score_bound: u64,
 }
 
-impl Model for Problem {
-    ghost use Rattle.adp_model.specs.Instance.{Instance};
+impl<'a> Model for Problem<'a> {
+    ghost use Rattle.adp_model.specs.PosedProblem.{PosedProblem};
 
-    ghost Value = { Instance };
+    ghost Value = { PosedProblem };
 
-    ghost use Rattle.adp_model.specs.ProblemFields.{instance_of, IsSmallProblem};
+    ghost use Rattle.adp_model.specs.ProblemFields.{posed_problem, IsAdmitted};
 
-    ghost view = { instance_of };
+    ghost view = { posed_problem };
 
-    ghost invariant = { IsSmallProblem };
+    ghost invariant = { IsAdmitted };
 }
 
-impl Problem {
-    ghost use Rattle.adp_model.specs.Small.{IsSmallInstance};
+impl<'a> Problem<'a> {
+    ghost use Rattle.adp_model.specs.ProblemFields.{IsAdmissible};
 
-    /// What every problem keeps: it is the problem of a small job. Does nothing when it runs.
-    pub fn small(&self)
-        ensures { IsSmallInstance self.now }
+    /// What every problem keeps. Does nothing when it runs.
+    pub fn admissible(&self)
+        ensures { IsAdmissible self.now }
     {
         let _ = &self.grammar;
     }

@@ -2,7 +2,7 @@ ghost use Rattle.adp_model.specs.Printable.{IsPrintable};
 
 use crate::{
     Algebra, Alt, Arg, Class, Goal, Grammar, Job, Kind, Linear, Rule, Sequence, Sign, Text,
-    is_name, is_small, is_well_formed, small_problem,
+    is_name, is_well_formed,
 };
 use std::alloc::{AllocError, Global};
 use std::test::Fail;
@@ -71,16 +71,8 @@ fn grammar(alloc: Global) -> Result<Grammar, AllocError> {
 }
 
 #[test]
-fn a_small_job_has_a_problem(rt: HostRuntime) -> Result<(), Fail> {
-    let grammar = grammar(rt.alloc())?;
-    assert!(rt; is_well_formed(&grammar));
-    let words = Sequence::new(vec![in rt.alloc(); text(rt.alloc(), b"ab")?]?);
-    let job = Job { grammar, words };
-    assert!(rt; is_small(&job));
-    let problem = small_problem(rt.alloc(), job)?;
-    problem.small();
-    assert_eq!(rt; problem.word.bytes(), b"ab".as_slice());
-    assert_eq!(rt; problem.cells, 3);
+fn a_grammar_whose_parts_fit_is_well_formed(rt: HostRuntime) -> Result<(), Fail> {
+    assert!(rt; is_well_formed(&grammar(rt.alloc())?));
     Ok(())
 }
 

@@ -2,7 +2,7 @@
 
 ghost use Rattle.std.specs.Prelude.{◌≡◌, ◌++◌, [], ◌∷◌, codes, pos};
 ghost use Rattle.std.specs.List.{flat_map};
-ghost use Rattle.adp_model.specs.Instance.{Instance, axiom_cell};
+ghost use Rattle.adp_model.specs.PosedProblem.{PosedProblem, axiom_cell};
 ghost use Rattle.adp_model.specs.Tree.{Tree};
 ghost use Rattle.adp_model.specs.Derivation.{IsCandidate};
 ghost use Rattle.adp_model.specs.Scores.{score_of};
@@ -27,7 +27,8 @@ pub fn lesser_cuts_come_first()
     ensures score { score_of (pairs (codes "pqq")) first_pqq_tree ≡ pos 1 }
     ensures same_score { score_of (pairs (codes "pqq")) second_pqq_tree ≡ pos 1 }
     ensures before { IsBefore (pairs (codes "pqq")) first_pqq_tree second_pqq_tree }
-    ensures text { tree_text (pairs (codes "pqq")) first_pqq_tree ≡ codes "pair(\"p\",nil(\"\"),\"q\",skip(\"q\",nil(\"\")))" }
+    ensures text { tree_text (pairs (codes "pqq")) first_pqq_tree
+        ≡ codes "pair(\"p\",nil(\"\"),\"q\",skip(\"q\",nil(\"\")))" }
 {}
 
 /// Seven letters are three pieces, with the short piece first.
@@ -36,7 +37,8 @@ pub fn short_piece_comes_first()
     ensures score { score_of (pieces (codes "aaaaaaa")) pieces_tree ≡ pos 3 }
     ensures same_score { score_of (pieces (codes "aaaaaaa")) later_pieces_tree ≡ pos 3 }
     ensures before { IsBefore (pieces (codes "aaaaaaa")) pieces_tree later_pieces_tree }
-    ensures text { tree_text (pieces (codes "aaaaaaa")) pieces_tree ≡ codes "cut(\"a\",cut(\"aaa\",cut(\"aaa\",stop(\"\"))))" }
+    ensures text { tree_text (pieces (codes "aaaaaaa")) pieces_tree
+        ≡ codes "cut(\"a\",cut(\"aaa\",cut(\"aaa\",stop(\"\"))))" }
 {}
 
 /// Two words that cover the line cost less one way; where each word counts 1, the earlier alternative comes first.

@@ -27,7 +27,8 @@ fn are_word_bytes(bytes: &[u8]) -> bool
     bytes.iter().all(|byte| is_word_byte(*byte))
 }
 
-fn is_word_byte(byte: u8) -> bool
+/// Whether the byte is a letter, a digit or `_`, as all bytes of a word are.
+pub fn is_word_byte(byte: u8) -> bool
     ensures { result ≡ is_word_byte byte }
 {
     byte.is_ascii_alphanumeric() || byte == b'_'

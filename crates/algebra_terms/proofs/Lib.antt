@@ -1,6 +1,5 @@
 pub mod Values
 pub mod ScoreFactors
-pub mod Tokens
 pub mod Numbers
 pub mod Parts
 pub mod PartLists
@@ -8,3 +7,7 @@ pub mod Totals
 pub mod Ranges
 pub mod Spelled
 pub mod SpelledTerms
+pub mod QuotedTexts
+pub mod LineTokens
+pub mod Declared
+pub mod Readings

@@ -1,5 +1,5 @@
 -- Parts that are read one after the other.
-use Rattle.std.proofs.Common.{◌≡◌, Option, Some, None, List, [], ◌∷◌, ◌++◌, map, refl, sym, ◌∙◌, ap, append_assoc}
+use Rattle.std.proofs.Common.{◌≡◌, Option, Some, None, is_some, List, [], ◌∷◌, ◌++◌, map, refl, sym, ◌∙◌, ap, append_assoc}
 use Rattle.std.specs.Option.{option_map}
 use Rattle.std.proofs.lemmas.List.{append-nil, map_push}
 use Rattle.adp_model.specs.TermText.{Part, with_part}
@@ -30,3 +30,7 @@ ends front before all given so_far = sym so_far ∙ rw given (ap (λ (parts : Li
 
 pub fails : (front : List Part) (before all : Option (List Part)) → before ≡ None → with_front front before ≡ all → all ≡ None
 fails front before all given so_far = sym so_far ∙ rw given refl
+
+pub some_with_part : (part : Part) (parts : Option (List Part)) → is_some (with_part part parts) ≡ is_some parts
+some_with_part part None = refl
+some_with_part part (Some others) = refl

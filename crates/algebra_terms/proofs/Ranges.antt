@@ -1,42 +1,14 @@
 -- Which sums of parts are in range.
-use Rattle.std.proofs.Common.{◌≡◌, ℕ, ◌-◌, ◌^◌, ◌<◌, ◌≤◌, ℤ, pos, nat_abs, FitsSigned, w64, Bool, true, false, ◌&&◌, nat_eq, ◌⊎◌, inl, inr, Option, Some, None, unwrap_or, List, [], ◌∷◌, refl, sym, ap, arith}
+use Rattle.std.proofs.Common.{◌≡◌, ℕ, ◌^◌, ◌<◌, pos, nat_abs, FitsSigned, w64, Bool, true, false, ◌&&◌, nat_eq, ◌⊎◌, inl, inr, Option, Some, None, List, [], ◌∷◌, refl, sym, ap, arith}
 use Rattle.std.specs.List.{list_all}
 use Rattle.std.specs.Option.{option_eq}
 use Rattle.std.specs.Cmp.Lexicographic.{same_text}
 use Rattle.std.proofs.lemmas.Int.{fits_signed_from_abs}
 use lib.Pointwise.{pointwise}
 use Rattle.adp_model.specs.WellFormed.{is_in_range}
-use Rattle.adp_model.specs.TermText.{Part, amount_for, total, totals_fit}
-use Rattle.algebra_terms.specs.Reading.{absolute_total}
-use Rattle.algebra_terms.proofs.Values.{nat_abs-sum}
+use Rattle.adp_model.specs.TermText.{Part, total, totals_fit}
 
-amount_small : (variable : Option (List ℕ)) (part : Part) → nat_abs (amount_for variable part) ≤ nat_abs (unwrap_or part.amount (pos 0))
-amount_small variable part = step (option_eq (pointwise nat_eq) part.variable variable) refl
-  where
-    step : (b : Bool) → option_eq (pointwise nat_eq) part.variable variable ≡ b → nat_abs (amount_for variable part) ≤ nat_abs (unwrap_or part.amount (pos 0))
-    step true h = rw h (omega arith)
-    step false h = rw h (omega arith)
-
--- a sum is at most the sum of all absolute values
-total_small : (variable : Option (List ℕ)) (parts : List Part) → nat_abs (total variable parts) ≤ absolute_total parts
-total_small variable [] = omega arith
-total_small variable (part ∷ parts) =
-    omega (arith, nat_abs-sum (amount_for variable part) (total variable parts), amount_small variable part, total_small variable parts)
-
-in_range : (number : ℤ) → nat_abs number < 2 ^ 62 → is_in_range number ≡ true
-in_range number h = grind arith
-
-all_in_range : (all : List Part) → absolute_total all < 2 ^ 62 → (parts : List Part) → list_all (λ (part : Part). is_in_range (total part.variable all)) parts ≡ true
-all_in_range all small [] = refl
-all_in_range all small (part ∷ parts) =
-    let first : nat_abs (total part.variable all) < 2 ^ 62 = omega (arith, total_small part.variable all) in
-    rw (in_range (total part.variable all) first) (all_in_range all small parts)
-
--- small numbers
-pub small_totals_fit : (parts : List Part) → absolute_total parts ≤ 2 ^ 62 - 1 → totals_fit parts ≡ true
-small_totals_fit parts small = all_in_range parts (omega arith) parts
-
-same_variable : (a b : Option (List ℕ)) → option_eq (pointwise nat_eq) a b ≡ true → a ≡ b
+pub same_variable : (a b : Option (List ℕ)) → option_eq (pointwise nat_eq) a b ≡ true → a ≡ b
 same_variable None None h = refl
 same_variable None (Some name) h = cc
 same_variable (Some name) None h = cc

@@ -1,5 +1,5 @@
 -- The term that a canonical spelling's parts make.
-use Rattle.std.proofs.Common.{◌≡◌, ◌≢◌, ℕ, zero, suc, ◌+◌, ◌^◌, ◌<◌, ◌≤◌, ℤ, pos, negsuc, Bool, true, false, ◌&&◌, nat_eq, nat_le, Some, None, Ok, List, [], ◌∷◌, ◌++◌, length, refl, sym, ◌∙◌, ap, arith, lit<, IsTrue}
+use Rattle.std.proofs.Common.{codes, ◌≡◌, ◌≢◌, ℕ, zero, suc, ◌+◌, ◌^◌, ◌<◌, ◌≤◌, ℤ, pos, negsuc, Bool, true, false, ◌&&◌, nat_eq, nat_le, Some, None, Ok, List, [], ◌∷◌, ◌++◌, length, refl, sym, ◌∙◌, ap, arith, lit<, IsTrue}
 use Rattle.std.specs.List.{list_all}
 use Rattle.std.specs.Fmt.{decimal}
 use Rattle.std.specs.Cmp.Lexicographic.{same_text}
@@ -9,11 +9,14 @@ use lib.Pointwise.{pointwise}
 use Rattle.adp_model.specs.declared.grammar.Kind.{Kind}
 use Rattle.adp_model.specs.declared.grammar.Sign.{Sign}
 use Rattle.adp_model.specs.declared.grammar.Linear.{Linear}
-use Rattle.adp_model.specs.WellFormed.{is_name, is_in_range, is_sign, is_term}
+use Rattle.adp_model.specs.WellFormed.{is_word_byte, is_name, is_in_range, is_sign, is_term}
 use Rattle.adp_model.specs.Spelling.{variables, term_text}
-use Rattle.adp_model.specs.TermText.{Part, total, are_names, are_numbers, totals_fit, is_among, are_declared, factor_after, factors_after, term_of_parts, term_reading}
+use Rattle.adp_model.specs.LineTokens.{Token, Word, before_tokens, begins_word, is_one_of, mark_of, tokens_of}
+use Rattle.adp_model.specs.TermText.{Part, total, are_names, are_numbers, totals_fit, is_among, are_declared, factor_after, factors_after}
+use Rattle.adp_model.specs.TermParts.{term_reading}
 use Rattle.algebra_terms.proofs.Spelled.{variable_word, factor_parts, constant_part, decimal_is_word, parts_of_term}
 use Rattle.algebra_terms.proofs.Ranges.{both}
+use Rattle.algebra_terms.proofs.Readings.{made}
 
 list_refl : (text : List ℕ) → pointwise nat_eq text text ≡ true
 list_refl [] = refl
@@ -162,33 +165,35 @@ factors_are number (factor ∷ factors) (kind ∷ kinds) earlier parts same smal
     (λ variable from to. among_none_more earlier (variable_word number) (variable_word variable) (new variable (omega arith) to) (other_variable number variable (omega arith) to (λ e. omega (arith, e)))) in
     ap (λ (first : ℤ). first ∷ factors_after (earlier ++ variable_word number ∷ []) (variables (number + 1) kinds) parts) first ∙ ap (λ (others : List ℤ). factor ∷ others) others
 
--- parts of which nothing is wrong make their term
-made : (parts : List Part) (declared : List (List ℕ)) (term : Linear) → are_names parts ≡ true → are_numbers parts ≡ true → totals_fit parts ≡ true → are_declared declared parts ≡ true
-    → total None parts ≡ term.constant → factors_after [] declared parts ≡ term.factors → term_of_parts declared parts ≡ Ok term
-made parts declared term names numbers fit known constant factors = rw (names, numbers, fit, known, constant, factors) refl
+-- words, marks and spaces before a text
+module _
+    (words : (first : ℕ) (others text : List ℕ) → list_all is_word_byte (first ∷ others) ≡ true → begins_word text ≡ false
+    → tokens_of ((first ∷ others) ++ text) ≡ before_tokens (Word (first ∷ others)) (tokens_of text))
+    (marks : (byte : ℕ) (mark : Token) (text : List ℕ) → mark_of byte ≡ Some mark → tokens_of (byte ∷ text) ≡ before_tokens mark (tokens_of text))
+    (spaces : (byte : ℕ) (text : List ℕ) → is_one_of (codes " ") byte ≡ true → tokens_of (byte ∷ text) ≡ tokens_of text)
+  where
+    -- a term is read from its spelling
+    pub term_is_read : (term : Linear) (kinds : List Kind) → is_in_range term.constant ≡ true → list_all is_in_range term.factors ≡ true → length kinds ≡ length term.factors → length kinds < 2 ^ 62
+        → term_reading (term_text term) (variables 1 kinds) ≡ Ok term
+    term_is_read term kinds fits factors_fit same few =
+        let parts : List Part = constant_part term.constant ∷ factor_parts 1 term.factors in
+        let add_up : AddUpFrom 1 term.factors parts = λ variable from to. +ℤ_idl (total (Some (variable_word variable)) (factor_parts 1 term.factors)) in
+        let constant_is : total None parts ≡ term.constant = rw (adds_no_constant 1 term.factors) (+ℤ_idr term.constant) in
+        let names : are_names parts ≡ true = spelled_names 1 term.factors (omega (arith, same)) in
+        let numbers : are_numbers parts ≡ true = spelled_numbers 1 term.factors in
+        let fit : totals_fit parts ≡ true = rw (constant_is, fits) (all_fit 1 term.factors parts factors_fit (omega (arith, same)) add_up) in
+        let declared : are_declared (variables 1 kinds) parts ≡ true = all_declared 1 term.factors (variables 1 kinds) (λ variable from to. among_variables 1 kinds variable from (omega (arith, same))) in
+        let factors : factors_after [] (variables 1 kinds) parts ≡ term.factors = factors_are 1 term.factors kinds [] parts same (omega (arith, same)) add_up (λ variable from to. refl) in
+        rw (parts_of_term words marks spaces term fits factors_fit (omega (arith, same)))
+        (made parts (variables 1 kinds) term names numbers fit declared constant_is factors)
 
--- a term is read from its spelling
-pub term_is_read : (term : Linear) (kinds : List Kind) → is_in_range term.constant ≡ true → list_all is_in_range term.factors ≡ true → length kinds ≡ length term.factors → length kinds < 2 ^ 62
-    → term_reading (term_text term) (variables 1 kinds) ≡ Ok term
-term_is_read term kinds fits factors_fit same few =
-    let parts : List Part = constant_part term.constant ∷ factor_parts 1 term.factors in
-    let add_up : AddUpFrom 1 term.factors parts = λ variable from to. +ℤ_idl (total (Some (variable_word variable)) (factor_parts 1 term.factors)) in
-    let constant_is : total None parts ≡ term.constant = rw (adds_no_constant 1 term.factors) (+ℤ_idr term.constant) in
-    let names : are_names parts ≡ true = spelled_names 1 term.factors (omega (arith, same)) in
-    let numbers : are_numbers parts ≡ true = spelled_numbers 1 term.factors in
-    let fit : totals_fit parts ≡ true = rw (constant_is, fits) (all_fit 1 term.factors parts factors_fit (omega (arith, same)) add_up) in
-    let declared : are_declared (variables 1 kinds) parts ≡ true = all_declared 1 term.factors (variables 1 kinds) (λ variable from to. among_variables 1 kinds variable from (omega (arith, same))) in
-    let factors : factors_after [] (variables 1 kinds) parts ≡ term.factors = factors_are 1 term.factors kinds [] parts same (omega (arith, same)) add_up (λ variable from to. refl) in
-    rw (parts_of_term term fits factors_fit (omega (arith, same)))
-    (made parts (variables 1 kinds) term names numbers fit declared constant_is factors)
-
-pub sign_term_is_read : (entry : Sign × Linear) → IsTrue (is_sign entry.0) → IsTrue (is_term entry) → term_reading (term_text entry.1) (variables 1 entry.0.kinds) ≡ Ok entry.1
-sign_term_is_read entry sign_fits term_fits =
-    let kinds = entry.0.kinds in
-    let term = entry.1 in
-    let sign = both (is_name entry.0.name && nat_le 1 (length kinds)) (nat_le (length kinds) 4) sign_fits in
-    let parts = both (is_in_range term.constant && list_all is_in_range term.factors) (nat_eq (length term.factors) (length kinds)) term_fits in
-    let numbers = both (is_in_range term.constant) (list_all is_in_range term.factors) parts.0 in
-    let same : length kinds ≡ length term.factors = grind (arith, parts.1) in
-    let few : length kinds ≤ 4 = grind (arith, sign.1) in
-    term_is_read term kinds numbers.0 numbers.1 same (omega arith)
+    pub sign_term_is_read : (entry : Sign × Linear) → IsTrue (is_sign entry.0) → IsTrue (is_term entry) → term_reading (term_text entry.1) (variables 1 entry.0.kinds) ≡ Ok entry.1
+    sign_term_is_read entry sign_fits term_fits =
+        let kinds = entry.0.kinds in
+        let term = entry.1 in
+        let sign = both (is_name entry.0.name && nat_le 1 (length kinds)) (nat_le (length kinds) 4) sign_fits in
+        let parts = both (is_in_range term.constant && list_all is_in_range term.factors) (nat_eq (length term.factors) (length kinds)) term_fits in
+        let numbers = both (is_in_range term.constant) (list_all is_in_range term.factors) parts.0 in
+        let same : length kinds ≡ length term.factors = grind (arith, parts.1) in
+        let few : length kinds ≤ 4 = grind (arith, sign.1) in
+        term_is_read term kinds numbers.0 numbers.1 same (omega arith)

@@ -1,36 +1,21 @@
 -- What the reader of terms has in its hands, seen as what a term's text is made of.
-use Rattle.std.specs.Prelude.{◌≡◌, ℕ, ◌+◌, ℤ, pos, nat_abs, unwrap_or, map, Bool, true, false, ◌==◌, Option, Some, None, Result, Ok, Err, List, [], ◌∷◌, MatchOption, MatchResult}
-use Rattle.std.specs.Option.{option_copied}
+use Rattle.std.specs.Prelude.{◌≡◌, ℕ, ℤ, map, Bool, true, false, Option, Some, None, nat_eq, Result, Ok, Err, List, [], ◌∷◌, MatchOption, MatchResult, if◌then◌else◌}
+use Rattle.std.specs.List.{list_any}
+use Rattle.std.specs.Option.{option_copied, option_eq}
 use Rattle.std.specs.Borrow.{Bor}
 use Rattle.std.specs.Ordering.{nat_cmp}
 use Rattle.std.specs.Cmp.Lexicographic.{slice_cmp}
 use Rattle.std.specs.BTreeMap.{BTreeMap, get_by}
-use Rattle.algebra_terms.specs.declared.token.Token as code_token
-use Rattle.algebra_terms.specs.declared.token.Token.TheVariants as code_tokens
+use lib.Pointwise.{pointwise}
+use Rattle.algebra_terms.specs.declared.lexer.Token as spans
 use Rattle.algebra_terms.specs.declared.part.Part as code_parts
 use Rattle.algebra_terms.specs.declared.error.TermError.{TermError}
 use Rattle.algebra_terms.specs.declared.error.TermError.TheVariants as errors
-use Rattle.adp_model.specs.TermText.{Token, Word, Plus, Minus, Times, Other, Part, tokens, with_part, further_parts, total, TermFault, Shape, Name, Number, Unknown}
+use Rattle.algebra_terms.specs.Tokens.{said}
+use Rattle.adp_model.specs.LineTokens.{Token, Times}
+use Rattle.adp_model.specs.TermParts.{further_parts}
+use Rattle.adp_model.specs.TermText.{Part, with_part, total, TermFault, Shape, Name, Number, Unknown}
 use Rattle.adp_model.specs.declared.grammar.Linear.{Linear}
-
--- a token without where its word lies in memory
-abbrev pub token_of : code_token.Token → Token
-token_of (code_tokens.Word bytes) = Word bytes.now
-token_of code_tokens.Plus = Plus
-token_of code_tokens.Minus = Minus
-token_of code_tokens.Times = Times
-token_of (code_tokens.Other byte) = Other byte
-
--- the first token of a text, and the text after it, where there is one
-abbrev pub IsFirstToken : List ℕ → Option (code_token.Token × Bor (List ℕ)) → Type 0
-IsFirstToken text found = MatchOption found (tokens text ≡ []) (λ first. tokens text ≡ token_of first.0 ∷ tokens first.1.now)
-
-abbrev pub is_space : ℕ → Bool
-is_space byte = byte == 32
-
-abbrev pub begins_with_space : List ℕ → Bool
-begins_with_space [] = false
-begins_with_space (byte ∷ bytes) = is_space byte
 
 -- a part without where its variable lies in memory
 abbrev pub part_of : code_parts.Part → Part
@@ -41,39 +26,47 @@ begins_times [] = false
 begins_times (Times ∷ others) = true
 begins_times (token ∷ others) = false
 
--- the text after the first of these tokens, where that is `*`
-abbrev pub IsAfterTimes : List Token → Option (Bor (List ℕ)) → Type 0
-IsAfterTimes found after = MatchOption after (begins_times found ≡ false) (λ rest. found ≡ Times ∷ tokens rest.now)
+-- the tokens after the first of these tokens of a line, where that is `*`
+abbrev pub IsAfterTimes : List ℕ → List Token → Option (Bor (List spans.Token)) → Type 0
+IsAfterTimes line tokens after =
+    MatchOption after (begins_times tokens ≡ false) (λ rest. tokens ≡ Times ∷ map (said line) rest.now)
 
--- the first of the parts of a text, and the text after it, where there is one
-abbrev pub IsPart : Option (List Part) → Option (code_parts.Part × Bor (List ℕ)) → Type 0
-IsPart parts found = MatchOption found (parts ≡ None) (λ first. parts ≡ with_part (part_of first.0) (further_parts (tokens first.1.now)))
+-- the first of these parts, and the tokens of the line after it, where there is one
+abbrev pub IsPart : List ℕ → Option (List Part) → Option (code_parts.Part × Bor (List spans.Token)) → Type 0
+IsPart line parts found =
+    MatchOption found (parts ≡ None)
+    (λ first. parts ≡ with_part (part_of first.0) (further_parts (map (said line) first.1.now)))
 
 -- the same where there may be none
-abbrev pub IsFurtherPart : Option (List Part) → Result (Option (code_parts.Part × Bor (List ℕ))) TermError → Type 0
-IsFurtherPart parts result =
+abbrev pub IsFurtherPart : List ℕ → Option (List Part)
+    → Result (Option (code_parts.Part × Bor (List spans.Token))) TermError → Type 0
+IsFurtherPart line parts result =
     MatchResult result
-    (λ found. MatchOption found (parts ≡ Some []) (λ first. parts ≡ with_part (part_of first.0) (further_parts (tokens first.1.now))))
+    (λ found. MatchOption found (parts ≡ Some [])
+    (λ first. parts ≡ with_part (part_of first.0) (further_parts (map (said line) first.1.now))))
     (λ error. (error ≡ errors.Shape) × (parts ≡ None))
 
--- the parts of a text, or that it has none; want of memory aside
-abbrev pub GivesParts : {X : Type 0} → (X → List Part) → Option (List Part) → Result X TermError → Type 0
-GivesParts view parts (Ok found) = parts ≡ Some (view found)
-GivesParts view parts (Err errors.Shape) = parts ≡ None
-GivesParts view parts (Err errors.Memory) = Unit {0}
-GivesParts view parts (Err error) = ⊥
+-- there are no parts; of want of memory nothing is said
+abbrev pub IsMissing : Option (List Part) → TermError → Type 0
+IsMissing parts errors.Shape = parts ≡ None
+IsMissing parts errors.Memory = Unit {0}
+IsMissing parts error = ⊥
 
 abbrev pub parts_seen : List code_parts.Part → List Part
 parts_seen parts = map part_of parts
 
--- the absolute values of all amounts, added up
-abbrev pub absolute_total : List Part → ℕ
-absolute_total [] = 0
-absolute_total (part ∷ parts) = nat_abs (unwrap_or part.amount (pos 0)) + absolute_total parts
+-- the part is one of this variable
+abbrev pub is_part_of : List ℕ → Part → Bool
+is_part_of variable part = option_eq (pointwise nat_eq) part.variable (Some variable)
 
--- at each variable what the parts add to it
+-- what the parts add to a variable, where one of them has it
+abbrev pub factor_in : List Part → List ℕ → Option ℤ
+factor_in parts variable = if list_any (is_part_of variable) parts then Some (total (Some variable) parts) else None
+
+-- the map has what the parts add to each of their variables
 abbrev pub AreTotals : BTreeMap (Bor (List ℕ)) ℤ → List Part → Type 0
-AreTotals totals parts = (name : List ℕ) → unwrap_or (get_by (λ key. slice_cmp nat_cmp name key.now) totals) (pos 0) ≡ total (Some name) parts
+AreTotals totals parts =
+    (variable : List ℕ) → get_by (λ key. slice_cmp nat_cmp variable key.now) totals ≡ factor_in parts variable
 
 -- what a text spells or the first that is wrong with it; want of memory aside
 abbrev pub Gives : Result Linear TermFault → Result Linear TermError → Type 0

@@ -21,7 +21,8 @@ fn score_factors_from(least: i64, factors: &[i64], kinds: &[Kind]) -> bool
     true
 }
 
-/// Whether a better score argument never makes the term's value worse: the factor of each is at least 0. Takes no memory.
+/// Whether a better score argument never makes the term's value worse: the factor of each is at least 0. Takes no
+/// memory.
 pub fn monotone(term: &Linear, kinds: &[Kind]) -> bool
     requires { length kinds.now ≡ length term.now.factors }
     ensures { IsTrue result ↔ IsMonotone term.now kinds.now }

@@ -1,10 +1,14 @@
-ghost use Rattle.std.specs.Prelude.{◌≡◌, ◌<◌, ◌≤◌, ◌^◌, ◌∷◌, true, length, map, IfOk, IfSome, Some};
+ghost use Rattle.std.specs.Prelude.{◌≡◌, ◌<◌, ◌^◌, ◌∷◌, true, length, map, is_some, All, IfOk, IfSome, Some, MatchResult};
+ghost use Rattle.adp_model.specs.LineTokens as lines;
+ghost use Rattle.adp_model.specs.TermParts as parts;
 ghost use Rattle.adp_model.specs.TermText as terms;
-ghost use Rattle.algebra_terms.specs.Reading.{IsAfterTimes, IsPart, IsFurtherPart, GivesParts, part_of};
+ghost use Rattle.algebra_terms.specs.Reading.{IsAfterTimes, IsPart, IsFurtherPart, IsMissing, parts_seen};
+ghost use Rattle.algebra_terms.specs.Tokens.{IsIn, said};
 
 use crate::error::TermError;
+use crate::lexer::Token;
 use crate::number::{begins_number, number_of};
-use crate::token::{Token, next_token};
+use crate::symbols::{Symbol, split_symbol};
 use std::alloc::Global;
 
 /// A constant, and a part for each variable of the greatest sign: room for these saves growing.
@@ -36,14 +40,22 @@ fn amount_of(negative: bool, word: &[u8]) -> Option<i64>
     Some(signed(negative, number))
 }
 
-/// A number times the variable that the text begins with, and the text after it.
-fn multiple_at<'a>(negative: bool, number: &[u8], text: &'a [u8]) -> Option<(Part<'a>, &'a [u8])>
-    requires { terms.begins_number number.now ≡ true }
-    ensures part { IsPart (terms.parts_from negative (terms.Word number.now ∷ terms.Times ∷ terms.tokens text.now)) result }
-    ensures shorter { IfSome result (λ found. length found.1.now < length text.now) }
+/// A number times the variable that is the first of these tokens of a line, and the tokens after it.
+fn multiple_at<'a, 'b>(
+    negative: bool,
+    number: &[u8],
+    line: &'a [u8],
+    tokens: &'b [Token],
+) -> Option<(Part<'a>, &'b [Token])>
+    requires number { terms.begins_number number.now ≡ true }
+    requires spans { All (IsIn line.now) tokens.now }
+    ensures part { IsPart line.now
+        (parts.parts_from negative (lines.Word number.now ∷ lines.Times ∷ map (said line.now) tokens.now)) result }
+    ensures within { IfSome result (λ found. All (IsIn line.now) found.1.now) }
+    ensures shorter { IfSome result (λ found. length found.1.now < length tokens.now) }
 {
-    let (token, rest) = next_token(text)?;
-    let Token::Word(variable) = token else {
+    let (symbol, rest) = split_symbol(line, tokens)?;
+    let Symbol::Word(variable) = symbol else {
         return None;
     };
     if begins_number(variable) {
@@ -54,24 +66,32 @@ fn multiple_at<'a>(negative: bool, number: &[u8], text: &'a [u8]) -> Option<(Par
     Some((Part { variable, amount }, rest))
 }
 
-/// The text after the `*` that it begins with.
-fn after_times(text: &[u8]) -> Option<&[u8]>
-    ensures times { IsAfterTimes (terms.tokens text.now) result }
-    ensures shorter { IfSome result (λ rest. length rest.now < length text.now) }
+/// The tokens after the `*` that is the first of these.
+fn after_times<'b>(line: &[u8], tokens: &'b [Token]) -> Option<&'b [Token]>
+    requires { All (IsIn line.now) tokens.now }
+    ensures times { IsAfterTimes line.now (map (said line.now) tokens.now) result }
+    ensures within { IfSome result (λ rest. All (IsIn line.now) rest.now) }
+    ensures shorter { IfSome result (λ rest. length rest.now < length tokens.now) }
 {
-    match next_token(text)? {
-        (Token::Times, rest) => Some(rest),
+    match split_symbol(line, tokens)? {
+        (Symbol::Times, rest) => Some(rest),
         _ => None,
     }
 }
 
-/// The part that the text begins with, and the text after it.
-fn part_at(negative: bool, text: &[u8]) -> Option<(Part<'_>, &[u8])>
-    ensures part { IsPart (terms.parts_from negative (terms.tokens text.now)) result }
-    ensures shorter { IfSome result (λ found. length found.1.now < length text.now) }
+/// The part that these tokens of a line begin with, and the tokens after it.
+fn part_at<'a, 'b>(
+    negative: bool,
+    line: &'a [u8],
+    tokens: &'b [Token],
+) -> Option<(Part<'a>, &'b [Token])>
+    requires { All (IsIn line.now) tokens.now }
+    ensures part { IsPart line.now (parts.parts_from negative (map (said line.now) tokens.now)) result }
+    ensures within { IfSome result (λ found. All (IsIn line.now) found.1.now) }
+    ensures shorter { IfSome result (λ found. length found.1.now < length tokens.now) }
 {
-    let (token, rest) = next_token(text)?;
-    let Token::Word(word) = token else {
+    let (symbol, rest) = split_symbol(line, tokens)?;
+    let Symbol::Word(word) = symbol else {
         return None;
     };
     if !begins_number(word) {
@@ -79,8 +99,8 @@ fn part_at(negative: bool, text: &[u8]) -> Option<(Part<'_>, &[u8])>
         let amount = Some(signed(negative, 1));
         return Some((Part { variable, amount }, rest));
     }
-    if let Some(after) = after_times(rest) {
-        return multiple_at(negative, word, after);
+    if let Some(after) = after_times(line, rest) {
+        return multiple_at(negative, word, line, after);
     }
     let amount = amount_of(negative, word);
     Some((
@@ -92,29 +112,36 @@ fn part_at(negative: bool, text: &[u8]) -> Option<(Part<'_>, &[u8])>
     ))
 }
 
-/// The first part of the text of a term, and the text after it.
-fn first_part(text: &[u8]) -> Option<(Part<'_>, &[u8])>
-    ensures part { IsPart (terms.parts_of (terms.tokens text.now)) result }
-    ensures shorter { IfSome result (λ found. length found.1.now < length text.now) }
+/// The first part of the term that these tokens of a line spell, and the tokens after it.
+fn first_part<'a, 'b>(line: &'a [u8], tokens: &'b [Token]) -> Option<(Part<'a>, &'b [Token])>
+    requires { All (IsIn line.now) tokens.now }
+    ensures part { IsPart line.now (parts.parts_of (map (said line.now) tokens.now)) result }
+    ensures within { IfSome result (λ found. All (IsIn line.now) found.1.now) }
+    ensures shorter { IfSome result (λ found. length found.1.now < length tokens.now) }
 {
-    match next_token(text) {
-        Some((Token::Minus, rest)) => part_at(true, rest),
-        _ => part_at(false, text),
+    match split_symbol(line, tokens) {
+        Some((Symbol::Minus, rest)) => part_at(true, line, rest),
+        _ => part_at(false, line, tokens),
     }
 }
 
-/// A further part behind its sign, and the text after it; `None` at the end of the text.
-fn further_part(text: &[u8]) -> Result<Option<(Part<'_>, &[u8])>, TermError>
-    ensures part { IsFurtherPart (terms.further_parts (terms.tokens text.now)) result }
-    ensures shorter { IfOk result (λ next. IfSome next (λ found. length found.1.now < length text.now)) }
+/// A further part behind its sign, and the tokens after it; `None` where there is no token.
+fn further_part<'a, 'b>(
+    line: &'a [u8],
+    tokens: &'b [Token],
+) -> Result<Option<(Part<'a>, &'b [Token])>, TermError>
+    requires { All (IsIn line.now) tokens.now }
+    ensures part { IsFurtherPart line.now (parts.further_parts (map (said line.now) tokens.now)) result }
+    ensures within { IfOk result (λ next. IfSome next (λ found. All (IsIn line.now) found.1.now)) }
+    ensures shorter { IfOk result (λ next. IfSome next (λ found. length found.1.now < length tokens.now)) }
 {
-    let Some((token, rest)) = next_token(text) else {
+    let Some((symbol, rest)) = split_symbol(line, tokens) else {
         return Ok(None);
     };
-    let found = match token {
-        Token::Plus => part_at(false, rest),
-        Token::Minus => part_at(true, rest),
-        Token::Word(_) | Token::Times | Token::Other(_) => None,
+    let found = match symbol {
+        Symbol::Plus => part_at(false, line, rest),
+        Symbol::Minus => part_at(true, line, rest),
+        _ => None,
     };
     match found {
         None => Err(TermError::Shape),
@@ -122,16 +149,40 @@ fn further_part(text: &[u8]) -> Result<Option<(Part<'_>, &[u8])>, TermError>
     }
 }
 
-/// The parts of the text of a term, in order. Shape where it is none.
-pub fn read_parts(alloc: Global, text: &[u8]) -> Result<Vec<Part<'_>>, TermError>
-    ensures { GivesParts (λ parts. map part_of parts.items) (terms.parts_of (terms.tokens text.now)) result }
+/// Whether these tokens of a line spell a term. Takes no memory.
+pub fn is_term(line: &[u8], tokens: &[Token]) -> bool
+    requires { All (IsIn line.now) tokens.now }
+    ensures { result ≡ is_some (parts.parts_of (map (said line.now) tokens.now)) }
+{
+    let Some((_, mut rest)) = first_part(line, tokens) else {
+        return false;
+    };
+    loop {
+        match further_part(line, rest) {
+            Ok(Some((_, after))) => rest = after,
+            Ok(None) => return true,
+            Err(_) => return false,
+        }
+    }
+}
+
+/// The parts of the term that these tokens of a line spell, in order. Shape where they spell none.
+pub fn read_parts<'a>(
+    alloc: Global,
+    line: &'a [u8],
+    tokens: &[Token],
+) -> Result<Vec<Part<'a>>, TermError>
+    requires { All (IsIn line.now) tokens.now }
+    ensures { MatchResult result
+        (λ found. parts.parts_of (map (said line.now) tokens.now) ≡ Some (parts_seen found.items))
+        (λ error. IsMissing (parts.parts_of (map (said line.now) tokens.now)) error) }
 {
     let mut parts = Vec::with_capacity(alloc, USUAL_PARTS)?;
-    let Some((first, mut rest)) = first_part(text) else {
+    let Some((first, mut rest)) = first_part(line, tokens) else {
         return Err(TermError::Shape);
     };
     parts.push(first)?;
-    while let Some((part, after)) = further_part(rest)? {
+    while let Some((part, after)) = further_part(line, rest)? {
         parts.push(part)?;
         rest = after;
     }

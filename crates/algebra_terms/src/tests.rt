@@ -1,7 +1,7 @@
-ghost use Rattle.std.specs.Prelude.{◌≡◌, IfOk};
+ghost use Rattle.std.specs.Prelude.{◌≡◌, ◌≤◌, ◌^◌, length, IfOk};
 ghost use Rattle.adp_model.specs.Printable.{IsPrintable};
 
-use crate::{TermError, eval, monotone, read_term, strict};
+use crate::{TermError, Token, TokenKind, eval, is_term, line_tokens, monotone, read_term, strict};
 use adp_model::{Kind, Linear, Sequence, Text};
 use std::alloc::{AllocError, Global};
 use std::test::Fail;
@@ -20,7 +20,9 @@ fn term(alloc: Global, constant: i64, factors: &[i64]) -> Result<Linear, AllocEr
 }
 
 /// The constant and the first two factors, where the variables are `x`, `y` and `x` again, whose factor is 0.
-fn spelled(alloc: Global, spelling: &str) -> Result<(i64, i64, i64), TermError> {
+fn spelled(alloc: Global, spelling: &str) -> Result<(i64, i64, i64), TermError>
+    requires { length spelling.now ≤ 2 ^ 31 }
+{
     let mut vars = Vec::new(alloc);
     vars.push(text(alloc, b"x")?)?;
     vars.push(text(alloc, b"y")?)?;
@@ -37,65 +39,41 @@ const GREATEST: i64 = 4_611_686_018_427_387_903;
 #[test]
 fn spellings(rt: HostRuntime) {
     let spellings = [
-        ("0", Ok((0, 0, 0))),
-        ("7", Ok((7, 0, 0))),
-        ("-7", Ok((-7, 0, 0))),
-        ("  -  7  ", Ok((-7, 0, 0))),
-        ("007", Ok((7, 0, 0))),
-        (
-            "0000000000000000000000000000000000000000000000007",
-            Ok((7, 0, 0)),
-        ),
-        ("x", Ok((0, 1, 0))),
-        ("-x", Ok((0, -1, 0))),
-        ("3*x", Ok((0, 3, 0))),
+        ("  -  007  ", Ok((-7, 0, 0))),
         (" 3 * x ", Ok((0, 3, 0))),
-        ("0*x", Ok((0, 0, 0))),
-        ("x+x", Ok((0, 2, 0))),
-        ("x-x", Ok((0, 0, 0))),
-        ("2*x+3*x", Ok((0, 5, 0))),
-        ("1+2*x-3*y", Ok((1, 2, -3))),
-        ("1 + 2 * x - 3 * y", Ok((1, 2, -3))),
-        ("y+x", Ok((0, 1, 1))),
-        ("1-2+3", Ok((2, 0, 0))),
-        ("-1-2*x", Ok((-1, -2, 0))),
-        ("4611686018427387903", Ok((GREATEST, 0, 0))),
-        ("-4611686018427387903", Ok((-GREATEST, 0, 0))),
-        ("4611686018427387903+1-1", Ok((GREATEST, 0, 0))),
+        ("2*x+3*x-y", Ok((0, 5, -1))),
         ("-4611686018427387903*x-x+x", Ok((0, -GREATEST, 0))),
         ("", Err(TermError::Shape)),
-        ("  ", Err(TermError::Shape)),
-        ("1+", Err(TermError::Shape)),
         ("+1", Err(TermError::Shape)),
-        ("--1", Err(TermError::Shape)),
-        ("1 2", Err(TermError::Shape)),
-        ("x*2", Err(TermError::Shape)),
-        ("2*3", Err(TermError::Shape)),
-        ("2*x*y", Err(TermError::Shape)),
-        ("1/2", Err(TermError::Shape)),
-        ("(1)", Err(TermError::Shape)),
-        ("1\t+2", Err(TermError::Shape)),
-        ("_x+", Err(TermError::Shape)),
-        ("_x", Err(TermError::Name)),
-        ("x23456789012345678901234567890123", Err(TermError::Name)),
+        ("1 + ..", Err(TermError::Shape)),
+        ("x + \"y", Err(TermError::Shape)),
         ("_x + 9y + z", Err(TermError::Name)),
-        ("9x", Err(TermError::Number)),
-        ("9x*y", Err(TermError::Number)),
-        ("4611686018427387904", Err(TermError::Number)),
-        ("4611686018427387903+1", Err(TermError::Number)),
-        ("-4611686018427387903*x-x", Err(TermError::Number)),
+        ("9x*y + z", Err(TermError::Number)),
         ("4611686018427387903*z+z", Err(TermError::Number)),
-        (
-            "1000000000000000000000000000000000000000000000000000000000000000000000000000000000000000000000000000\
-             0000000000000000000000000000000000000000000000000000000000000000000000000000000000000000000000000000",
-            Err(TermError::Number),
-        ),
-        ("z", Err(TermError::Unknown)),
         ("1 + 2*x + X", Err(TermError::Unknown)),
     ];
     for (spelling, want) in spellings {
         assert_eq!(rt; spelled(rt.alloc(), spelling), want, "{spelling:?}");
     }
+}
+
+#[test]
+fn lines_have_tokens(rt: HostRuntime) -> Result<(), Fail> {
+    let line = b"r =\"\\\"\" 1..";
+    let found = line_tokens(rt.alloc(), line)?.expect(&rt, "each byte belongs to a token");
+    let want = [
+        (TokenKind::Word, 0, 1),
+        (TokenKind::Mark, 2, 3),
+        (TokenKind::Quoted, 3, 7),
+        (TokenKind::Word, 8, 9),
+        (TokenKind::Dots, 9, 11),
+    ];
+    assert_eq!(rt; found.len(), want.len());
+    for (token, (kind, from, to)) in found.iter().zip(want) {
+        assert_eq!(rt; *token, Token { kind, from, to });
+    }
+    assert!(rt; !is_term(line, &found));
+    Ok(())
 }
 
 #[test]

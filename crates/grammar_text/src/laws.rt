@@ -1,15 +1,3 @@
-//! What follows from the definitions. Each law is the contract of a function with an empty body.
+//! What follows from the definitions of texts. Each law is the contract of a function with an empty body.
 
-ghost use Rattle.std.specs.Prelude.{◌≡◌};
-ghost use Rattle.adp_model.specs.declared.job.Job.{Job};
-ghost use Rattle.adp_model.specs.Small.{IsSmall};
-ghost use Rattle.adp_model.specs.Spelling.{spelling};
-
-use algebra_terms::laws::spelled_terms_are_read;
-
-/// No two small jobs have one canonical spelling.
-pub fn spellings_differ()
-    ensures { (a b : Job) → IsSmall a → IsSmall b → spelling a ≡ spelling b → (a.grammar ≡ b.grammar) × (a.words ≡ b.words) }
-{
-    spelled_terms_are_read();
-}
+pub mod verdicts;

@@ -2,8 +2,6 @@
 #![tactic(auto)]
 
 pub mod laws;
-mod small_reader;
 mod writer;
 
-pub use small_reader::{SmallError, read_small};
 pub use writer::write_text;

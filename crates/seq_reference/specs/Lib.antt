@@ -1,4 +1,8 @@
-pub mod Solves
-pub mod Matching
-pub mod Marking
-pub mod Answering
+pub mod Choices
+pub mod Choosing
+pub mod Known
+pub mod KnownFields
+pub mod Listing
+pub mod ListingFields
+pub mod Scores
+pub mod SolvedFields

@@ -1,17 +1,22 @@
-//! The answers of a small job's word, on one thread: a sweep from the front marks the demanded cells, and a sweep
-//! from the end answers them.
+//! The answers of a problem's demanded cells, on one thread: one sweep finds the demanded cells from the axiom's cell
+//! on, and one sweep answers them by length and rank.
 #![tactic(auto)]
 
-mod choosing;
+mod answering;
+mod cell_set;
+mod choices;
+mod demand;
 mod filling;
-mod marking;
-mod matching;
+mod known_scores;
+mod order;
 mod parts;
+mod score;
 mod solved;
 mod solving;
-#[cfg(test)]
-mod tests;
 mod tokens;
+mod values;
 
+pub use answering::cell_answer;
+pub use known_scores::KnownScores;
 pub use solved::Solved;
 pub use solving::solve;

@@ -1,42 +1,70 @@
-ghost use Rattle.std.specs.Prelude.{◌≡◌, ◌<◌, [], length};
-ghost use Rattle.adp_model.specs.Parts.{algebra_of, alternatives_of, alternative_at, arguments_of, term_of};
-ghost use Rattle.seq_reference.specs.Matching.{problem_of};
+ghost use Rattle.std.specs.Prelude.{◌≡◌, ◌<◌, length};
+ghost use Rattle.adp_model.specs.PosedProblem.{IsSpan};
+ghost use Rattle.adp_model.specs.Parts.{letters_of, alternatives_of, arguments_of, algebra_of, term_of};
+ghost use Rattle.adp_model.specs.Tokens.{letters_between};
 
-use adp_model::{Algebra, Alt, Arg, Grammar, Linear};
+use adp_model::{Algebra, Alt, Arg, Goal, Linear, Problem};
 
-/// The only algebra.
-pub fn only_algebra(grammar: &Grammar) -> &Algebra
-    requires { 0 < length grammar.now.algebras }
-    ensures { result.now ≡ algebra_of (problem_of grammar.now []) }
+/// The letters of a class, each with its weight.
+pub fn class_letters<'a>(problem: &'a Problem, class: u32) -> &'a [(u8, i64)]
+    requires { class < length problem.now.grammar.classes }
+    ensures { result.now ≡ letters_of problem.now.grammar class }
 {
-    &grammar.algebras.as_slice()[0]
+    problem.grammar.classes.as_slice()[class as usize]
+        .letters
+        .as_slice()
 }
 
-/// The alternatives of the only rule.
-pub fn alternatives(grammar: &Grammar) -> &[Alt]
-    requires { 0 < length grammar.now.rules }
-    ensures { result.now ≡ alternatives_of grammar.now 0 }
+/// The alternatives of a rule.
+pub fn alternatives<'a>(problem: &'a Problem, rule: u32) -> &'a [Alt]
+    requires { rule < length problem.now.grammar.rules }
+    ensures { result.now ≡ alternatives_of problem.now.grammar rule }
 {
-    grammar.rules.as_slice()[0].alts.as_slice()
+    problem.grammar.rules.as_slice()[rule as usize]
+        .alts
+        .as_slice()
 }
 
-/// The arguments of an alternative of the only rule.
-pub fn arguments(grammar: &Grammar, number: usize) -> &[Arg]
-    requires rule { 0 < length grammar.now.rules }
-    requires numbered { number < length (alternatives_of grammar.now 0) }
-    ensures { result.now ≡ arguments_of grammar.now 0 number }
+/// The arguments of an alternative.
+pub fn arguments<'a>(problem: &'a Problem, rule: u32, alternative: u8) -> &'a [Arg]
+    requires rule { rule < length problem.now.grammar.rules }
+    requires alternative { alternative < length (alternatives_of problem.now.grammar rule) }
+    ensures { result.now ≡ arguments_of problem.now.grammar rule alternative }
 {
-    alternatives(grammar)[number].args.as_slice()
+    alternatives(problem, rule)[alternative as usize]
+        .args
+        .as_slice()
 }
 
-/// The term of an alternative of the only rule, in the only algebra.
-pub fn term(grammar: &Grammar, number: usize) -> &Linear
-    requires algebra { 0 < length grammar.now.algebras }
-    requires rule { 0 < length grammar.now.rules }
-    requires numbered { number < length (alternatives_of grammar.now 0) }
-    requires sign { (alternative_at grammar.now 0 number).sign < length (algebra_of (problem_of grammar.now [])).terms }
-    ensures { result.now ≡ term_of (problem_of grammar.now []) 0 number }
+/// The algebra.
+fn algebra<'a>(problem: &'a Problem) -> &'a Algebra
+    ensures { result.now ≡ algebra_of problem.now }
 {
-    let sign = alternatives(grammar)[number].sign as usize;
-    &only_algebra(grammar).terms.as_slice()[sign]
+    &problem.grammar.algebras.as_slice()[problem.algebra as usize]
+}
+
+/// Which scores are better.
+pub fn goal(problem: &Problem) -> Goal
+    ensures { result ≡ (algebra_of problem.now).goal }
+{
+    algebra(problem).goal
+}
+
+/// The term of an alternative.
+pub fn term<'a>(problem: &'a Problem, rule: u32, alternative: u8) -> &'a Linear
+    requires rule { rule < length problem.now.grammar.rules }
+    requires alternative { alternative < length (alternatives_of problem.now.grammar rule) }
+    ensures { result.now ≡ term_of problem.now rule alternative }
+{
+    problem.admissible();
+    let sign = alternatives(problem, rule)[alternative as usize].sign;
+    &algebra(problem).terms.as_slice()[sign as usize]
+}
+
+/// The letters of a span of the word.
+pub fn letters<'a>(problem: &'a Problem, from: u16, to: u16) -> &'a [u8]
+    requires { IsSpan problem.now.word from to }
+    ensures { result.now ≡ letters_between problem.now.word from to }
+{
+    &problem.word.bytes()[from as usize..to as usize]
 }

@@ -1,55 +1,70 @@
-ghost use Rattle.std.specs.Prelude.{◌≡◌};
-ghost use Rattle.seq_reference.specs.Solves.{answer_of, cells_of};
+ghost use Rattle.std.specs.Prelude.{◌≡◌, ◌↔◌, IfSome, IsSome, length};
+ghost use Rattle.adp_model.specs.declared.cell.Cell.{Cell};
+ghost use Rattle.adp_model.specs.Answers.{IsAnswer};
+ghost use Rattle.adp_model.specs.Demand.{IsDemanded, IsDemandedCount};
+ghost use Rattle.seq_reference.specs.Known.{Knows};
 
-use adp_model::{Answer, Cell};
+use crate::answering::cell_answer;
+use crate::known_scores::KnownScores;
+use adp_model::{Answer, Answers, Cell, Problem};
 use std::marker::Model;
 
-/// The answers of a word's demanded cells. Contracts see it as the list of the answers by position: position i
-/// stands for the only rule from i to the end of the word, and has `None` where that cell is not demanded.
+/// The answers of a problem's demanded cells. Contracts see it as the problem.
 #[derive(Drop)]
-pub struct Solved {
-    answers: Vec<Option<Answer>>,
+pub struct Solved<'a> {
+    problem: &'a Problem<'a>,
+    scores: KnownScores<'a>,
     cells: u64,
 }
 
-impl Model for Solved {
-    ghost use Rattle.std.specs.Prelude.{◌≡◌, List, Option};
-    ghost use Rattle.adp_model.specs.declared.cell.Answer.{Answer};
-    ghost use Rattle.seq_reference.specs.Solves.{cells_of};
+impl<'a> Model for Solved<'a> {
+    ghost use Rattle.adp_model.specs.PosedProblem.{PosedProblem};
 
-    ghost Value = { List (Option Answer) };
+    ghost Value = { PosedProblem };
 
-    ghost view = { λ solved. solved.answers.items };
+    ghost use Rattle.seq_reference.specs.SolvedFields.{AreSolved};
 
-    ghost invariant = { λ solved. solved.cells ≡ cells_of solved.answers.items };
+    ghost view = { λ solved. solved.problem.now };
+
+    ghost invariant = { AreSolved };
 }
 
-impl Solved {
-    /// The solution with these answers by position.
-    pub(crate) fn new(answers: Vec<Option<Answer>>) -> Solved
-        ensures { result ≡ answers.items }
+impl<'a> Solved<'a> {
+    /// The solution with these scores of the demanded cells, and their number.
+    pub(crate) fn new(problem: &'a Problem<'a>, scores: KnownScores<'a>, cells: u64) -> Solved<'a>
+        requires same_problem { scores.problem ≡ problem.now }
+        requires known { (cell : Cell) → Knows scores cell ↔ IsDemanded problem.now cell }
+        requires counted { IsDemandedCount problem.now cells }
+        ensures { result ≡ problem.now }
     {
-        let cells = answers.iter().filter(|answer| answer.is_some()).count() as u64;
-        Solved { answers, cells }
-    }
-
-    /// The answer of a demanded cell. `None` for every other cell. Takes no memory.
-    pub fn answer(&self, cell: Cell) -> Option<Answer>
-        ensures { result ≡ answer_of self.now cell }
-    {
-        if cell.rule != 0 || cell.to as usize + 1 != self.answers.len() {
-            return None;
-        }
-        match self.answers.get(cell.from as usize) {
-            Some(answer) => *answer,
-            None => None,
+        Solved {
+            problem,
+            scores,
+            cells,
         }
     }
 
     /// How many cells are demanded. Takes no memory.
     pub fn cells(&self) -> u64
-        ensures { result ≡ cells_of self.now }
+        ensures { IsDemandedCount self.now result }
     {
         self.cells
+    }
+}
+
+impl<'a> Answers for Solved<'a> {
+    ghost problem = { λ problem. problem };
+
+    /// The answer of a demanded cell, found again among its splits, and `None` for every other cell.
+    fn answer(&self, cell: Cell) -> Option<Answer>
+        ensures told { IfSome result (λ answer. IsAnswer self.now cell answer) }
+        ensures demanded { IsDemanded self.now cell → IsSome result }
+        ensures only { IsSome result → IsDemanded self.now cell }
+    {
+        if self.scores.knows(cell) {
+            Some(cell_answer(self.problem, &self.scores, cell))
+        } else {
+            None
+        }
     }
 }

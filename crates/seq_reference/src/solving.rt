@@ -1,24 +1,19 @@
-ghost use Rattle.std.specs.Prelude.{IfOk};
-ghost use Rattle.seq_reference.specs.Solves.{Solves};
+ghost use Rattle.std.specs.Prelude.{◌≡◌, IfOk};
 
-use crate::filling::filled_answers;
-use crate::marking::reached_positions;
+use crate::demand::demanded_cells;
+use crate::filling::filled_scores;
+use crate::order::sort_by_height;
 use crate::solved::Solved;
 use adp_model::Problem;
-use adp_model::laws::bellman::bellman_small;
-use adp_model::laws::small::{demand_of_small_jobs, demanded_count_of_small_jobs};
 use std::alloc::{AllocError, Global};
 
-/// The answers of the problem's demanded cells. Linear in the word. Fails for want of memory alone.
-pub fn solve(alloc: Global, problem: &Problem) -> Result<Solved, AllocError>
-    ensures { IfOk result (λ solved. Solves problem.now solved) }
+/// The answers of the problem's demanded cells. Fails for want of memory alone. Its time is in proportion to the viable
+/// splits of these cells, but for sorting them by length and rank.
+pub fn solve<'a>(alloc: Global, problem: &'a Problem<'a>) -> Result<Solved<'a>, AllocError>
+    ensures { IfOk result (λ solved. solved ≡ problem.now) }
 {
-    bellman_small();
-    demand_of_small_jobs();
-    demanded_count_of_small_jobs();
-    let grammar = &problem.grammar;
-    let letters = problem.word.bytes();
-    let marks = reached_positions(alloc, grammar, letters)?;
-    let answers = filled_answers(alloc, grammar, letters, &marks)?;
-    Ok(Solved::new(answers))
+    let mut cells = demanded_cells(alloc, problem)?;
+    sort_by_height(problem, &mut cells);
+    let scores = filled_scores(alloc, problem, &cells)?;
+    Ok(Solved::new(problem, scores, cells.len() as u64))
 }

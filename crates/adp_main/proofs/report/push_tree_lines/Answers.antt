@@ -2,8 +2,8 @@ use Rattle.std.proofs.Common.{List, [], ◌∷◌, ◌++◌, codes, ap, ◌∙�
 use Rattle.std.proofs.lemmas.Int.{to_z-of_z}
 use mir.Syntax.{w64}
 use Rattle.std.specs.Fmt.{signed_decimal}
-use Rattle.adp_model.specs.TreeText.{tree_text}
-use Rattle.adp_model.specs.Report.{line}
+use Rattle.small_model.specs.TreeText.{tree_text}
+use Rattle.small_model.specs.Report.{line}
 use Rattle.adp_main.proofs.Reports.{two_lines}
 use Rattle.adp_main.proofs.report.push_tree_lines.Goals as goal
 

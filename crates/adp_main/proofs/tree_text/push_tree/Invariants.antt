@@ -1,8 +1,8 @@
 use Rattle.std.proofs.Common.{◌++◌}
-use Rattle.adp_model.specs.Instance.{axiom_cell}
-use Rattle.adp_model.specs.Tree.{Tree}
-use Rattle.adp_model.specs.TreeText.{tree_text}
-use Rattle.adp_model.specs.Preference.{IsPreferred}
+use Rattle.small_model.specs.PosedProblem.{axiom_cell}
+use Rattle.small_model.specs.Tree.{Tree}
+use Rattle.small_model.specs.TreeText.{tree_text}
+use Rattle.small_model.specs.Preference.{IsPreferred}
 use Rattle.adp_main.specs.TreeWriting.{Remains, IsDepth, nodes_left}
 use Rattle.adp_main.proofs.tree_text.push_tree.Given as goal
 

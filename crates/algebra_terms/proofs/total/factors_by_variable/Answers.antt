@@ -6,10 +6,8 @@ use Rattle.std.specs.BTreeMap.{get_by}
 use Rattle.std.specs.Int.Signed.{nat_abs-le}
 use Rattle.std.proofs.lemmas.Int.{to_z-of_z}
 use Rattle.std.proofs.lemmas.Map.Text.{btree_map_updates_str}
-use Rattle.std.proofs.Math.IntN.{+ℤ_idr}
-use Rattle.adp_model.specs.TermText.{total}
 use Rattle.algebra_terms.specs.Reading.{part_of, parts_seen}
-use Rattle.algebra_terms.proofs.Totals.{seen_more, total_push, plain_adds_none, totals_more, small_more, sum_fits, sum_is}
+use Rattle.algebra_terms.proofs.Totals.{seen_more, other_part, no_part, totals_more, small_more, sum_fits, sum_is}
 use Rattle.algebra_terms.proofs.total.factors_by_variable.Goals as goal
 
 pub overflow_add-before : goal.overflow_add-before
@@ -33,8 +31,8 @@ loop-part-preserved-in_default c =
     let plain : (part_of part).variable ≡ None = rw c.in_default.is refl in
     record {
       exact = λ name.
-          rw (seen_more c.args.parts.now i (record { variable = None; amount = None }) c.loop-part-test.true, total_push (Some name) (parts_seen (take i c.args.parts.now)) (part_of part), plain_adds_none name (part_of part) plain)
-          (c.loop-part.invariant.exact name ∙ sym (+ℤ_idr (total (Some name) (parts_seen (take i c.args.parts.now)))));
+          rw (seen_more c.args.parts.now i (record { variable = None; amount = None }) c.loop-part-test.true)
+          (c.loop-part.invariant.exact name ∙ sym (other_part (parts_seen (take i c.args.parts.now)) (part_of part) name (no_part (part_of part) name plain)));
       small = λ name. omega (arith, c.loop-part.invariant.small name);
     }
 

@@ -12,4 +12,4 @@ loop-index-preserved c =
       | else-index-eq0 w ↦ search (rules, tests)
     ]
     in
-    next_variable _ _ _ _ c.loop-index.index c.args.kinds.now _ c.loop-index-test.true before c.in_ok-extend_from_slice.ensures.items c.in_ok-push_decimal.ensures c.loop-index.invariant
+    next_variable _ _ _ _ c.loop-index.index c.args.kinds.now _ c.loop-index-test.true before c.in_ok-extend_from_slice.ensures.items c.in_ok-push_decimal.ensures.appended c.loop-index.invariant

@@ -1,0 +1,24 @@
+-- A word has one report.
+use Rattle.std.proofs.Common.{◌≡◌, ℕ, inl, inr, IsTrue, List, ◌++◌, codes, sym, ap, ◌∙◌}
+use Rattle.std.specs.Fmt.{decimal}
+use Rattle.adp_model.specs.PosedProblem.{PosedProblem, axiom_cell}
+use Rattle.adp_model.specs.WellFormed.{is_well_formed}
+use Rattle.adp_model.specs.Demand.{IsDemanded}
+use Rattle.adp_model.specs.Report.{line, tree_lines, IsAnswerText, IsReport}
+use Rattle.adp_model.proofs.CellLists.{count_unique}
+use Rattle.adp_model.proofs.Order.{IsPreferred_unique-formed}
+
+IsAnswerText_unique : (p : PosedProblem) → IsTrue (is_well_formed p.grammar) → (a b : List ℕ) → IsAnswerText p a → IsAnswerText p b → a ≡ b
+IsAnswerText_unique p formed a b (inl h) (inl k) = h.2 ∙ ap (tree_lines p) (IsPreferred_unique-formed p (axiom_cell p) h.0 k.0 formed h.1 k.1) ∙ sym k.2
+IsAnswerText_unique p formed a b (inl h) (inr k) = absurd (k.0 h.0 h.1.derived)
+IsAnswerText_unique p formed a b (inr h) (inl k) = absurd (h.0 k.0 k.1.derived)
+IsAnswerText_unique p formed a b (inr h) (inr k) = h.1 ∙ sym k.1
+
+pub IsReport_unique : (number : ℕ) (p : PosedProblem) (a b : List ℕ) → IsTrue (is_well_formed p.grammar) → IsReport number p a → IsReport number p b → a ≡ b
+IsReport_unique number p a b formed h k =
+    let answers : h.0 ≡ k.0 = IsAnswerText_unique p formed h.0 k.0 h.2 k.2 in
+    let counts : h.1 ≡ k.1 = count_unique (IsDemanded p) (IsDemanded p) (λ cell. (λ x. x, λ x. x)) h.1 k.1 h.3 k.3 in
+    h.4
+    ∙ ap (λ answer. line (codes "word " ++ decimal number) ++ answer ++ line (codes "cells " ++ decimal h.1)) answers
+    ∙ ap (λ count. line (codes "word " ++ decimal number) ++ k.0 ++ line (codes "cells " ++ decimal count)) counts
+    ∙ sym k.4

@@ -1,0 +1,37 @@
+//! Arguments and numbers of well-formed grammars.
+
+ghost use Rattle.std.specs.Prelude.{◌≡◌, ℕ, ◌<◌, ◌≤◌, Some, IsTrue, length};
+ghost use Rattle.std.specs.List.{AllByRecursion, Contains};
+ghost use Rattle.adp_model.specs.declared.grammar.Arg.TheVariants.{Rule, Run};
+ghost use Rattle.adp_model.specs.declared.grammar.Grammar.{Grammar};
+ghost use Rattle.adp_model.specs.Parts.{algebra_at, arguments_of, sign_at, term_for};
+ghost use Rattle.adp_model.specs.WellFormed.{IsKnown, is_well_formed};
+
+/// An alternative has at most four arguments, and the rules and classes that they name are there.
+pub fn arguments_are_few_and_known()
+    ensures few { (grammar : Grammar) → IsTrue (is_well_formed grammar)
+        → (rule alternative : ℕ) → length (arguments_of grammar rule alternative) ≤ 4 }
+    ensures known { (grammar : Grammar) → IsTrue (is_well_formed grammar)
+        → (rule alternative : ℕ) → AllByRecursion (IsKnown grammar) (arguments_of grammar rule alternative) }
+{}
+
+/// There are at most 128 rules, the axiom and each rule that an argument names is one of them, and a run's low bound is
+/// at most its high bound.
+pub fn numbers_fit_together()
+    ensures few_rules { (grammar : Grammar) → IsTrue (is_well_formed grammar) → length grammar.rules ≤ 128 }
+    ensures axiom_known { (grammar : Grammar) → IsTrue (is_well_formed grammar) → grammar.axiom < length grammar.rules }
+    ensures named_known { (grammar : Grammar) → IsTrue (is_well_formed grammar) → (rule alternative other : ℕ)
+        → Contains (arguments_of grammar rule alternative) (Rule other) → other < length grammar.rules }
+    ensures runs_in_order { (grammar : Grammar) → IsTrue (is_well_formed grammar)
+        → (rule alternative class low high : ℕ)
+        → Contains (arguments_of grammar rule alternative) (Run class low (Some high)) → low ≤ high }
+{}
+
+/// An algebra has a term for each sign, and a term has a factor for each kind of its sign.
+pub fn terms_fit_their_signs()
+    ensures terms { (grammar : Grammar) → IsTrue (is_well_formed grammar) → (algebra : ℕ)
+        → algebra < length grammar.algebras → length (algebra_at grammar algebra).terms ≡ length grammar.signs }
+    ensures factors { (grammar : Grammar) → IsTrue (is_well_formed grammar) → (algebra sign : ℕ)
+        → algebra < length grammar.algebras → sign < length grammar.signs
+        → length (term_for grammar algebra sign).factors ≡ length (sign_at grammar sign).kinds }
+{}

@@ -1,0 +1,15 @@
+pub mod CutNumbers
+pub mod Index
+pub mod Spreads
+pub mod Sweeps
+pub mod RulePlans
+pub mod RankSteps
+pub mod PlanLists
+pub mod PartRanges
+pub mod SpreadWays
+pub mod PlanMeaning
+pub mod MeasuredPlans
+pub mod ScoreRows
+pub mod ScoreNumbers
+pub mod Limits
+pub mod FirstFaults

@@ -1,0 +1,40 @@
+-- The greatest over all ways to spread spare letters over parts, one part at a time.
+use Rattle.std.proofs.Common.{◌≡◌, ℕ, suc, ◌+◌, ◌-◌, ◌^◌, ◌<◌, ◌≤◌, min, max, List, length, drop, nat_cmp, sym, ap, ap₂, ◌∙◌, arith}
+use Rattle.std.specs.Ordering.{ord_max}
+use Rattle.std.proofs.lemmas.List.{drop_more}
+use Rattle.adp_model.specs.LimitFaults.{told}
+use Rattle.grammar_check.specs.declared.part.Part.{Part}
+use Rattle.grammar_check.specs.declared.part.Worth.TheVariants.{OfLetters}
+use Rattle.grammar_check.specs.Plans.{worth_of, greatest_from, rooms, spread, part_at}
+use Rattle.grammar_check.proofs.CutNumbers.{told-sum, told-max}
+
+pub ord_max-numbers : (a b : ℕ) → ord_max nat_cmp a b ≡ max a b
+ord_max-numbers a b = grind arith
+
+-- what a part adds with so many letters more than its least length, and the parts behind it with the others
+abbrev pub added_by : (ℕ → ℕ → ℕ) → Part → List Part → ℕ → ℕ → ℕ
+added_by bound part others spare more = worth_of bound part.worth (part.low + more) + spread bound others (spare - more)
+
+pub best_step : (number : ℕ → ℕ) (first more best here rest sum next a b : ℕ) → first ≤ more → best ≡ told (greatest_from number first (more - first)) → number more ≡ a + b → here ≡ told a → rest ≡ told b → sum ≡ told (here + rest) → next ≡ ord_max nat_cmp best sum → next ≡ told (greatest_from number first (more + 1 - first))
+best_step number first more best here rest sum next a b order best_is number_is here_is rest_is sum_is next_is =
+    let count : more + 1 - first ≡ suc (more - first) = omega arith in
+    let place : first + (more - first) ≡ more = omega arith in
+    let last : number (first + (more - first)) ≡ a + b = ap number place ∙ number_is in
+    let added : sum ≡ told (a + b) = sum_is ∙ ap₂ (λ x y. told (x + y)) here_is rest_is ∙ told-sum a b in
+    let greater : next ≡ max best sum = next_is ∙ ord_max-numbers best sum in
+    rw count
+    (greater ∙ ap₂ (λ x y. max x y) best_is added ∙ told-max (greatest_from number first (more - first)) (a + b)
+    ∙ ap (λ x. told (max (greatest_from number first (more - first)) x)) (sym last))
+
+pub spread_at : (bound : ℕ → ℕ → ℕ) (parts : List Part) (place spare : ℕ) → place < length parts → spread bound (drop place parts) spare ≡ greatest_from (added_by bound (part_at parts place) (drop (place + 1) parts) spare) (spare - rooms (drop (place + 1) parts)) (min spare (part_at parts place).room + 1 - (spare - rooms (drop (place + 1) parts)))
+spread_at bound parts place spare inside = ap (λ ps. spread bound ps spare) (drop_more parts place (record { worth = OfLetters 0 0; low = 0; room = 0 }) inside)
+
+pub best_done : (bound : ℕ → ℕ → ℕ) (parts : List Part) (part : Part) (place spare rest_room best more first last : ℕ) → place < length parts → part ≡ part_at parts place → spare < 2 ^ 64 → rest_room ≡ min (rooms (drop (place + 1) parts)) (2 ^ 64 - 1) → first ≡ spare - rest_room → last ≡ min spare part.room → last + 1 ≤ more → first ≤ more → more ≤ max first (last + 1) → best ≡ told (greatest_from (added_by bound part (drop (place + 1) parts) spare) first (more - first)) → best ≡ told (spread bound (drop place parts) spare)
+best_done bound parts part place spare rest_room best more first last inside part_is fits rest_is first_is last_is ended order upper best_is =
+    let from_there : first ≡ spare - rooms (drop (place + 1) parts) = omega arith in
+    let count : more - first ≡ min spare part.room + 1 - first = omega arith in
+    best_is
+    ∙ ap (λ n. told (greatest_from (added_by bound part (drop (place + 1) parts) spare) first n)) count
+    ∙ ap (λ n. told (greatest_from (added_by bound part (drop (place + 1) parts) spare) n (min spare part.room + 1 - n))) from_there
+    ∙ ap (λ p. told (greatest_from (added_by bound p (drop (place + 1) parts) spare) (spare - rooms (drop (place + 1) parts)) (min spare p.room + 1 - (spare - rooms (drop (place + 1) parts))))) part_is
+    ∙ ap told (sym (spread_at bound parts place spare inside))

@@ -1,0 +1,6 @@
+use Rattle.std.proofs.Common.{ℕ, ◌<◌}
+use Rattle.adp_model.specs.GrammarFaults.{HasMonotoneTerm}
+use Rattle.grammar_check.proofs.checking.first_other_term.Given as goal
+
+abbrev pub invariant-loop-sign : goal.invariant-loop-sign
+invariant-loop-sign l = (other : ℕ) → other < l.sign → HasMonotoneTerm l.grammar l.algebra other

@@ -1,0 +1,18 @@
+use Rattle.std.proofs.Common.{◌≡◌, ℕ, vec_len}
+use Rattle.std.specs.List.{All}
+use Rattle.grammar_check.specs.Fills.{IsRuleReadable, IsRuleWide, rules_plan, IsPlanned, IsRanked, IsRankFilled}
+use Rattle.grammar_check.proofs.RankSteps.{IsPartlyFilled}
+use Rattle.grammar_check.proofs.fill.fill_rank.Given as goal
+
+abbrev pub invariant-loop-rule : goal.invariant-loop-rule
+invariant-loop-rule l = record {
+  rows : l.table.rows ≡ l.initial.table.rows;
+  width : l.table.width ≡ l.initial.table.width;
+  each : vec_len l.plans ≡ vec_len l.initial.plans;
+  plan : rules_plan l.plans.items ≡ rules_plan l.initial.plans.items;
+  readable : All (IsRuleReadable (vec_len l.initial.plans)) l.plans.items;
+  columns : All (IsRuleWide l.initial.table.width) l.plans.items;
+  filled : (bound : ℕ → ℕ → ℕ) → IsPlanned bound (rules_plan l.initial.plans.items) l.len → IsRanked l.ranks (rules_plan l.initial.plans.items)
+      → IsRankFilled bound l.ranks l.initial.table l.initial.plans.items l.len l.rank
+      → IsPartlyFilled bound l.ranks l.table l.plans.items l.len l.rank l.rule;
+}

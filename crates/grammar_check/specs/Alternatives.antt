@@ -1,0 +1,25 @@
+-- Values of an alternative of a plan, and what the rows of its table have.
+use Rattle.std.specs.Prelude.{◌≡◌, ℕ, ◌+◌, ◌-◌, ◌<◌, ◌≤◌, ◌&&◌, nat_le, if◌then◌else◌, List, length, drop}
+use Rattle.adp_model.specs.LimitFaults.{told}
+use Rattle.grammar_check.specs.declared.part.Part.{Part}
+use Rattle.grammar_check.specs.declared.table.Table.{Table}
+use Rattle.grammar_check.specs.declared.alternative.Alternative.{Alternative}
+use Rattle.grammar_check.specs.Tables.{entry}
+use Rattle.grammar_check.specs.Plans.{ReadsRight, rooms, lows, spread, part_at}
+
+-- the greatest value over all ways to give the alternative this length; 0 where there is none
+abbrev pub alternative_value : (ℕ → ℕ → ℕ) → ℕ → List Part → ℕ → ℕ
+alternative_value bound constant parts len =
+    if nat_le (lows parts) len && nat_le (len - lows parts) (rooms parts) then constant + spread bound parts (len - lows parts) else 0
+
+-- the rows have what the parts add over fewer spare letters than these
+pub record AreSpread (bound : ℕ → ℕ → ℕ) (alternative : Alternative) (count : ℕ) : Type 0 where
+  pub rows : (place column : ℕ) → place < length alternative.parts.items → column < count
+      → entry alternative.spreads place column ≡ told (spread bound (drop place alternative.parts.items) column)
+  pub last : (column : ℕ) → column < alternative.spreads.width → entry alternative.spreads (length alternative.parts.items) column ≡ 0
+
+-- the table has the bounds that ways to give the parts this length need
+abbrev pub AreRead : (ℕ → ℕ → ℕ) → Table → List Part → ℕ → Type 0
+AreRead bound table parts len =
+    (place l : ℕ) → place < length parts → l + lows parts ≤ len + (part_at parts place).low
+    → ReadsRight bound table (part_at parts place).worth l

@@ -1,0 +1,61 @@
+-- What a table of bounds has, once it is filled for some rules and lengths.
+use Rattle.std.specs.Prelude.{◌≡◌, ℕ, ◌+◌, ◌<◌, ◌≤◌, List, [], length, map, slice_index, slice_index_or}
+use Rattle.std.specs.List.{All}
+use Rattle.adp_model.specs.LimitFaults.{told}
+use Rattle.grammar_check.specs.declared.part.Part.{Part}
+use Rattle.grammar_check.specs.declared.part.Worth.{Worth}
+use Rattle.grammar_check.specs.declared.part.Worth.TheVariants.{OfRule, OfLetters}
+use Rattle.grammar_check.specs.declared.table.Table.{Table}
+use Rattle.grammar_check.specs.declared.rule_plan.RulePlan.{RulePlan}
+use Rattle.grammar_check.specs.Tables.{entry}
+use Rattle.grammar_check.specs.Plans.{lows, part_at}
+use Rattle.grammar_check.specs.RuleValues.{IsAllReadable, IsWide, IsSpreadTo, plan_of, rule_value}
+
+abbrev pub IsRuleReadable : ℕ → RulePlan → Type 0
+IsRuleReadable rules plan = All (IsAllReadable rules) plan.alternatives.items
+
+abbrev pub IsRuleWide : ℕ → RulePlan → Type 0
+IsRuleWide width plan = All (IsWide width) plan.alternatives.items
+
+abbrev pub IsRuleSpread : (ℕ → ℕ → ℕ) → ℕ → RulePlan → Type 0
+IsRuleSpread bound len plan = All (IsSpreadTo bound len) plan.alternatives.items
+
+-- the plans of all rules
+abbrev pub rules_plan : List RulePlan → List (List (ℕ × List Part))
+rules_plan plans = map (λ (plan : RulePlan). plan_of plan.alternatives.items) plans
+
+-- the plan of a rule
+abbrev pub plan_at : List (List (ℕ × List Part)) → ℕ → List (ℕ × List Part)
+plan_at plan rule = slice_index_or plan rule []
+
+-- the parts of an alternative
+abbrev pub parts_at : List (List (ℕ × List Part)) → ℕ → ℕ → List Part
+parts_at plan rule alternative = (slice_index_or (plan_at plan rule) alternative (0, [])).1
+
+-- the bounds are the values of the plan at this length
+abbrev pub IsPlanned : (ℕ → ℕ → ℕ) → List (List (ℕ × List Part)) → ℕ → Type 0
+IsPlanned bound plan len = (rule : ℕ) → rule < length plan → bound rule len ≡ rule_value bound (plan_at plan rule) len
+
+-- a rule that the part names has a lesser rank
+abbrev pub NamesLesser : List ℕ → ℕ → Worth → Type 0
+NamesLesser ranks rule (OfRule other factor) = slice_index ranks other < slice_index ranks rule
+NamesLesser ranks rule (OfLetters weight factor) = Unit {0}
+
+-- a part that can be as long as the rule, since all others can be empty, names a rule of lesser rank
+abbrev pub IsRanked : List ℕ → List (List (ℕ × List Part)) → Type 0
+IsRanked ranks plan =
+    (rule alternative place : ℕ) → rule < length plan → alternative < length (plan_at plan rule) → place < length (parts_at plan rule alternative)
+    → lows (parts_at plan rule alternative) ≤ (part_at (parts_at plan rule alternative) place).low
+    → NamesLesser ranks rule (part_at (parts_at plan rule alternative) place).worth
+
+-- the table has the bounds at all lesser lengths, cut, and the rows of all alternatives are as far
+pub record IsFilledTo (bound : ℕ → ℕ → ℕ) (table : Table) (plans : List RulePlan) (len : ℕ) : Type 0 where
+  pub entries : (rule l : ℕ) → rule < length plans → l < len → entry table rule l ≡ told (bound rule l)
+  pub spread : All (IsRuleSpread bound len) plans
+
+-- so is it at this length for rules of lesser ranks
+pub record IsRankFilled (bound : ℕ → ℕ → ℕ) (ranks : List ℕ) (table : Table) (plans : List RulePlan) (len rank : ℕ) : Type 0 where
+  pub lower : IsFilledTo bound table plans len
+  pub entries : (rule : ℕ) → rule < length plans → slice_index ranks rule < rank → entry table rule len ≡ told (bound rule len)
+  pub spread : (rule : ℕ) (d : RulePlan) → rule < length plans → slice_index ranks rule < rank
+      → IsRuleSpread bound (len + 1) (slice_index_or plans rule d)

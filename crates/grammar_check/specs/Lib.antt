@@ -1,0 +1,13 @@
+pub mod Tables
+pub mod Plans
+pub mod Alternatives
+pub mod RuleValues
+pub mod Fills
+pub mod GrammarPlans
+pub mod TokenNumbers
+pub mod CheckedGrammar
+pub mod MeasuredBounds
+pub mod ToldBounds
+pub mod ToldRows
+pub mod Admitted
+pub mod CheckAnswers

@@ -1,0 +1,103 @@
+ghost use Rattle.std.specs.Prelude.{◌≡◌, ℕ, ◌<◌, IfOk, IsTrue, MatchOption, length};
+ghost use Rattle.adp_model.specs.GrammarFaults.{IsNamed, IsFirstFaulty, HasMonotoneTerm, HasOtherTerm};
+ghost use Rattle.adp_model.specs.WellFormed.{is_well_formed};
+ghost use Rattle.grammar_check.specs.CheckAnswers.{IsFirstFalse, IsFaultOf, MatchCheck};
+
+use crate::checked::Checked;
+use crate::error::CheckError;
+use adp_model::laws::terms::monotone_terms_keep_order;
+use adp_model::laws::well_formed::{numbers_fit_together, terms_fit_their_signs};
+use adp_model::{Grammar, GrammarFault, Sequence, Text};
+use algebra_terms::monotone;
+use std::alloc::{AllocError, Global};
+use yield_sizes::{anchors, first_loop, productive, ranks, sizes};
+
+/// The number of the algebra with this name.
+fn algebra_named(grammar: &Grammar, name: &Text) -> Option<u32>
+    requires { IsTrue (is_well_formed grammar.now) }
+    ensures { MatchOption result ((algebra : ℕ) → IsNamed grammar.now name.now algebra → ⊥) (IsNamed grammar.now name.now) }
+{
+    for (number, algebra) in grammar.algebras.as_slice().iter().enumerate() {
+        if algebra.name.bytes() == name.bytes() {
+            return Some(number as u32);
+        }
+    }
+    None
+}
+
+/// The place of the first `false`.
+fn first_false(flags: &[bool]) -> Option<usize>
+    ensures { IsFirstFalse flags.now result }
+{
+    for (place, flag) in flags.iter().enumerate() {
+        if !*flag {
+            return Some(place);
+        }
+    }
+    None
+}
+
+/// The first sign whose term in the algebra is not monotone.
+fn first_other_term(grammar: &Grammar, algebra: u32) -> Option<usize>
+    requires well_formed { IsTrue (is_well_formed grammar.now) }
+    requires algebra { algebra < length grammar.now.algebras }
+    ensures { MatchOption result ((sign : ℕ) → sign < length grammar.now.signs → HasMonotoneTerm grammar.now algebra sign)
+        (IsFirstFaulty (HasOtherTerm grammar.now algebra) (HasMonotoneTerm grammar.now algebra) (length grammar.now.signs)) }
+{
+    terms_fit_their_signs();
+    let terms = grammar.algebras.as_slice()[algebra as usize]
+        .terms
+        .as_slice();
+    let signs = grammar.signs.as_slice();
+    for sign in 0..signs.len() {
+        if !monotone(&terms[sign], signs[sign].kinds.as_slice()) {
+            return Some(sign);
+        }
+    }
+    None
+}
+
+/// A fault that carries a copy of the name.
+fn fault(alloc: Global, kind: u8, name: &Text) -> Result<GrammarFault, AllocError>
+    ensures { IfOk result (IsFaultOf kind name.now) }
+{
+    let name = Text::new(Vec::from_slice(alloc, name.bytes())?);
+    Ok(GrammarFault { kind, name })
+}
+
+/// Checks a grammar under its algebra of this name. A refusal is the first that holds: no algebra has the name; a rule
+/// is not productive; a rule is on a loop; a sign's term in the algebra is not monotone. It carries the asked name, or
+/// that of the first such rule or sign, and the grammar is gone.
+pub fn check(alloc: Global, grammar: Grammar, algebra: &Text) -> Result<Checked, CheckError>
+    requires { IsTrue (is_well_formed grammar) }
+    ensures { MatchCheck grammar algebra.now result }
+{
+    numbers_fit_together();
+    monotone_terms_keep_order();
+    let Some(number) = algebra_named(&grammar, algebra) else {
+        return Err(CheckError::Fault(fault(alloc, 1, algebra)?));
+    };
+    let flags = productive(alloc, &grammar)?;
+    if let Some(rule) = first_false(&flags) {
+        let name = &grammar.rules.as_slice()[rule].name;
+        return Err(CheckError::Fault(fault(alloc, 2, name)?));
+    }
+    let sizes = sizes(alloc, &grammar)?;
+    if let Some(rule) = first_loop(alloc, &grammar, &sizes)? {
+        let name = &grammar.rules.as_slice()[rule as usize].name;
+        return Err(CheckError::Fault(fault(alloc, 3, name)?));
+    }
+    if let Some(sign) = first_other_term(&grammar, number) {
+        let name = &grammar.signs.as_slice()[sign].name;
+        return Err(CheckError::Fault(fault(alloc, 4, name)?));
+    }
+    let ranks = Sequence::new(ranks(alloc, &grammar, &sizes)?);
+    let anchors = anchors(alloc, &grammar, &sizes)?;
+    Ok(Checked {
+        grammar,
+        algebra: number,
+        sizes,
+        anchors,
+        ranks,
+    })
+}

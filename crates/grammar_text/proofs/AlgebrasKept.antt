@@ -1,0 +1,132 @@
+-- The algebras of a text without a fault: a term in range for each sign, with a factor for each of its kinds.
+use Rattle.std.proofs.Common.{◌≡◌, ℕ, ◌≤◌, Bool, true, false, ◌&&◌, not, nat_eq, ◌==◌, Some, None, List, [], ◌∷◌, ◌++◌, length, map, refl, sym, ◌∙◌, ap, subst, arith, eqb-true}
+use Rattle.std.specs.List.{list_all, list_any, zip, position_or_len, AllByRecursion}
+use Rattle.std.specs.Option.{option_map_or}
+use Rattle.std.proofs.lemmas.Bool.{and_parts, and_from, not-false, eq-eqb}
+use Rattle.std.proofs.lemmas.List.{length-map}
+use lib.Pointwise.{pointwise}
+use Rattle.adp_model.specs.declared.grammar.Kind.{Kind}
+use Rattle.adp_model.specs.declared.grammar.Goal.{Goal}
+use Rattle.adp_model.specs.declared.grammar.Sign as signs
+use Rattle.adp_model.specs.declared.grammar.Linear.{Linear}
+use Rattle.adp_model.specs.declared.grammar.Algebra as algebras
+use Rattle.adp_model.specs.WellFormed.{is_name, is_in_range, is_term, is_algebra}
+use Rattle.adp_model.specs.TermText.{Part, are_numbers, total, totals_fit, is_among, linear_of, factors_after}
+use Rattle.adp_model.specs.Declarations.{Declaration, Class, Sign, Algebra, Let, Rule, Axiom, Words}
+use Rattle.adp_model.specs.DeclaredNames.{kinds_of_sign, is_algebra_line, section_of, let_signs, sign_names, algebra_names}
+use Rattle.adp_model.specs.JobText.{term_in, declared_algebras}
+use Rattle.grammar_text.proofs.Faultless.{Each, IsFaultless}
+use Rattle.grammar_text.proofs.Sorts.{same_text, either_order, each_all, all_take}
+use Rattle.grammar_text.proofs.SignKinds.{HasOwnKinds}
+use Rattle.grammar_text.proofs.TermsInRange.{total_in_range, factors_in_range, factors_counted}
+
+-- ---- `let` lines
+
+-- the term of a `let` is in range, with a variable for each kind of its sign
+abbrev pub LetFits : List Declaration → Declaration → Type 0
+LetFits all (Let sign variables term) = (totals_fit term ≡ true) × ((kinds : List Kind) → kinds_of_sign all sign ≡ Some kinds → length kinds ≡ length variables)
+LetFits all declaration = Unit {0}
+
+let_fits : (all above : List Declaration) (declaration : Declaration) (below : List Declaration) → IsFaultless all above declaration below → LetFits all declaration
+let_fits all above (Let sign variables term) below h = (
+  (and_parts (are_numbers term) (totals_fit term) (not-false (are_numbers term && totals_fit term) h.numbered)).1,
+  (λ kinds e.
+      let fit : option_map_or (λ (k : List Kind). not (length k == length variables)) (Some kinds) false ≡ false = subst (λ o. option_map_or (λ (k : List Kind). not (length k == length variables)) o false ≡ false) e h.fit in
+      eqb-true (length kinds) (length variables) (not-false (length kinds == length variables) fit)),
+)
+let_fits all above (Class name items) below h = tt
+let_fits all above (Sign name kinds) below h = tt
+let_fits all above (Algebra name goal) below h = tt
+let_fits all above (Rule name alternatives) below h = tt
+let_fits all above (Axiom rule) below h = tt
+let_fits all above Words below h = tt
+
+-- ---- a term of a section
+
+linear_fits : (sign : signs.Sign) (variables : List (List ℕ)) (term : List Part) → totals_fit term ≡ true → length sign.kinds ≡ length variables → is_term (sign, linear_of variables term) ≡ true
+linear_fits sign variables term h e =
+    and_from (is_in_range (total None term) && list_all is_in_range (factors_after [] variables term)) (length (factors_after [] variables term) == length sign.kinds)
+    (and_from (is_in_range (total None term)) (list_all is_in_range (factors_after [] variables term)) (total_in_range term None h) (factors_in_range [] variables term h))
+    (eq-eqb (length (factors_after [] variables term)) (length sign.kinds) (factors_counted [] variables term ∙ sym e))
+
+term_step : (all section : List Declaration) (sign : signs.Sign) (name : List ℕ) (variables : List (List ℕ)) (term : List Part) (same : Bool) → pointwise nat_eq sign.name name ≡ same
+    → LetFits all (Let name variables term) → HasOwnKinds all sign → is_among (let_signs (Let name variables term ∷ section)) sign.name ≡ true
+    → (is_among (let_signs section) sign.name ≡ true → is_term (sign, term_in section sign.name) ≡ true) → is_term (sign, term_in (Let name variables term ∷ section) sign.name) ≡ true
+term_step all section sign name variables term true e fits own h others =
+    let known : kinds_of_sign all name ≡ Some sign.kinds = subst (λ n. kinds_of_sign all n ≡ Some sign.kinds) (same_text sign.name name e) own in
+    rw e (linear_fits sign variables term fits.0 (fits.1 sign.kinds known))
+term_step all section sign name variables term false e fits own h others =
+    let apart : pointwise nat_eq name sign.name ≡ false = either_order name sign.name ∙ e in
+    rw e (others (rw apart at h))
+
+term_fits : (all section : List Declaration) (sign : signs.Sign) → AllByRecursion (LetFits all) section → HasOwnKinds all sign → is_among (let_signs section) sign.name ≡ true → is_term (sign, term_in section sign.name) ≡ true
+term_fits all [] sign fits own h = absurd cc
+term_fits all (Let name variables term ∷ section) sign fits own h =
+    term_step all section sign name variables term (pointwise nat_eq sign.name name) refl fits.0 own h (term_fits all section sign fits.1 own)
+term_fits all (Class name items ∷ section) sign fits own h = term_fits all section sign fits.1 own h
+term_fits all (Sign name kinds ∷ section) sign fits own h = term_fits all section sign fits.1 own h
+term_fits all (Algebra name goal ∷ section) sign fits own h = term_fits all section sign fits.1 own h
+term_fits all (Rule name alternatives ∷ section) sign fits own h = term_fits all section sign fits.1 own h
+term_fits all (Axiom rule ∷ section) sign fits own h = term_fits all section sign fits.1 own h
+term_fits all (Words ∷ section) sign fits own h = term_fits all section sign fits.1 own h
+
+abbrev sign_name : signs.Sign → List ℕ
+sign_name sign = sign.name
+
+terms_fit : (all section : List Declaration) (of : List signs.Sign) → AllByRecursion (LetFits all) section → AllByRecursion (HasOwnKinds all) of → list_all (is_among (let_signs section)) (map sign_name of) ≡ true
+    → list_all is_term (zip of (map (term_in section) (map sign_name of))) ≡ true
+terms_fit all section [] fits own h = refl
+terms_fit all section (sign ∷ of) fits own h =
+    let parts = and_parts (is_among (let_signs section) sign.name) (list_all (is_among (let_signs section)) (map sign_name of)) h in
+    and_from (is_term (sign, term_in section sign.name)) (list_all is_term (zip of (map (term_in section) (map sign_name of))))
+    (term_fits all section sign fits own.0 parts.0) (terms_fit all section of fits own.1 parts.1)
+
+-- ---- algebras
+
+algebra_fits : (all below : List Declaration) (of : List signs.Sign) (name : List ℕ) (goal : Goal) → is_name name ≡ true → AllByRecursion (LetFits all) below → AllByRecursion (HasOwnKinds all) of
+    → list_all (is_among (let_signs (section_of below))) (map sign_name of) ≡ true → is_algebra of (record { name = name; goal = goal; terms = map (term_in (section_of below)) (map sign_name of) }) ≡ true
+algebra_fits all below of name goal named fits own h =
+    let terms : List Linear = map (term_in (section_of below)) (map sign_name of) in
+    let counted : length terms ≡ length of = length-map (map sign_name of) (term_in (section_of below)) ∙ length-map of sign_name in
+    and_from (is_name name && length terms == length of) (list_all is_term (zip of terms))
+    (and_from (is_name name) (length terms == length of) named (eq-eqb (length terms) (length of) counted))
+    (terms_fit all (section_of below) of (all_take (LetFits all) (position_or_len is_algebra_line below) below fits) own h)
+
+pub algebras_fit : (all above below : List Declaration) (of : List signs.Sign) → Each (IsFaultless all) above below → sign_names all ≡ map sign_name of → AllByRecursion (HasOwnKinds all) of
+    → list_all (is_algebra of) (declared_algebras (map sign_name of) below) ≡ true
+algebras_fit all above [] of h e own = refl
+algebras_fit all above (Algebra name goal ∷ below) of h e own =
+    let named : is_name name ≡ true = (and_parts (is_name name) true (and_parts (is_name name && true) true (not-false ((is_name name && true) && true) h.0.named)).0).0 in
+    let complete : list_all (is_among (let_signs (section_of below))) (sign_names all) ≡ true = not-false (list_all (is_among (let_signs (section_of below))) (sign_names all)) h.0.complete in
+    let complete_of : list_all (is_among (let_signs (section_of below))) (map sign_name of) ≡ true = subst (λ l. list_all (is_among (let_signs (section_of below))) l ≡ true) e complete in
+    let fits = each_all (IsFaultless all) (LetFits all) (let_fits all) (above ++ Algebra name goal ∷ []) below h.1 in
+    and_from (is_algebra of (record { name = name; goal = goal; terms = map (term_in (section_of below)) (map sign_name of) })) (list_all (is_algebra of) (declared_algebras (map sign_name of) below))
+    (algebra_fits all below of name goal named fits own complete_of) (algebras_fit all (above ++ Algebra name goal ∷ []) below of h.1 e own)
+algebras_fit all above (Class name items ∷ below) of h e own = algebras_fit all (above ++ Class name items ∷ []) below of h.1 e own
+algebras_fit all above (Sign name kinds ∷ below) of h e own = algebras_fit all (above ++ Sign name kinds ∷ []) below of h.1 e own
+algebras_fit all above (Let name variables term ∷ below) of h e own = algebras_fit all (above ++ Let name variables term ∷ []) below of h.1 e own
+algebras_fit all above (Rule name alternatives ∷ below) of h e own = algebras_fit all (above ++ Rule name alternatives ∷ []) below of h.1 e own
+algebras_fit all above (Axiom rule ∷ below) of h e own = algebras_fit all (above ++ Axiom rule ∷ []) below of h.1 e own
+algebras_fit all above (Words ∷ below) of h e own = algebras_fit all (above ++ Words ∷ []) below of h.1 e own
+
+-- the names of the algebras
+pub algebra_names_kept : (names : List (List ℕ)) (declared : List Declaration) → map (λ (algebra : algebras.Algebra). algebra.name) (declared_algebras names declared) ≡ algebra_names declared
+algebra_names_kept names [] = refl
+algebra_names_kept names (Algebra name goal ∷ declared) = ap (λ l. name ∷ l) (algebra_names_kept names declared)
+algebra_names_kept names (Class name items ∷ declared) = algebra_names_kept names declared
+algebra_names_kept names (Sign name kinds ∷ declared) = algebra_names_kept names declared
+algebra_names_kept names (Let name variables term ∷ declared) = algebra_names_kept names declared
+algebra_names_kept names (Rule name alternatives ∷ declared) = algebra_names_kept names declared
+algebra_names_kept names (Axiom rule ∷ declared) = algebra_names_kept names declared
+algebra_names_kept names (Words ∷ declared) = algebra_names_kept names declared
+
+-- some algebra is there where an algebra line is
+pub some_algebra : (declared : List Declaration) → list_any is_algebra_line declared ≡ true → 1 ≤ length (algebra_names declared)
+some_algebra [] h = absurd cc
+some_algebra (Algebra name goal ∷ declared) h = omega arith
+some_algebra (Class name items ∷ declared) h = some_algebra declared h
+some_algebra (Sign name kinds ∷ declared) h = some_algebra declared h
+some_algebra (Let name variables term ∷ declared) h = some_algebra declared h
+some_algebra (Rule name alternatives ∷ declared) h = some_algebra declared h
+some_algebra (Axiom rule ∷ declared) h = some_algebra declared h
+some_algebra (Words ∷ declared) h = some_algebra declared h

@@ -1,0 +1,31 @@
+-- The report of a word: its number, the best score and the first tree of that score, or `none`, and the number
+-- of demanded cells.
+use Rattle.std.specs.Prelude.{◌≡◌, ℕ, ◌⊎◌, List, [], ◌∷◌, ◌++◌, codes}
+use Rattle.std.specs.Fmt.{decimal, signed_decimal}
+use Rattle.small_model.specs.PosedProblem.{PosedProblem, axiom_cell}
+use Rattle.small_model.specs.Tree.{Tree}
+use Rattle.small_model.specs.Scores.{score_of}
+use Rattle.small_model.specs.Preference.{IsPreferred}
+use Rattle.small_model.specs.Answers.{HasNoTree}
+use Rattle.small_model.specs.Demand.{IsDemandedCount}
+use Rattle.small_model.specs.TreeText.{tree_text}
+
+-- a line with its end
+abbrev pub line : List ℕ → List ℕ
+line content = content ++ 10 ∷ []
+
+-- the lines of a candidate
+abbrev pub tree_lines : PosedProblem → Tree → List ℕ
+tree_lines p tree = line (codes "score " ++ signed_decimal (score_of p tree)) ++ line (codes "tree " ++ tree_text p tree)
+
+-- the lines of the preferred tree, or the line of a word without a candidate
+abbrev pub IsAnswerText : PosedProblem → List ℕ → Type 0
+IsAnswerText p text =
+    ((tree : Tree) × IsPreferred p (axiom_cell p) tree × (text ≡ tree_lines p tree))
+    ⊎ (HasNoTree p (axiom_cell p) × (text ≡ line (codes "none")))
+
+-- the report of the word with this number, counted from 1
+abbrev pub IsReport : ℕ → PosedProblem → List ℕ → Type 0
+IsReport number p report =
+    (answer : List ℕ) × (count : ℕ) × IsAnswerText p answer × IsDemandedCount p count
+    × (report ≡ line (codes "word " ++ decimal number) ++ answer ++ line (codes "cells " ++ decimal count))

@@ -1,0 +1,5 @@
+pub mod Matches
+pub mod Steps
+pub mod Splits
+pub mod Choices
+pub mod Demanded

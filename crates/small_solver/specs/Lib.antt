@@ -1,0 +1,4 @@
+pub mod Solves
+pub mod Matching
+pub mod Marking
+pub mod Answering

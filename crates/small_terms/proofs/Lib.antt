@@ -1,0 +1,10 @@
+pub mod Values
+pub mod ScoreFactors
+pub mod Tokens
+pub mod Numbers
+pub mod Parts
+pub mod PartLists
+pub mod Totals
+pub mod Ranges
+pub mod Spelled
+pub mod SpelledTerms

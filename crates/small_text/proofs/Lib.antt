@@ -1,0 +1,16 @@
+pub mod Appends
+pub mod Lets
+pub mod Runs
+pub mod Variables
+pub mod ReadingLoops
+pub mod Letters
+pub mod Bytes
+pub mod FieldsAgain
+pub mod NumbersAgain
+pub mod TermLines
+pub mod ManyAgain
+pub mod ClassesAgain
+pub mod SignsAgain
+pub mod RulesAgain
+pub mod JobsAgain
+pub mod Refusals

@@ -1,0 +1,10 @@
+use Rattle.std.proofs.Common.{◌≡◌, ◌++◌, drop}
+use Rattle.std.specs.Prelude.{codes}
+use Rattle.small_model.specs.Spelling.{separated, variables}
+use Rattle.small_text.proofs.Variables.{further_variables}
+use Rattle.small_text.proofs.writer.algebras.push_variables.Given as goal
+
+abbrev pub invariant-loop-index : goal.invariant-loop-index
+invariant-loop-index l =
+    l.out.items ++ further_variables l.index (drop l.index l.kinds)
+    ≡ l.initial.out.items ++ separated (λ name. name) (codes ", ") (variables 1 l.kinds)

@@ -1,0 +1,103 @@
+//! Algebras with their terms.
+
+ghost use Rattle.std.specs.Prelude.{◌≡◌, ◌++◌, OnOk, codes};
+ghost use Rattle.std.specs.List.{flat_map, zip};
+ghost use Rattle.small_model.specs.Spelling.{algebra_lines, factor_text, factors_text, goal_text, let_line, separated, term_text, variables};
+
+use small_model::{Algebra, Goal, Kind, Linear, Sign, push_decimal, push_signed};
+use std::alloc::AllocError;
+
+pub(crate) fn push_algebras(
+    out: &mut Vec<u8>,
+    signs: &[Sign],
+    algebras: &[Algebra],
+) -> Result<(), AllocError>
+    ensures { OnOk result (out.new.items ≡ out.old.items ++ flat_map (algebra_lines signs.now) algebras.now) }
+{
+    for algebra in algebras {
+        push_algebra(out, signs, algebra)?;
+    }
+    Ok(())
+}
+
+fn push_algebra(out: &mut Vec<u8>, signs: &[Sign], algebra: &Algebra) -> Result<(), AllocError>
+    ensures { OnOk result (out.new.items ≡ out.old.items ++ algebra_lines signs.now algebra.now) }
+{
+    out.extend_from_slice(b"algebra ")?;
+    out.extend_from_slice(algebra.name.bytes())?;
+    out.extend_from_slice(b" ")?;
+    push_goal(out, algebra.goal)?;
+    out.extend_from_slice(b"\n")?;
+    push_lets(out, signs, algebra.terms.as_slice())
+}
+
+fn push_goal(out: &mut Vec<u8>, goal: Goal) -> Result<(), AllocError>
+    ensures { OnOk result (out.new.items ≡ out.old.items ++ goal_text goal) }
+{
+    match goal {
+        Goal::Least => out.extend_from_slice(b"min"),
+        Goal::Greatest => out.extend_from_slice(b"max"),
+    }
+}
+
+fn push_lets(out: &mut Vec<u8>, signs: &[Sign], terms: &[Linear]) -> Result<(), AllocError>
+    ensures { OnOk result (out.new.items ≡ out.old.items ++ flat_map let_line (zip signs.now terms.now)) }
+{
+    for (sign, term) in signs.iter().zip(terms) {
+        push_let(out, sign, term)?;
+    }
+    Ok(())
+}
+
+fn push_let(out: &mut Vec<u8>, sign: &Sign, term: &Linear) -> Result<(), AllocError>
+    ensures { OnOk result (out.new.items ≡ out.old.items ++ let_line (sign.now, term.now)) }
+{
+    out.extend_from_slice(b"let ")?;
+    out.extend_from_slice(sign.name.bytes())?;
+    out.extend_from_slice(b"(")?;
+    push_variables(out, sign.kinds.as_slice())?;
+    out.extend_from_slice(b") = ")?;
+    push_term(out, term)?;
+    out.extend_from_slice(b"\n")
+}
+
+/// A variable for each kind: `x1, x2` and so on.
+fn push_variables(out: &mut Vec<u8>, kinds: &[Kind]) -> Result<(), AllocError>
+    ensures { OnOk result (out.new.items ≡ out.old.items ++ separated (λ name. name) (codes ", ") (variables 1 kinds.now)) }
+{
+    for index in 0..kinds.len() {
+        let before = if index == 0 { "x" } else { ", x" };
+        out.extend_from_slice(before.as_bytes())?;
+        push_decimal(out, index as u64 + 1)?;
+    }
+    Ok(())
+}
+
+fn push_term(out: &mut Vec<u8>, term: &Linear) -> Result<(), AllocError>
+    ensures { OnOk result (out.new.items ≡ out.old.items ++ term_text term.now) }
+{
+    push_signed(out, term.constant)?;
+    push_factors(out, term.factors.as_slice())
+}
+
+fn push_factors(out: &mut Vec<u8>, factors: &[i64]) -> Result<(), AllocError>
+    ensures { OnOk result (out.new.items ≡ out.old.items ++ factors_text 1 factors.now) }
+{
+    for (index, factor) in factors.iter().enumerate() {
+        push_factor(out, index as u64 + 1, *factor)?;
+    }
+    Ok(())
+}
+
+/// ` + 3*x2` or ` - 3*x2`, and nothing for the factor 0.
+fn push_factor(out: &mut Vec<u8>, number: u64, factor: i64) -> Result<(), AllocError>
+    ensures { OnOk result (out.new.items ≡ out.old.items ++ factor_text number factor) }
+{
+    if factor == 0 {
+        return Ok(());
+    }
+    out.extend_from_slice(if factor < 0 { b" - " } else { b" + " })?;
+    push_decimal(out, factor.unsigned_abs())?;
+    out.extend_from_slice(b"*x")?;
+    push_decimal(out, number)
+}

@@ -1,0 +1,4 @@
+pub mod Stacking
+pub mod Remaining
+pub mod Steps
+pub mod Beginning

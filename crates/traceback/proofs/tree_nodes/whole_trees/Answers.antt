@@ -1,0 +1,24 @@
+use Rattle.std.proofs.Common.{◌≡◌, ℕ, ◌-◌, ◌≤◌, length, subst, arith}
+use Rattle.adp_model.specs.PosedProblem.{PosedProblem, axiom_cell}
+use Rattle.adp_model.specs.Tree.{Tree, node_count}
+use Rattle.adp_model.specs.Sizes.{IsWithinSizes}
+use Rattle.adp_model.specs.ProblemFields.{most_nodes}
+use Rattle.traceback.proofs.tree_nodes.whole_trees.Goals as goal
+
+pub returns : goal.returns
+returns c =
+    let p : PosedProblem = c.args.problem.now in
+    let keeps = c.admissible.ensures in
+    let bound = keeps.limits.nodes.1 in
+    let whole : length p.word - 0 ≡ length p.word = omega arith in
+    record {
+      within = λ tree derived. subst (λ n. IsWithinSizes p.grammar p.grammar.axiom n) whole
+          (c.derived_lengths_are_within_sizes.ensures.within p keeps.least keeps.greatest keeps.ranks keeps.checked keeps.limits.letters (axiom_cell p) tree derived);
+      short = λ tree derived.
+          let few : node_count tree ≤ bound.0 p.grammar.axiom (length p.word) =
+          subst (λ n. node_count tree ≤ bound.0 p.grammar.axiom n) whole
+          (c.bounds_are_sound.ensures.nodes p keeps.least keeps.greatest keeps.ranks keeps.checked keeps.limits.letters bound.0 bound.1 (axiom_cell p) tree derived) in
+          let is : keeps.limits.nodes.0 ≡ bound.0 p.grammar.axiom (length p.word) = bound.2 in
+          let most : keeps.limits.nodes.0 ≤ most_nodes = keeps.limits.nodes.2 in
+          omega arith;
+    }

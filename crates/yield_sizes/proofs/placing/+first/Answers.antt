@@ -1,0 +1,95 @@
+use Rattle.std.proofs.Common.{◌≡◌, ◌+◌, max, ap, ◌∙◌, ◌-◌, ◌<◌, ◌≤◌, List, ◌∷◌, length, take, drop, subst, sym, arith, rules, slice_index}
+use Rattle.adp_model.specs.declared.grammar.Arg.{Arg}
+use Rattle.yield_sizes.specs.Placing.{HasNoneBehind, IsFirstBehind, HasNoneWithin, IsFirstWithin}
+use Rattle.yield_sizes.proofs.Dividing.{split_first}
+use Rattle.yield_sizes.proofs.FirstPlace.{Looking, first_ahead, first_wrapped, none_either}
+use Rattle.yield_sizes.proofs.Closing.{all_at, not_contained, closed_first, divide_one, divide_none, fits_one, match_option}
+use Rattle.yield_sizes.proofs.placing.+first.Goals as goal
+
+pub first_behind-returns-in-Some : goal.first_behind-returns-in-Some
+first_behind-returns-in-Some t c =
+    let p = c.args.problem.now in
+    let cell = c.args.cell in
+    let all = c.args.arguments.now in
+    let parts = split_first all (omega (arith, c.requires.several)) in
+    let first = parts.0 in
+    let later : List Arg = take (length all - 1) (drop 1 all) in
+    let cuts = c.args.cuts in
+    let number = c.args.number in
+    let turns_three : length cuts.turns ≡ 3 = search rules in
+    let split : all ≡ first ∷ later = parts.1 in
+    let look : Looking p cell first later c.args.from number c.places-places.result.start c.places-places.result.end cuts = record {
+      after = c.requires.after;
+      some = omega (arith, c.requires.several, ap length split);
+      boundary = omega (arith, c.requires.several, c.requires.few);
+      at_three = search rules;
+      turns_three = turns_three;
+      turned = all_at (λ turn. turn ≤ cell.to - cell.from) cuts.turns number 0 (omega (arith, c.requires.several, c.requires.few)) c.requires.turns;
+      few = omega (arith, c.requires.several, c.requires.few, ap length split);
+      places = c.places-places.ensures first later split;
+    } in
+    subst (λ xs. IsFirstBehind p cell xs c.args.from number c.args.least_rank cuts c.in-Some.found) (sym split)
+    (first_ahead p cell first later c.args.from number c.places-places.result.start c.places-places.result.end cuts look c.args.least_rank c.max-ahead.result c.in-Some.found c.max-ahead.ensures c.in-Some.ensures)
+
+pub first_behind-returns-in-None : goal.first_behind-returns-in-None
+first_behind-returns-in-None t c =
+    let p = c.args.problem.now in
+    let cell = c.args.cell in
+    let all = c.args.arguments.now in
+    let parts = split_first all (omega (arith, c.requires.several)) in
+    let first = parts.0 in
+    let later : List Arg = take (length all - 1) (drop 1 all) in
+    let cuts = c.args.cuts in
+    let number = c.args.number in
+    let turns_three : length cuts.turns ≡ 3 = search rules in
+    let split : all ≡ first ∷ later = parts.1 in
+    let look : Looking p cell first later c.args.from number c.places-places.result.start c.places-places.result.end cuts = record {
+      after = c.requires.after;
+      some = omega (arith, c.requires.several, ap length split);
+      boundary = omega (arith, c.requires.several, c.requires.few);
+      at_three = search rules;
+      turns_three = turns_three;
+      turned = all_at (λ turn. turn ≤ cell.to - cell.from) cuts.turns number 0 (omega (arith, c.requires.several, c.requires.few)) c.requires.turns;
+      few = omega (arith, c.requires.several, c.requires.few, ap length split);
+      places = c.places-places.ensures first later split;
+    } in
+    let wrapped_is : c.max-wrapped.result ≡ max c.places-places.result.start (cell.from + (c.args.least_rank - (cell.to + 1 - (cell.from + slice_index cuts.turns number)))) =
+    c.max-wrapped.ensures ∙ ap (λ n. max c.places-places.result.start (cell.from + n)) c.saturating_sub-skipped.ensures in
+    match_option c.first_within-in-None.result
+    (HasNoneWithin p cell later c.max-wrapped.result c.min-before_turn.result number cuts.turns)
+    (HasNoneBehind p cell all c.args.from number c.args.least_rank cuts.turns)
+    (λ found. IsFirstWithin p cell later c.max-wrapped.result c.min-before_turn.result number cuts found)
+    (λ found. IsFirstBehind p cell all c.args.from number c.args.least_rank cuts found)
+    (λ none.
+    subst (λ xs. HasNoneBehind p cell xs c.args.from number c.args.least_rank cuts.turns) (sym split)
+    (none_either p cell first later c.args.from number c.places-places.result.start c.places-places.result.end cuts look c.args.least_rank c.max-ahead.result c.max-wrapped.result c.min-before_turn.result c.max-ahead.ensures wrapped_is c.min-before_turn.ensures c.in-None.ensures none))
+    (λ found within.
+    subst (λ xs. IsFirstBehind p cell xs c.args.from number c.args.least_rank cuts found) (sym split)
+    (first_wrapped p cell first later c.args.from number c.places-places.result.start c.places-places.result.end cuts look c.args.least_rank c.max-ahead.result c.max-wrapped.result c.min-before_turn.result found c.max-ahead.ensures wrapped_is c.min-before_turn.ensures c.in-None.ensures within))
+    c.first_within-in-None.ensures
+
+pub first_cuts-returns-in-empty : goal.first_cuts-returns-in-empty
+first_cuts-returns-in-empty t c =
+    let p = c.args.problem.now in
+    let found = c.closed.result in
+    let divides = divide_none p c.args.arguments.now c.args.from c.args.cell.to (drop c.args.number found.at) (omega (arith, c.in-empty.len_below)) c.closed.ensures.closed in
+    closed_first p c.args.cell c.args.arguments.now c.args.from c.args.number c.args.cuts found (omega (arith, c.in-empty.len_below)) c.closed.ensures.turns (search rules) c.closed.ensures.kept c.closed.ensures.closed divides
+
+pub first_cuts-returns-then-contains : goal.first_cuts-returns-then-contains
+first_cuts-returns-then-contains t c =
+    let p = c.args.problem.now in
+    let found = c.closed-then-contains.result in
+    let to = c.args.cell.to in
+    let one : length c.args.arguments.now ≡ 1 = omega (arith, c.in-len1.len_at_least, c.in-len1.len_below) in
+    let between : (c.ends.result.start ≤ to) × (to < c.ends.result.end) = (search rules, search rules) in
+    let fits = (c.ends.ensures.exact to (omega arith)).1 between in
+    let divides = divide_one p c.args.arguments.now c.only-item.result c.args.from to (drop c.args.number found.at) one c.only-item.is fits c.closed-then-contains.ensures.closed in
+    closed_first p c.args.cell c.args.arguments.now c.args.from c.args.number c.args.cuts found (omega arith) c.closed-then-contains.ensures.turns (search rules) c.closed-then-contains.ensures.kept c.closed-then-contains.ensures.closed divides
+
+pub first_cuts-returns-else-contains : goal.first_cuts-returns-else-contains
+first_cuts-returns-else-contains t c others l h r =
+    let to = c.args.cell.to in
+    let one : length c.args.arguments.now ≡ 1 = omega (arith, c.in-len1.len_at_least, c.in-len1.len_below) in
+    let fits = fits_one c.args.problem.now c.args.arguments.now c.only-item.result c.args.from to others one c.only-item.is h in
+    let between = (c.ends.ensures.exact to (omega arith)).0 fits in
+    not_contained c.ends.result.start to c.ends.result.end c.if-contains.ensures.value between.0 between.1

@@ -1,0 +1,8 @@
+use Rattle.std.proofs.Common.{◌≡◌, length, take}
+use Rattle.std.specs.List.{list_any}
+use Rattle.yield_sizes.specs.ArgumentTests.{has_rule}
+use Rattle.yield_sizes.proofs.ArgumentFacts.{answers_of}
+use Rattle.yield_sizes.proofs.references.references.Given as goal
+
+abbrev pub invariant-loop-rule : goal.invariant-loop-rule
+invariant-loop-rule l = l.rows.items ≡ answers_of (λ other alternatives. list_any (has_rule other) alternatives) (length l.rules) (take l.rule-index l.rules)

@@ -1,0 +1,9 @@
+pub mod GrammarSizes
+pub mod KnownLengths
+pub mod Relations
+pub mod ArgumentTests
+pub mod LoopAnswers
+pub mod AnchorTests
+pub mod CountedCells
+pub mod Placing
+pub mod Starts

@@ -1,0 +1,100 @@
+//! The cells that the cell bound counts.
+
+ghost use Rattle.std.specs.Prelude.{◌≡◌, ℕ, ◌+◌, ◌<◌, ◌≤◌, ◌↔◌, length, IsTrue};
+ghost use Rattle.adp_model.specs.WellFormed.{is_well_formed};
+ghost use Rattle.adp_model.specs.Cells.{IsCellBound};
+ghost use Rattle.yield_sizes.specs.GrammarSizes.{AreSizes, AreAnchors};
+ghost use Rattle.yield_sizes.specs.CountedCells.{LeavesSpan, bounds_in};
+
+use crate::rule_anchors::Anchors;
+use crate::rule_sizes::Sizes;
+use adp_model::Grammar;
+use adp_model::laws::cells::places_go_on;
+use adp_model::laws::sizes::sizes_are_numbers;
+use adp_model::laws::well_formed::numbers_fit_together;
+use std::ops::Range;
+
+/// What decides which cells of a rule are counted: its sizes, and whether it is anchored.
+#[derive(Clone, Copy)]
+pub struct RuleBounds {
+    pub least: u32,
+    pub greatest: Option<u32>,
+    pub left: bool,
+    pub right: bool,
+}
+
+impl RuleBounds {
+    /// The ends that are left to the rule's cells which begin at `from`, in words of `len` letters.
+    pub fn ends(self, len: u32, from: u32) -> Range<u32>
+        requires short { len ≤ 4000 }
+        requires within { from ≤ len }
+        ensures ends { (to : ℕ) → LeavesSpan self len from to ↔ ((result.start ≤ to) × (to < result.end)) }
+        ensures in_order { result.start ≤ result.end }
+        ensures in_word { result.end ≤ len + 1 }
+    {
+        let room = len - from;
+        if (self.left && from > 0) || self.least > room {
+            return from..from;
+        }
+        let shortest = if self.right { room } else { self.least };
+        let longest = self.greatest.map_or(room, |most| most.min(room));
+        from + shortest..from + shortest.max(longest + 1)
+    }
+}
+
+/// The sizes and the anchors of all rules of a grammar.
+#[derive(Clone, Copy)]
+pub struct AllBounds<'a> {
+    pub least: &'a [u32],
+    pub greatest: &'a [Option<u32>],
+    pub left: &'a [bool],
+    pub right: &'a [bool],
+}
+
+impl AllBounds<'_> {
+    /// The bounds of one rule.
+    pub fn of_rule(&self, rule: usize) -> RuleBounds
+        requires least { rule < length self.now.least.now }
+        requires greatest { rule < length self.now.greatest.now }
+        requires left { rule < length self.now.left.now }
+        requires right { rule < length self.now.right.now }
+        ensures { result
+            ≡ bounds_in self.now.least.now self.now.greatest.now self.now.left.now self.now.right.now rule }
+    {
+        RuleBounds {
+            least: self.least[rule],
+            greatest: self.greatest[rule],
+            left: self.left[rule],
+            right: self.right[rule],
+        }
+    }
+}
+
+/// The cell bound of words of `n` letters: the number of cells whose length lies between their rule's sizes, and which
+/// begin and end where the rule is anchored. Takes no memory.
+pub fn cell_bound(grammar: &Grammar, sizes: &Sizes, anchors: &Anchors, n: u32) -> u64
+    requires well_formed { IsTrue (is_well_formed grammar.now) }
+    requires sizes { AreSizes grammar.now sizes.now }
+    requires anchors { AreAnchors grammar.now anchors.now }
+    requires letters { n ≤ 4000 }
+    ensures { IsCellBound grammar.now n result }
+{
+    numbers_fit_together();
+    sizes_are_numbers();
+    places_go_on();
+    let all = AllBounds {
+        least: sizes.least.as_slice(),
+        greatest: sizes.greatest.as_slice(),
+        left: anchors.left.as_slice(),
+        right: anchors.right.as_slice(),
+    };
+    let mut count = 0;
+    for rule in 0..grammar.rules.as_slice().len() {
+        let bounds = all.of_rule(rule);
+        for from in 0..n + 1 {
+            let ends = bounds.ends(n, from);
+            count += u64::from(ends.end - ends.start);
+        }
+    }
+    count
+}

@@ -1,0 +1,65 @@
+ghost use Rattle.std.specs.Prelude.{◌≡◌, ◌^◌, ◌<◌, ◌≤◌, List, [], ◌∷◌, length};
+ghost use Rattle.std.specs.List.{AllByRecursion};
+ghost use Rattle.adp_model.specs.declared.grammar.Arg.{Arg as Argument};
+ghost use Rattle.adp_model.specs.PosedProblem.{IsSpan};
+ghost use Rattle.adp_model.specs.WellFormed.{IsKnown};
+ghost use Rattle.yield_sizes.specs.Placing.{AreLengths, ArePlaces};
+
+use crate::ends::ends;
+use crate::parts::rule_sizes;
+use adp_model::{Arg, Problem};
+use std::ops::Range;
+
+/// The least and the greatest number of letters that an argument may have, if it has at most `most`.
+fn lengths(problem: &Problem<'_>, argument: &Arg, most: usize) -> (usize, usize)
+    requires known { IsKnown problem.now.grammar argument.now }
+    requires short { most < 2 ^ 16 }
+    ensures { AreLengths problem.now (argument.now ∷ []) most result.0 result.1 }
+{
+    let (least, greatest) = match argument {
+        Arg::Rule(rule) => rule_sizes(problem, *rule),
+        Arg::Literal(text) => {
+            let len = text.bytes().len();
+            return (len.min(most + 1), len.min(most));
+        }
+        Arg::Letter(_) => (1, Some(1)),
+        Arg::Run { low, high, .. } => (*low, *high),
+    };
+    let greatest = match greatest {
+        Some(greatest) => most.min(greatest as usize),
+        None => most,
+    };
+    ((least as usize).min(most + 1), greatest)
+}
+
+/// The same of several arguments, one behind the other.
+fn total_lengths(problem: &Problem<'_>, arguments: &[Arg], most: usize) -> (usize, usize)
+    requires known { AllByRecursion (IsKnown problem.now.grammar) arguments.now }
+    requires few { length arguments.now ≤ 4 }
+    requires short { most < 2 ^ 16 }
+    ensures { AreLengths problem.now arguments.now most result.0 result.1 }
+{
+    if arguments.is_empty() {
+        return (0, 0);
+    }
+    let (least, greatest) = lengths(problem, &arguments[0], most);
+    let (others_least, others_greatest) = total_lengths(problem, &arguments[1..], most);
+    (least + others_least, greatest + others_greatest)
+}
+
+/// Where the first argument, which begins at `from`, may end, as far as the lengths of the others leave a way up to
+/// `last`.
+pub fn places(problem: &Problem<'_>, arguments: &[Arg], from: usize, last: usize) -> Range<usize>
+    requires known { AllByRecursion (IsKnown problem.now.grammar) arguments.now }
+    requires some { 0 < length arguments.now }
+    requires few { length arguments.now ≤ 4 }
+    requires span { IsSpan problem.now.word from last }
+    requires short { last < 2 ^ 16 }
+    ensures { (first : Argument) (later : List Argument) → arguments.now ≡ first ∷ later
+        → ArePlaces problem.now first later from last result }
+{
+    let ends = ends(problem, &arguments[0], from, last);
+    let (least, greatest) = total_lengths(problem, &arguments[1..], last - from);
+    let start = ends.start.max(last.saturating_sub(greatest));
+    start..ends.end.min((last + 1).saturating_sub(least))
+}

@@ -1,0 +1,38 @@
+//! What the lengths of derived trees tell of a grammar: productive rules, sizes, loops and ranks, anchored rules and
+//! the cell bound; and the walk over the viable splits of a cell.
+#![tactic(auto)]
+
+mod anchoring;
+mod argument_tests;
+mod cells;
+mod counted_places;
+mod cuts;
+mod end_places;
+mod ends;
+mod greatest_lengths;
+mod least_lengths;
+mod loops;
+mod numbering;
+mod parts;
+mod placing;
+mod productive_rules;
+mod references;
+mod relation;
+mod rule_anchors;
+mod rule_sizes;
+mod sizing;
+#[cfg(test)]
+mod tests;
+mod walk;
+
+pub use anchoring::anchors;
+pub use cells::cell_bound;
+pub use counted_places::Places;
+pub use cuts::Cuts;
+pub use loops::{first_loop, ranks};
+pub use numbering::places;
+pub use productive_rules::productive;
+pub use rule_anchors::Anchors;
+pub use rule_sizes::Sizes;
+pub use sizing::sizes;
+pub use walk::{first_viable, next_viable};
