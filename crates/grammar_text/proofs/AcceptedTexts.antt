@@ -5,6 +5,7 @@ use Rattle.std.specs.Option.{option_map, option_map_or, option_eq}
 use Rattle.std.proofs.lemmas.Bool.{and_parts, and_from, or_parts, not-false, lt-ltb, le-leb, ltb-true, ltb-false, eq-eqb, cases_lt}
 use Rattle.std.proofs.lemmas.List.{length-map}
 use Rattle.adp_model.specs.Printable.{is_printable_byte}
+use Rattle.adp_model.specs.declared.grammar.Grammar.{Grammar}
 use Rattle.adp_model.specs.declared.job.Job.{Job}
 use Rattle.adp_model.specs.declared.fault.TextFault.{TextFault}
 use Rattle.adp_model.specs.WellFormed.{is_well_formed}
@@ -13,10 +14,11 @@ use Rattle.adp_model.specs.Declarations.{Declaration, HeaderLine, Skipped, Unpri
 use Rattle.adp_model.specs.DeclaredNames.{TextLines, text_lines, form_of, form_at, declarations, above, is_algebra_line}
 use Rattle.adp_model.specs.TextFaults.{is_axiom_line, is_words_line_number, Counted, limited, counts_of, counts_at, is_word_line, words_up_to}
 use Rattle.adp_model.specs.JobText.{declared_grammar, first_fault, Accepted, accepted_of, text_verdict, IsText, IsFaultOf}
+use Rattle.grammar_text.specs.Building.{are_buildable}
 use Rattle.grammar_text.proofs.Nothing.{map_none, not_some, none_of_both, none_passes}
 use Rattle.grammar_text.proofs.Faultless.{free, Each, each_faultless, IsFaultless, is_over}
 use Rattle.grammar_text.proofs.Shapes.{IsShaped, LineShaped, header_line-shaped}
-use Rattle.grammar_text.proofs.WellFormedText.{IsSound, AreSound, well_formed}
+use Rattle.grammar_text.proofs.WellFormedText.{IsSound, AreSound, well_formed, buildable}
 
 -- ---- the header
 
@@ -114,6 +116,10 @@ are_sound bytes h =
 pub accepted-well_formed : (bytes : List ℕ) → first_fault (text_lines bytes) ≡ None → IsTrue (is_well_formed (declared_grammar (declarations (text_lines bytes))))
 accepted-well_formed bytes h = well_formed (declarations (text_lines bytes)) (are_sound bytes h)
 
+-- the declarations of a text without a fault can be built of
+pub accepted-buildable : (bytes : List ℕ) → first_fault (text_lines bytes) ≡ None → are_buildable (declarations (text_lines bytes)) ≡ true
+accepted-buildable bytes h = buildable (declarations (text_lines bytes)) (are_sound bytes h)
+
 -- ---- words
 
 all_places : (test : List ℕ → Bool) (xs : List (List ℕ)) → ((k : ℕ) → k < length xs → test (slice_index_or xs k []) ≡ true) → list_all test xs ≡ true
@@ -207,3 +213,22 @@ one_fault bytes fault other refused again = same (text_verdict bytes) refused ag
   where
     same : (verdict : Result Accepted TextFault) → verdict ≡ Err fault → verdict ≡ Err other → fault ≡ other
     same verdict e f = cc
+
+-- ---- a job that is made of a text
+
+-- the grammar and the words of a text without a fault
+pub record IsMade (bytes : List ℕ) (grammar : Grammar) (words : List (List ℕ)) : Type 0 where
+  pub well_formed : IsTrue (is_well_formed grammar)
+  pub printable_words : IsTrue (list_all (list_all is_printable_byte) words)
+  pub few_words : IsTrue (nat_le (length words) 65536)
+  pub verdict : text_verdict bytes ≡ Ok (record { grammar = grammar; words = words })
+
+pub made : (bytes : List ℕ) (grammar : Grammar) (words : List (List ℕ)) → first_fault (text_lines bytes) ≡ None → grammar ≡ declared_grammar (declarations (text_lines bytes)) → words ≡ (text_lines bytes).words → IsMade bytes grammar words
+made bytes grammar words h g w =
+    let accepted : ◌≡◌ {A = Accepted} (accepted_of (text_lines bytes)) (record { grammar = grammar; words = words }) = λ i. record { grammar = sym g i; words = sym w i } in
+    record {
+      well_formed = subst (λ x. IsTrue (is_well_formed x)) (sym g) (accepted-well_formed bytes h);
+      printable_words = subst (λ x. IsTrue (list_all (list_all is_printable_byte) x)) (sym w) (accepted-printable bytes h);
+      few_words = subst (λ (x : List (List ℕ)). IsTrue (nat_le (length x) 65536)) (sym w) (accepted-few bytes h);
+      verdict = ap (verdict_of (text_lines bytes)) h ∙ ap (λ (a : Accepted). Ok a) accepted;
+    }

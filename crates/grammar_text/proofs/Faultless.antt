@@ -12,6 +12,7 @@ use Rattle.adp_model.specs.Declarations.{Alternative, Declaration, Rule, HeaderL
 use Rattle.adp_model.specs.DeclaredNames.{TextLines, form_of, form_at, declarations, above, below, sign_names, section_of, let_signs, is_algebra_line}
 use Rattle.adp_model.specs.TextFaults.{has_unprintable_byte, has_no_words_line, has_not_one_axiom, lacks_let, has_no_name, has_no_number, has_repeated_name, has_no_letters, has_misplaced_let, has_unknown_name, has_misfit, has_crossed_run, passes_limit, misnames, misnumbers, repeats, misletters, is_misplaced, uses_unknown, misfits, has_crossed_bounds, Counted, counts_of, counts_at, is_word_line, words_up_to, limited, FaultKind, fault_kinds, plain_kind}
 use Rattle.adp_model.specs.JobText.{fault_at, first_fault_at, first_fault}
+use Rattle.grammar_text.specs.Judged as judged
 use Rattle.grammar_text.proofs.Nothing.{or_none, map_none, not_some, none_passes, none_of_both, told}
 
 -- ---- kinds of faults at a line
@@ -110,10 +111,6 @@ each_line P header earlier (Says declaration ∷ later) e at =
 
 -- ---- what each declaration keeps
 
-abbrev pub crosses : Declaration → Bool
-crosses (Rule name alternatives) = list_any (λ (alternative : Alternative). list_any has_crossed_bounds alternative.arguments) alternatives
-crosses declaration = false
-
 abbrev pub is_over : Counted → Bool
 is_over counted = nat_lt counted.limit counted.count
 
@@ -126,7 +123,7 @@ pub record IsFaultless (all above : List Declaration) (declaration : Declaration
   pub placed : is_misplaced above declaration ≡ false
   pub known : uses_unknown all declaration ≡ false
   pub fit : misfits all declaration ≡ false
-  pub uncrossed : crosses declaration ≡ false
+  pub uncrossed : judged.has_crossed_run declaration ≡ false
   pub complete : (is_algebra_line declaration && not (list_all (is_among (let_signs (section_of below))) (sign_names all))) ≡ false
   pub counted : find is_over (counts_of above declaration) ≡ None
 
@@ -142,7 +139,7 @@ faultless_at text line declaration free e =
       placed = told (is_misplaced (above text line)) (form_at text line) declaration e free.placed;
       known = told (uses_unknown (declarations text)) (form_at text line) declaration e free.known;
       fit = told (misfits (declarations text)) (form_at text line) declaration e free.fit;
-      uncrossed = told crosses (form_at text line) declaration e free.uncrossed;
+      uncrossed = told judged.has_crossed_run (form_at text line) declaration e free.uncrossed;
       complete = told (λ d. is_algebra_line d && not (list_all (is_among (let_signs (section_of (below text line)))) (sign_names (declarations text)))) (form_at text line) declaration e (or_parts _ _ free.complete).0;
       counted = subst (λ o. find is_over (option_map_or (counts_of (above text line)) o []) ≡ None) e of_form;
     }

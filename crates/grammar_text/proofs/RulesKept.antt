@@ -17,7 +17,7 @@ use Rattle.adp_model.specs.DeclaredNames.{class_names, sign_names, rule_names, k
 use Rattle.adp_model.specs.TextFaults.{bound_of, fits_kind, fits_sign, is_unknown_argument, is_unknown_alternative, has_crossed_bounds, is_axiom_line, uses_unknown}
 use Rattle.adp_model.specs.JobText.{number_among, argument_of, alternative_of, axiom_name}
 use Rattle.grammar_text.proofs.Sorts.{number_within}
-use Rattle.grammar_text.proofs.Shapes.{is_printable_argument, is_printable_alternative}
+use Rattle.grammar_text.specs.Building.{is_printable_argument, is_printable_alternative}
 
 -- what a grammar has of the names that lines declare
 pub record HasNames (all : List Declaration) (grammar : Grammar) : Type 0 where

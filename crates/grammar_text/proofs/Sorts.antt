@@ -65,7 +65,7 @@ all_take Keeps (suc n) (x ∷ xs) h = (h.0, all_take Keeps n xs h.1)
 
 -- ---- distinct names
 
-distinct_more : (names : List (List ℕ)) (name : List ℕ) → are_distinct names ≡ true → is_among names name ≡ false → are_distinct (names ++ name ∷ []) ≡ true
+pub distinct_more : (names : List (List ℕ)) (name : List ℕ) → are_distinct names ≡ true → is_among names name ≡ false → are_distinct (names ++ name ∷ []) ≡ true
 distinct_more [] name h k = refl
 distinct_more (first ∷ names) name h k =
     let apart = and_parts (not (list_any (pointwise nat_eq first) names)) (are_distinct names) h in

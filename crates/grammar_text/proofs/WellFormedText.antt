@@ -10,11 +10,13 @@ use Rattle.adp_model.specs.declared.grammar.Sign as signs
 use Rattle.adp_model.specs.declared.grammar.Algebra as algebras
 use Rattle.adp_model.specs.declared.grammar.Rule as rules
 use Rattle.adp_model.specs.WellFormed.{is_name, is_class, is_sign, is_algebra, is_alternative, is_rule, are_distinct, counts_fit, names_differ, parts_fit, is_well_formed}
-use Rattle.adp_model.specs.TermText.{is_among}
-use Rattle.adp_model.specs.Declarations.{Declaration, Class, Sign, Algebra, Let, Rule, Axiom, Words}
+use Rattle.adp_model.specs.TermText.{Part, is_among, are_names, are_numbers, totals_fit, are_declared}
+use Rattle.adp_model.specs.declared.grammar.Grammar.{Grammar}
+use Rattle.adp_model.specs.Declarations.{Alternative, Declaration, Class, Sign, Algebra, Let, Rule, Axiom, Words}
 use Rattle.adp_model.specs.DeclaredNames.{class_name_of, sign_name_of, algebra_name_of, rule_name_of, class_names, sign_names, algebra_names, rule_names, is_algebra_line}
-use Rattle.adp_model.specs.TextFaults.{repeats, alternative_names, is_axiom_line, uses_unknown, fits_sign, Counted, limited, counts_of, class_letters}
+use Rattle.adp_model.specs.TextFaults.{misnames, repeats, alternative_names, is_axiom_line, uses_unknown, fits_sign, Counted, limited, counts_of, class_letters}
 use Rattle.adp_model.specs.JobText.{declared_class, declared_sign, declared_rule, declared_algebras, alternative_of, declared_grammar}
+use Rattle.grammar_text.specs.Building.{is_printable_alternative, is_buildable, are_buildable}
 use Rattle.grammar_text.proofs.Nothing.{none_passes}
 use Rattle.grammar_text.proofs.Faultless.{Each, each_so, IsFaultless, is_over}
 use Rattle.grammar_text.proofs.Shapes.{IsShaped}
@@ -40,7 +42,7 @@ pub record AreSound (all : List Declaration) : Type 0 where
 abbrev class_name : classes.Class → List ℕ
 class_name class = class.name
 
-abbrev sign_name : signs.Sign → List ℕ
+abbrev pub sign_name : signs.Sign → List ℕ
 sign_name sign = sign.name
 
 abbrev rule_name : rules.Rule → List ℕ
@@ -76,7 +78,7 @@ rule_name_same all Words = refl
 class_names_same : (all : List Declaration) → map class_name (filter_map declared_class all) ≡ class_names all
 class_names_same all = names_of_parts declared_class class_name class_name_of class_name_same all
 
-sign_names_same : (all : List Declaration) → map sign_name (filter_map declared_sign all) ≡ sign_names all
+pub sign_names_same : (all : List Declaration) → map sign_name (filter_map declared_sign all) ≡ sign_names all
 sign_names_same all = names_of_parts declared_sign sign_name sign_name_of sign_name_same all
 
 rule_names_same : (all : List Declaration) → map rule_name (filter_map (declared_rule all) all) ≡ rule_names all
@@ -252,6 +254,11 @@ has_names all = record {
       (found.kinds, found.by_name, rw (number_place (sign_names all) name h) found.by_place);
 }
 
+rule_named : (name : List ℕ) (alternatives : List Alternative) → misnames (Rule name alternatives) ≡ false → is_name name ≡ true
+rule_named name alternatives h =
+    let others = list_all is_name (flat_map alternative_names alternatives) in
+    (and_parts (is_name name) others (and_parts (is_name name && others) true (not-false ((is_name name && others) && true) h)).0).0
+
 rule_sound : (all above : List Declaration) (d : Declaration) (below : List Declaration) → IsSound all above d below → (x : rules.Rule) → declared_rule all d ≡ Some x → is_rule (declared_grammar all) x ≡ true
 rule_sound all above (Rule name alternatives) below h x e =
     let alts = map (alternative_of all) alternatives in
@@ -259,7 +266,7 @@ rule_sound all above (Rule name alternatives) below h x e =
     let counted : length alts ≡ length alternatives = length-map alternatives (alternative_of all) in
     let some_alternative : 1 ≤ length alternatives = h.shaped.0 in
     let most : length alternatives ≤ 64 = ltb-false 64 (length alternatives) (within (counts_of above (Rule name alternatives)) 1 (limited 0 0) h.faultless.counted (lit< tt)) in
-    let named : is_name name ≡ true = (and_parts (is_name name) (list_all is_name (flat_map alternative_names alternatives)) (and_parts (is_name name && list_all is_name (flat_map alternative_names alternatives)) true (not-false ((is_name name && list_all is_name (flat_map alternative_names alternatives)) && true) h.faultless.named)).0).0 in
+    let named : is_name name ≡ true = rule_named name alternatives h.faultless.named in
     let fits : list_all (is_alternative (declared_grammar all)) alts ≡ true =
     alternatives_fit all (declared_grammar all) (has_names all) alternatives h.faultless.known (not-false (list_all (fits_sign all) alternatives) h.faultless.fit) h.faultless.uncrossed h.shaped.1 in
     subst (λ r. is_rule (declared_grammar all) r ≡ true) (same_Some it x e)
@@ -292,3 +299,36 @@ kept_parts all h =
 
 pub well_formed : (all : List Declaration) → AreSound all → is_well_formed (declared_grammar all) ≡ true
 well_formed all h = and_from _ _ (and_from _ _ (kept_counts all h) (distinct_names all h)) (kept_parts all h)
+
+-- ---- building
+
+all_named : (sign : List ℕ) (variables : List (List ℕ)) (term : List Part) → misnames (Let sign variables term) ≡ false → (list_all is_name variables && are_names term) ≡ true
+all_named sign variables term h =
+    let named = list_all is_name variables in
+    let parts = and_parts (is_name sign && named) (are_names term) (not-false ((is_name sign && named) && are_names term) h) in
+    and_from named (are_names term) (and_parts (is_name sign) named parts.0).1 parts.1
+
+sound_buildable : (all above : List Declaration) (d : Declaration) (below : List Declaration) → IsSound all above d below → is_buildable d ≡ true
+sound_buildable all above (Class name items) below h = one_name name h.faultless.named
+sound_buildable all above (Sign name kinds) below h = one_name name h.faultless.named
+sound_buildable all above (Algebra name goal) below h = one_name name h.faultless.named
+sound_buildable all above (Let sign variables term) below h =
+    let numbers = are_numbers term && totals_fit term in
+    let named = list_all is_name variables && are_names term in
+    let known = and_parts (is_among (sign_names all) sign) (are_declared variables term) (not-false (is_among (sign_names all) sign && are_declared variables term) h.faultless.known) in
+    and_from (named && numbers) (are_declared variables term) (and_from named numbers (all_named sign variables term h.faultless.named) (not-false numbers h.faultless.numbered)) known.1
+sound_buildable all above (Rule name alternatives) below h = and_from (is_name name) (list_all is_printable_alternative alternatives) (rule_named name alternatives h.faultless.named) h.shaped.1
+sound_buildable all above (Axiom rule) below h = refl
+sound_buildable all above Words below h = refl
+
+pub buildable : (all : List Declaration) → AreSound all → are_buildable all ≡ true
+buildable all h = all_true is_buildable all (each_all (IsSound all) (λ d. is_buildable d ≡ true) (sound_buildable all) [] all h.each)
+
+-- a grammar of the parts that lines declare
+pub grammar_is : (all : List Declaration) (of_classes : List classes.Class) (of_signs : List signs.Sign) (of_algebras : List algebras.Algebra) (of_rules : List rules.Rule) (number : ℕ)
+    → of_classes ≡ filter_map declared_class all → of_signs ≡ filter_map declared_sign all → of_algebras ≡ declared_algebras (map sign_name of_signs) all → of_rules ≡ filter_map (declared_rule all) all
+    → number ≡ (declared_grammar all).axiom → ◌≡◌ {A = Grammar} (record { classes = of_classes; signs = of_signs; algebras = of_algebras; rules = of_rules; «axiom» = number }) (declared_grammar all)
+grammar_is all of_classes of_signs of_algebras of_rules number c s a r n =
+    let names : map sign_name of_signs ≡ sign_names all = ap (λ l. map sign_name l) s ∙ sign_names_same all in
+    let same : of_algebras ≡ declared_algebras (sign_names all) all = a ∙ ap (λ l. declared_algebras l all) names in
+    λ i. record { classes = c i; signs = s i; algebras = same i; rules = r i; «axiom» = n i }

@@ -1,7 +1,12 @@
 //! The text format `adp 1` of jobs.
 #![tactic(auto)]
 
+mod error;
 pub mod laws;
+mod reader;
+mod reading;
 mod writer;
 
+pub use error::TextError;
+pub use reading::read_text;
 pub use writer::write_text;

@@ -1,0 +1,200 @@
+-- One step of a list in a line: what is read so far stays a part of all.
+use Rattle.std.proofs.Common.{◌≡◌, ℕ, zero, suc, ◌+◌, ◌*◌, ◌-◌, ◌≤◌, Option, Some, None, List, [], ◌∷◌, ◌++◌, length, map, take, drop, refl, ◌∙◌, ap, sym, drop-drop, length-drop, append-nil, arith}
+use Rattle.std.specs.Borrow.{Bor}
+use Rattle.std.proofs.Math.Seq.{take-length}
+use Rattle.adp_model.specs.declared.grammar.Kind.{Kind}
+use Rattle.adp_model.specs.LineTokens.{Token, OpenSquare, Word, CloseSquare, Dots, CloseBracket, Comma, Bar}
+use Rattle.adp_model.specs.Declarations as forms
+use Rattle.algebra_terms.specs.declared.symbols.Symbol.{Symbol}
+use Rattle.grammar_text.specs.declared.reader.declaration.Item.{Item}
+use Rattle.grammar_text.specs.declared.reader.declaration.Argument.{Argument}
+use Rattle.grammar_text.specs.declared.reader.declaration.Argument.TheVariants as arguments
+use Rattle.grammar_text.specs.declared.reader.declaration.Alternative.{Alternative}
+use Rattle.grammar_text.specs.declared.reader.shape.Next.TheVariants as next
+use Rattle.grammar_text.specs.Seen.{tokens_seen, item_seen, argument_seen, words_seen, behind_class, high_bound, let_tokens_seen, IsFirstItem, IsFirstKind, IsFirstVariable, IsFirstArgument, IsArgumentEnd, IsHighBound, IsFirstSign, IsBehindArgument, AreArguments, with_arguments, alternative_seen}
+use Rattle.grammar_text.proofs.Fronts.{with_front, front_last, seen_more, front_more, with_variables, variables_more, arguments_more, alternative_closed}
+
+-- the symbols from a place on, cut off at their end
+pub rest_of : {X : Type 0} (list : List X) (place : ℕ) → take (length list - place) (drop place list) ≡ drop place list
+rest_of list place = rw (← length-drop place list) (take-length (drop place list))
+
+-- where it has so many symbols, some are left behind a place
+pub place_within : {X : Type 0} (list : List X) (place used : ℕ) → place ≤ length list → used ≤ length (drop place list) → place + used ≤ length list
+place_within list place used h within = omega (arith, simp length-drop at within)
+
+pub items_step : (said : List Symbol) (at used : ℕ) (front items : List Item) (item : Item) (all : Option (List forms.Item))
+    → at ≤ length said → IsFirstItem (drop at said) (Some (item, used))
+    → with_front (map item_seen front) (forms.further_items (tokens_seen (drop at said))) ≡ all
+    → items ≡ front ++ item ∷ []
+    → with_front (map item_seen items) (forms.further_items (tokens_seen (drop (at + used) said))) ≡ all
+items_step said at used front items item all h first seen is =
+    rw (is, seen_more item_seen front item, ← drop-drop) (rw first.0 at seen)
+
+pub kinds_step : (said : List Symbol) (at : ℕ) (front kinds : List Kind) (kind : Kind) (all : Option (List Kind))
+    → IsFirstKind (drop at said) (Some (kind, next.Another))
+    → with_front front (forms.kinds_of (tokens_seen (drop at said))) ≡ all
+    → kinds ≡ front ++ kind ∷ []
+    → with_front kinds (forms.kinds_of (tokens_seen (drop (at + 2) said))) ≡ all
+kinds_step said at front kinds kind all first seen is =
+    rw (is, front_more front kind, ← drop-drop) (rw first.0 at seen)
+
+pub variables_step : (said : List Symbol) (at : ℕ) (front variables : List (Bor (List ℕ))) (variable : Bor (List ℕ)) (all : Option forms.LetTokens)
+    → IsFirstVariable (drop at said) (Some (variable, next.Another))
+    → with_variables (words_seen front) (forms.let_tokens (tokens_seen (drop at said))) ≡ all
+    → variables ≡ front ++ variable ∷ []
+    → with_variables (words_seen variables) (forms.let_tokens (tokens_seen (drop (at + 2) said))) ≡ all
+variables_step said at front variables variable all first seen is =
+    rw (is, variables_more front variable, ← drop-drop) (rw first.0 at seen)
+
+pub variables_end : (said : List Symbol) (at : ℕ) (front variables : List (Bor (List ℕ))) (variable : Bor (List ℕ)) (all : Option forms.LetTokens)
+    → IsFirstVariable (drop at said) (Some (variable, next.End))
+    → with_variables (words_seen front) (forms.let_tokens (tokens_seen (drop at said))) ≡ all
+    → variables ≡ front ++ variable ∷ []
+    → at + 3 ≡ 2 * length variables + 1
+    → Some (let_tokens_seen variables said) ≡ all
+variables_end said at front variables variable all first seen is place =
+    let seen_all : with_variables (words_seen variables) (Some (record { variables = []; term = tokens_seen (drop 3 (drop at said)) })) ≡ all =
+    variables_more_is front variables variable (Some (record { variables = []; term = tokens_seen (drop 3 (drop at said)) })) is ∙ rw first.0 at seen in
+    rw (← place, ← drop-drop) (sym (closed variables (tokens_seen (drop 3 (drop at said)))) ∙ seen_all)
+  where
+    closed : (front : List (Bor (List ℕ))) (term : List Token)
+        → with_variables (words_seen front) (Some (record { variables = []; term = term })) ≡ Some (record { variables = words_seen front; term = term })
+    closed front term = simp append-nil
+
+    variables_more_is : (front variables : List (Bor (List ℕ))) (variable : Bor (List ℕ)) (rest : Option forms.LetTokens) → variables ≡ front ++ variable ∷ []
+        → with_variables (words_seen variables) rest ≡ with_variables (words_seen front) (forms.with_variable variable.now rest)
+    variables_more_is front variables variable rest is = ap (λ (these : List (Bor (List ℕ))). with_variables (words_seen these) rest) is ∙ variables_more front variable rest
+
+pub arguments_step : (said : List Symbol) (at used : ℕ) (front arguments : List Argument) (argument : Argument) (all : Option forms.RuleRest)
+    → IsFirstArgument (drop at said) (Some (argument, used))
+    → with_arguments (map argument_seen front) (forms.arguments_of (tokens_seen (drop at said))) ≡ all
+    → arguments ≡ front ++ argument ∷ []
+    → with_arguments (map argument_seen arguments) (forms.behind_argument (tokens_seen (drop (at + used) said))) ≡ all
+arguments_step said at used front arguments argument all first seen is =
+    rw (is, arguments_more argument_seen front argument, ← drop-drop) (rw first.0 at seen)
+
+-- an argument in square brackets
+pub in_brackets : (class : List ℕ) (tokens : List Token) → forms.arguments_of (OpenSquare ∷ Word class ∷ tokens) ≡ behind_class class tokens
+in_brackets class (CloseSquare ∷ tokens) = refl
+in_brackets class (Word low ∷ Dots ∷ CloseSquare ∷ tokens) = refl
+in_brackets class (Word low ∷ Dots ∷ Word high ∷ CloseSquare ∷ tokens) = refl
+in_brackets class tokens = refl
+
+-- an argument in square brackets, read to its end
+pub run_end : (class low : Bor (List ℕ)) (said : List Symbol) (high : Option (Bor (List ℕ))) (used : ℕ)
+    → tokens_seen said ≡ Word low.now ∷ Dots ∷ tokens_seen (drop 2 said) → 2 ≤ length said
+    → IsHighBound (drop 2 said) (Some (high, used))
+    → IsArgumentEnd (λ tokens. behind_class class.now tokens) said (Some (arguments.RunOf class low high, 2 + used))
+run_end class low said high used front long bound =
+    (rw (front, bound.0, drop-drop) refl, place_within said 2 used long bound.1)
+
+pub run_unended : (class : List ℕ) (low : List ℕ) (said : List Symbol)
+    → tokens_seen said ≡ Word low ∷ Dots ∷ tokens_seen (drop 2 said)
+    → high_bound (tokens_seen (drop 2 said)) ≡ None
+    → behind_class class (tokens_seen said) ≡ None
+run_unended class low said front none = rw (front, none) refl
+
+pub brackets_end : (class : Bor (List ℕ)) (said : List Symbol) (argument : Argument) (used : ℕ)
+    → tokens_seen said ≡ OpenSquare ∷ Word class.now ∷ tokens_seen (drop 2 said) → 2 ≤ length said
+    → IsArgumentEnd (λ tokens. behind_class class.now tokens) (drop 2 said) (Some (argument, used))
+    → IsFirstArgument said (Some (argument, 2 + used))
+brackets_end class said argument used front long end =
+    (rw (front, in_brackets class.now (tokens_seen (drop 2 said)), end.0, drop-drop) refl, omega arith, place_within said 2 used long end.1)
+
+pub brackets_unended : (class : List ℕ) (said : List Symbol)
+    → tokens_seen said ≡ OpenSquare ∷ Word class ∷ tokens_seen (drop 2 said)
+    → behind_class class (tokens_seen (drop 2 said)) ≡ None
+    → forms.arguments_of (tokens_seen said) ≡ None
+brackets_unended class said front none = rw (front, in_brackets class (tokens_seen (drop 2 said)), none) refl
+
+-- an alternative up to its closing bracket
+pub sign_step : (said : List Symbol) (at used : ℕ) (sign : Bor (List ℕ)) (found : List Argument)
+    → IsFirstSign (drop at said) (Some sign) → AreArguments (drop (at + 2) said) (Some (found, used))
+    → forms.alternatives_of (tokens_seen (drop at said))
+    ≡ forms.with_sign sign.now (with_arguments (map argument_seen found) (forms.behind_argument (CloseBracket ∷ tokens_seen (drop (at + 2 + used) said))))
+sign_step said at used sign found first all =
+    rw (first.0, drop-drop) (ap (λ (rest : Option forms.RuleRest). forms.with_sign sign.now rest) (rw drop-drop at all.0))
+
+-- the end of alternatives
+pub alternatives_end : (said : List Symbol) (at used : ℕ) (sign : Bor (List ℕ)) (found : List Argument) (front alternatives : List Alternative) (next : Alternative) (all : Option (List forms.Alternative))
+    → IsFirstSign (drop at said) (Some sign) → AreArguments (drop (at + 2) said) (Some (found, used))
+    → alternative_seen next ≡ record { sign = sign.now; arguments = map argument_seen found }
+    → with_front (map alternative_seen front) (forms.alternatives_of (tokens_seen (drop at said))) ≡ all
+    → alternatives ≡ front ++ next ∷ []
+    → drop (at + 2 + used) said ≡ []
+    → Some (map alternative_seen alternatives) ≡ all
+alternatives_end said at used sign found front alternatives next all first those is_next seen is end =
+    let step = sign_step said at used sign found first those in
+    let closed = alternative_closed sign.now (map argument_seen found) (Some []) in
+    let behind : forms.behind_argument (CloseBracket ∷ tokens_seen (drop (at + 2 + used) said)) ≡ forms.at_close (Some []) = rw end refl in
+    let read : forms.and_before (alternative_seen next) (Some []) ≡ forms.alternatives_of (tokens_seen (drop at said)) =
+    ap (λ (this : forms.Alternative). forms.and_before this (Some [])) is_next
+    ∙ sym closed
+    ∙ sym (ap (λ (rest : Option forms.RuleRest). forms.with_sign sign.now (with_arguments (map argument_seen found) rest)) behind)
+    ∙ sym step in
+    let all_seen : with_front (map alternative_seen front) (forms.and_before (alternative_seen next) (Some [])) ≡ all =
+    ap (with_front (map alternative_seen front)) read ∙ seen in
+    rw is (sym (front_last (map alternative_seen (front ++ next ∷ []))) ∙ seen_more alternative_seen front next (Some []) ∙ all_seen)
+
+pub alternatives_step : (said : List Symbol) (at used : ℕ) (sign : Bor (List ℕ)) (found : List Argument) (front alternatives : List Alternative) (next : Alternative) (all : Option (List forms.Alternative))
+    → IsFirstSign (drop at said) (Some sign) → AreArguments (drop (at + 2) said) (Some (found, used))
+    → alternative_seen next ≡ record { sign = sign.now; arguments = map argument_seen found }
+    → with_front (map alternative_seen front) (forms.alternatives_of (tokens_seen (drop at said))) ≡ all
+    → alternatives ≡ front ++ next ∷ []
+    → tokens_seen (drop (at + 2 + used) said) ≡ Bar ∷ tokens_seen (drop 1 (drop (at + 2 + used) said))
+    → with_front (map alternative_seen alternatives) (forms.alternatives_of (tokens_seen (drop (at + 2 + used + 1) said))) ≡ all
+alternatives_step said at used sign found front alternatives next all first those is_next seen is bar =
+    let step = sign_step said at used sign found first those in
+    let others = forms.alternatives_of (tokens_seen (drop (at + 2 + used + 1) said)) in
+    let closed = alternative_closed sign.now (map argument_seen found) others in
+    let behind : forms.behind_argument (CloseBracket ∷ tokens_seen (drop (at + 2 + used) said)) ≡ forms.at_close others =
+    rw bar (rw drop-drop refl) in
+    let all_seen : with_front (map alternative_seen front) (forms.and_before (alternative_seen next) others) ≡ all =
+    rw (is_next, ← closed, ← behind, ← step) seen in
+    rw is (seen_more alternative_seen front next others ∙ all_seen)
+
+pub alternatives_unended : (said : List Symbol) (at used : ℕ) (sign : Bor (List ℕ)) (found : List Argument) (front : List forms.Alternative) (all : Option (List forms.Alternative))
+    → IsFirstSign (drop at said) (Some sign) → AreArguments (drop (at + 2) said) (Some (found, used))
+    → with_front front (forms.alternatives_of (tokens_seen (drop at said))) ≡ all
+    → forms.behind_argument (CloseBracket ∷ tokens_seen (drop (at + 2 + used) said)) ≡ None
+    → None ≡ all
+alternatives_unended said at used sign found front all first those seen none =
+    let step = sign_step said at used sign found first those in
+    rw (← seen, step, none) refl
+
+pub alternatives_without : (said : List Symbol) (at : ℕ) (sign : Bor (List ℕ)) (front : List forms.Alternative) (all : Option (List forms.Alternative))
+    → IsFirstSign (drop at said) (Some sign) → AreArguments (drop (at + 2) said) None
+    → with_front front (forms.alternatives_of (tokens_seen (drop at said))) ≡ all
+    → None ≡ all
+alternatives_without said at sign front all first none seen =
+    rw (← seen, first.0, drop-drop, none) refl
+
+-- the end of arguments
+pub arguments_end : (said : List Symbol) (at used : ℕ) (front found : List Argument) (argument : Argument) (all : Option forms.RuleRest)
+    → at ≤ length said
+    → IsFirstArgument (drop at said) (Some (argument, used))
+    → with_arguments (map argument_seen front) (forms.arguments_of (tokens_seen (drop at said))) ≡ all
+    → found ≡ front ++ argument ∷ []
+    → IsBehindArgument (drop (at + used) said) (Some next.End)
+    → all ≡ with_arguments (map argument_seen found) (forms.behind_argument (CloseBracket ∷ tokens_seen (drop (at + used + 1) said)))
+arguments_end said at used front found argument all within first seen is behind =
+    let closed : tokens_seen (drop (at + used) said) ≡ CloseBracket ∷ tokens_seen (drop (at + used + 1) said) = rw drop-drop at behind in
+    rw (← closed) (sym (arguments_step said at used front found argument all first seen is))
+
+pub arguments_next : (said : List Symbol) (at used : ℕ) (front found : List Argument) (argument : Argument) (all : Option forms.RuleRest)
+    → IsFirstArgument (drop at said) (Some (argument, used))
+    → with_arguments (map argument_seen front) (forms.arguments_of (tokens_seen (drop at said))) ≡ all
+    → found ≡ front ++ argument ∷ []
+    → IsBehindArgument (drop (at + used) said) (Some next.Another)
+    → with_arguments (map argument_seen found) (forms.arguments_of (tokens_seen (drop (at + used + 1) said))) ≡ all
+arguments_next said at used front found argument all first seen is behind =
+    let comma : tokens_seen (drop (at + used) said) ≡ Comma ∷ tokens_seen (drop (at + used + 1) said) = rw drop-drop at behind in
+    let step = arguments_step said at used front found argument all first seen is in
+    rw comma at step
+
+-- where a token stands behind a place, the place is before the end
+pub one_within : (said : List Symbol) (place : ℕ) (token : Token) (others : List Token) → tokens_seen (drop place said) ≡ token ∷ others → place + 1 ≤ length said
+one_within [] zero token others h = cc
+one_within [] (suc place) token others h = cc
+one_within (symbol ∷ said) zero token others h = omega arith
+one_within (symbol ∷ said) (suc place) token others h = omega (arith, one_within said place token others h)

@@ -1,0 +1,11 @@
+use Rattle.std.proofs.Common.{◌≡◌, map, drop}
+use Rattle.std.specs.List.{filter_map}
+use Rattle.adp_model.specs.DeclaredNames.{first_of_list}
+use Rattle.adp_model.specs.JobText.{term_given}
+use Rattle.grammar_text.specs.Seen.{declaration_seen}
+use Rattle.grammar_text.proofs.reader.algebras.term_in.Given as goal
+
+abbrev pub invariant-loop-declaration : goal.invariant-loop-declaration
+invariant-loop-declaration l =
+    first_of_list (filter_map (term_given l.sign) (map declaration_seen (drop l.declaration-index l.section)))
+    ≡ first_of_list (filter_map (term_given l.sign) (map declaration_seen l.section))

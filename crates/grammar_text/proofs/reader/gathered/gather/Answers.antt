@@ -1,0 +1,26 @@
+use Rattle.std.proofs.Common.{◌≡◌, ℕ, Option, List, ◌∷◌, length, map, drop, sym, ◌∙◌, ap, refl}
+use Rattle.std.specs.Borrow.{Bor}
+use Rattle.adp_model.specs.JobLines.{job_lines, up_to_words_line, words_line_of, words_of, header_of}
+use Rattle.adp_model.specs.Declarations as forms
+use Rattle.adp_model.specs.DeclaredNames.{TextLines, text_lines}
+use Rattle.grammar_text.specs.Gathering.{text_seen, words_line_in}
+use Rattle.grammar_text.specs.Collecting.{header_seen}
+use Rattle.grammar_text.specs.Seen.{words_seen}
+use Rattle.grammar_text.proofs.HeaderParts.{declared_within, parts_within}
+use Rattle.grammar_text.proofs.Gathering.{words_line_is, words_behind_first, text_is}
+use Rattle.grammar_text.proofs.reader.gathered.gather.Goals as goal
+
+pub returns-clause-seen : goal.returns-clause-seen
+returns-clause-seen c =
+    text_is c.args.text.now (words_seen c.in_ok-lines.lines.items) (words_seen c.behind_first.result.now) (header_seen c.in_ok-header.header) c.words_line_of-words_line.result
+    c.in_ok-lines.ensures.lines (ap words_seen (c.behind_first.ensures ∙ ap (λ (these : List (Bor (List ℕ))). drop 1 these) c.deref.ensures.value) ∙ words_behind_first c.in_ok-lines.lines.items) c.in_ok-header.ensures.seen c.words_line_of-words_line.ensures
+
+pub returns-clause-declared : goal.returns-clause-declared
+returns-clause-declared c =
+    declared_within c.in_ok-header.header.sorts.items c.in_ok-header.header.declared.items c.in_ok-lines.lines.items c.behind_first.result.now
+    c.in_ok-header.ensures.says c.in_ok-header.ensures.seen (c.behind_first.ensures ∙ ap (λ (these : List (Bor (List ℕ))). drop 1 these) c.deref.ensures.value) (length c.args.text.now) c.in_ok-lines.ensures.few
+
+pub returns-clause-parts : goal.returns-clause-parts
+returns-clause-parts c =
+    parts_within c.in_ok-header.header.sorts.items c.in_ok-header.header.declared.items c.in_ok-lines.lines.items c.behind_first.result.now
+    c.in_ok-header.ensures.says c.in_ok-header.ensures.seen (c.behind_first.ensures ∙ ap (λ (these : List (Bor (List ℕ))). drop 1 these) c.deref.ensures.value) c.in_ok-lines.ensures.short

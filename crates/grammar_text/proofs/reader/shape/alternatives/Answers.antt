@@ -1,0 +1,34 @@
+use Rattle.std.proofs.Common.{map, refl}
+use Rattle.grammar_text.specs.Seen.{alternative_seen}
+use Rattle.grammar_text.proofs.ShapeSteps.{rest_of, one_within, alternatives_end, alternatives_step, alternatives_unended, alternatives_without}
+use Rattle.grammar_text.proofs.reader.shape.alternatives.Goals as goal
+
+pub returns-in_default-2 : goal.returns-in_default-2
+returns-in_default-2 c =
+    let first = rw rest_of at c.in-Some.ensures in
+    let none = rw (rest_of, c.in_default-2.is) at c.in_ok-arguments.ensures in
+    alternatives_without c.args.said.now c.loop-sign.at c.in-Some.sign (map alternative_seen c.loop-sign.alternatives.items) _ first none c.loop-sign.invariant.seen
+
+pub returns-in-Some-End : goal.returns-in-Some-End
+returns-in-Some-End c =
+    let first = rw rest_of at c.in-Some.ensures in
+    let those = rw (rest_of, c.in-Some-2.is) at c.in_ok-arguments.ensures in
+    let end = rw (c.in-Some-End.field-0-is, rest_of) at c.in-Some-End.ensures in
+    alternatives_end c.args.said.now c.loop-sign.at c.in-Some-2.used c.in-Some.sign c.in-Some-2.arguments.items c.loop-sign.alternatives.items c.push.new.self.items _ _ first those refl c.loop-sign.invariant.seen c.in_ok-push.ensures.items end
+
+pub loop-sign-preserved : goal.loop-sign-preserved
+loop-sign-preserved c =
+    let first = rw rest_of at c.in-Some.ensures in
+    let those = rw (rest_of, c.in-Some-2.is) at c.in_ok-arguments.ensures in
+    let bar = rw (c.in-Some-Another.field-0-is, rest_of) at c.in-Some-Another.ensures in
+    record {
+      within = one_within _ _ _ _ bar;
+      seen = alternatives_step c.args.said.now c.loop-sign.at c.in-Some-2.used c.in-Some.sign c.in-Some-2.arguments.items c.loop-sign.alternatives.items c.push.new.self.items _ _ first those refl c.loop-sign.invariant.seen c.in_ok-push.ensures.items bar;
+    }
+
+pub returns-in-None : goal.returns-in-None
+returns-in-None c =
+    let first = rw rest_of at c.in-Some.ensures in
+    let those = rw (rest_of, c.in-Some-2.is) at c.in_ok-arguments.ensures in
+    let none = rw rest_of at c.in-None.ensures in
+    alternatives_unended c.args.said.now c.loop-sign.at c.in-Some-2.used c.in-Some.sign c.in-Some-2.arguments.items (map alternative_seen c.loop-sign.alternatives.items) _ first those c.loop-sign.invariant.seen none

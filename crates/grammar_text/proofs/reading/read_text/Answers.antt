@@ -1,0 +1,19 @@
+use Rattle.std.proofs.Common.{◌≡◌, List, length, map, refl, sym, ◌∙◌, ap}
+use Rattle.std.proofs.lemmas.List.{length-map}
+use Rattle.adp_model.specs.DeclaredNames.{TextLines, declarations}
+use Rattle.adp_model.specs.JobLines.{words_line_of}
+use Rattle.grammar_text.specs.Gathering.{text_seen}
+use Rattle.grammar_text.specs.Seen.{declaration_seen}
+use Rattle.grammar_text.proofs.Placing.{all_is}
+use Rattle.grammar_text.proofs.reading.read_text.Goals as goal
+
+pub words_of-requires : goal.words_of-requires
+words_of-requires c =
+    ap (λ (text : TextLines). text.words_line) c.in_ok-text.ensures.seen ∙ ap words_line_of (sym (ap (λ (text : TextLines). text.lines) c.in_ok-text.ensures.seen))
+
+pub job_of-requires-clause-declarations : goal.job_of-requires-clause-declarations
+job_of-requires-clause-declarations c =
+    let declared = c.in_ok-text.text.header.declared.items in
+    ap (map declaration_seen) c.deref-2.ensures.value
+    ∙ sym (all_is (text_seen c.in_ok-text.text) c.in_ok-text.text.header.sorts.items (map declaration_seen declared) (c.in_ok-text.ensures.says ∙ sym (length-map declared declaration_seen)) refl)
+    ∙ ap declarations c.in_ok-text.ensures.seen

@@ -1,0 +1,10 @@
+pub mod Building
+pub mod Judged
+pub mod Names
+pub mod Reading
+pub mod Seen
+pub mod Collecting
+pub mod Gathering
+pub mod LineKinds
+pub mod LineTests
+pub mod JoinedTests

@@ -1,0 +1,86 @@
+// What header lines say, as slices of the input.
+
+ghost use Rattle.std.specs.Prelude.{◌≤◌, ◌^◌, length, IsSome};
+ghost use Rattle.adp_model.specs.TermParts.{term_parts};
+
+use adp_model::{Goal, Kind};
+
+/// Letters of a class as they are spelled, from behind their first `"`, and the word of their weight.
+#[derive(Clone, Copy)]
+pub(crate) struct Item<'a> {
+    pub(crate) letters: &'a [u8],
+    pub(crate) negative: bool,
+    pub(crate) number: &'a [u8],
+}
+
+#[derive(Clone, Copy)]
+pub(crate) enum Argument<'a> {
+    /// A rule by its name.
+    Named(&'a [u8]),
+    /// A literal as it is spelled, from behind its first `"`.
+    Spelled(&'a [u8]),
+    /// One letter of the class of this name.
+    OneOf(&'a [u8]),
+    /// Letters of the class of this name, by the words of the bounds.
+    RunOf {
+        class: &'a [u8],
+        low: &'a [u8],
+        high: Option<&'a [u8]>,
+    },
+}
+
+/// A sign by its name, and its arguments.
+#[derive(Drop)]
+pub(crate) struct Alternative<'a> {
+    pub(crate) sign: &'a [u8],
+    pub(crate) arguments: Vec<Argument<'a>>,
+}
+
+/// A term as it is spelled.
+#[derive(Clone, Copy)]
+pub(crate) struct Term<'a> {
+    pub(crate) bytes: &'a [u8],
+    ghost spelled: { IsSome (term_parts bytes.now) },
+    ghost short: { length bytes.now ≤ 2 ^ 31 },
+}
+
+/// What a line that has form says.
+#[derive(Drop)]
+pub(crate) enum Declaration<'a> {
+    Class {
+        name: &'a [u8],
+        items: Vec<Item<'a>>,
+    },
+    Sign {
+        name: &'a [u8],
+        kinds: Vec<Kind>,
+    },
+    Algebra {
+        name: &'a [u8],
+        goal: Goal,
+    },
+    Let {
+        sign: &'a [u8],
+        variables: Vec<&'a [u8]>,
+        term: Term<'a>,
+    },
+    Rule {
+        name: &'a [u8],
+        alternatives: Vec<Alternative<'a>>,
+    },
+    Axiom {
+        rule: &'a [u8],
+    },
+    Words,
+}
+
+/// What a header line is: skipped; with a byte that is not printable; with a `"` that begins no quoted text; with a
+/// byte that begins no token, or tokens that match no shape; or one that has form.
+#[derive(Drop)]
+pub(crate) enum HeaderLine<'a> {
+    Skipped,
+    Unprintable,
+    Unclosed,
+    Shapeless,
+    Says(Declaration<'a>),
+}

@@ -1,0 +1,132 @@
+// What stands wrong at a line by what it declares.
+
+ghost use Rattle.std.specs.Prelude.{◌≡◌, ◌<◌, ◌+◌, ◌^◌, All, IfOk, get_or, map, length, drop};
+ghost use Rattle.adp_model.specs.Declarations.{Words};
+ghost use Rattle.grammar_text.specs.LineTests as tests;
+ghost use Rattle.grammar_text.specs.Names.{AreNames, declares_its_variables, part_count};
+ghost use Rattle.grammar_text.specs.Seen.{declaration_seen};
+
+use crate::reader::declaration::Declaration;
+use crate::reader::judge::{
+    has_crossed_run, has_other_name, has_other_number, misletters, read_let,
+};
+use crate::reader::names::{Names, misfits, uses_unknown};
+use crate::reader::repeats::{has_axiom, is_misplaced, lacks_let, passing_count, repeats};
+use algebra_terms::TermError;
+use std::alloc::{AllocError, Global};
+
+/// What stands wrong at a line by what it declares, its own words aside.
+#[derive(Clone, Copy, Debug, PartialEq, Eq)]
+pub(crate) struct FormTests {
+    pub(crate) repeats: bool,
+    pub(crate) misletters: bool,
+    pub(crate) is_misplaced: bool,
+    pub(crate) is_second_axiom: bool,
+    pub(crate) uses_unknown: bool,
+    pub(crate) misfits: bool,
+    pub(crate) has_crossed_run: bool,
+    pub(crate) lacks_let: bool,
+    pub(crate) passing_count: Option<u32>,
+}
+
+/// What a declaration shows by its own words.
+#[derive(Clone, Copy, Debug, PartialEq, Eq)]
+pub(crate) enum OwnWords {
+    Misnamed,
+    Misnumbered,
+    /// A variable of the term is not declared.
+    Unknown,
+    Right,
+}
+
+/// What the words of a declaration show: the first that is wrong with them.
+pub(crate) fn own_words(
+    alloc: Global,
+    declaration: &Declaration<'_>,
+) -> Result<OwnWords, AllocError>
+    ensures { IfOk result (λ own. tests.AreOwnWords (declaration_seen declaration.now) own) }
+{
+    if has_other_name(declaration) {
+        return Ok(OwnWords::Misnamed);
+    }
+    if has_other_number(declaration) {
+        return Ok(OwnWords::Misnumbered);
+    }
+    let Declaration::Let {
+        variables,
+        term,
+        ..
+    } = declaration
+    else {
+        return Ok(OwnWords::Right);
+    };
+    match read_let(alloc, variables, term) {
+        Ok(_) => Ok(OwnWords::Right),
+        Err(TermError::Name) => Ok(OwnWords::Misnamed),
+        Err(TermError::Number) => Ok(OwnWords::Misnumbered),
+        Err(TermError::Unknown) => Ok(OwnWords::Unknown),
+        Err(_) => Err(AllocError),
+    }
+}
+
+/// The tests of the declaration at this place, whose words are names and numbers, that look at its letters and at other lines.
+pub(crate) fn form_tests(
+    alloc: Global,
+    names: &Names<'_>,
+    declared: &[Declaration<'_>],
+    place: usize,
+    is_known: bool,
+) -> Result<FormTests, AllocError>
+    requires inside { place < length declared.now }
+    requires few { length declared.now < 2 ^ 31 }
+    requires parts { All (λ declaration. part_count (declaration_seen declaration) < 2 ^ 32) declared.now }
+    requires names { AreNames names.now (map declaration_seen declared.now) }
+    requires known { is_known ≡ declares_its_variables (get_or (map declaration_seen declared.now) place Words) }
+    ensures { IfOk result (λ found. tests.AreFormTests (map declaration_seen declared.now) place found) }
+{
+    let declaration = &declared[place];
+    let above = &declared[..place];
+    Ok(FormTests {
+        repeats: repeats(alloc, above, declaration)?,
+        misletters: misletters(alloc, declaration)?,
+        is_misplaced: is_misplaced(above, declaration),
+        is_second_axiom: is_second_axiom(above, declaration),
+        uses_unknown: uses_unknown(names, declaration, is_known),
+        misfits: misfits(names, declared, declaration),
+        has_crossed_run: has_crossed_run(declaration),
+        lacks_let: section_lacks_let(alloc, declared, behind(declared, place), declaration)?,
+        passing_count: passing_count(above, declaration),
+    })
+}
+
+fn is_second_axiom(above: &[Declaration<'_>], declaration: &Declaration<'_>) -> bool
+    ensures { result ≡ tests.is_second_axiom (map declaration_seen above.now) (declaration_seen declaration.now) }
+{
+    match declaration {
+        Declaration::Axiom { .. } => has_axiom(above),
+        _ => false,
+    }
+}
+
+fn section_lacks_let(
+    alloc: Global,
+    declared: &[Declaration<'_>],
+    below: &[Declaration<'_>],
+    declaration: &Declaration<'_>,
+) -> Result<bool, AllocError>
+    ensures { IfOk result (λ lacks. lacks ≡ tests.section_lacks_let (map declaration_seen declared.now)
+        (map declaration_seen below.now) (declaration_seen declaration.now)) }
+{
+    match declaration {
+        Declaration::Algebra { .. } => lacks_let(alloc, declared, below),
+        _ => Ok(false),
+    }
+}
+
+// The declarations behind the one at this place.
+fn behind<'d, 'a>(declared: &'d [Declaration<'a>], place: usize) -> &'d [Declaration<'a>]
+    requires { place < length declared.now }
+    ensures { result.now ≡ drop (place + 1) declared.now }
+{
+    &declared[place + 1..]
+}
