@@ -1,10 +1,13 @@
 //! The program `adp`: the top call over the standard streams.
 #![tactic(auto)]
 
+mod words;
+
+use crate::words::words;
 use adp_io::{StdSink, StdSource, write_whole};
 use adp_main::{Status, run};
+use std::io;
 use std::process::ExitCode;
-use std::{env, io};
 
 fn main(rt: HostRuntime) -> ExitCode {
     ExitCode::from(status(&rt).number())
@@ -25,10 +28,4 @@ fn status(rt: &HostRuntime) -> Status {
         // Words that are no text are no command.
         Err(_) => run(rt.alloc(), &[], &mut input, &mut out, &mut err),
     }
-}
-
-// The words after the program's name.
-fn words(rt: &HostRuntime) -> io::Result<Vec<String>> {
-    let words = env::args(rt)?.skip(1).collect(rt.alloc())?;
-    Ok(words)
 }

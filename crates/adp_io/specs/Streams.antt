@@ -1,6 +1,7 @@
 -- What calls do to the bytes that a source has left and a sink holds, where those are told.
-use Rattle.std.specs.Prelude.{◌≡◌, ℕ, ◌<◌, ◌≤◌, max, List, ◌++◌, length, take, Option, Some, None, is_some}
+use Rattle.std.specs.Prelude.{◌≡◌, ℕ, ◌+◌, ◌<◌, ◌≤◌, max, List, ◌++◌, length, take, Option, Some, None, is_some}
 use Rattle.std.specs.Io.KnownBytes.{Appends, Consumes}
+use Rattle.adp_io.specs.Causes.{next_count}
 
 -- the most bytes of a job text
 abbrev pub job_limit : ℕ
@@ -24,11 +25,8 @@ LosesAtMost old new limit = (bytes : List ℕ) × Consumes old new bytes × (len
 
 -- this many bytes moved from the front of those that a source has left to the end of a list
 abbrev pub Moves : Option (List ℕ) → Option (List ℕ) → List ℕ → List ℕ → ℕ → Type 0
-Moves old new list longer count = (bytes : List ℕ) × Consumes old new bytes × (longer ≡ list ++ bytes) × (length bytes ≡ count)
-
--- told bytes grew by some prefix of these bytes
-abbrev pub AppendsPrefix : Option (List ℕ) → Option (List ℕ) → List ℕ → Type 0
-AppendsPrefix old new bytes = (count : ℕ) × (count ≤ length bytes) × Appends old new (take count bytes)
+Moves old new list longer count =
+    (bytes : List ℕ) × Consumes old new bytes × (longer ≡ list ++ bytes) × (length bytes ≡ count)
 
 -- told bytes grew by a prefix of these bytes that is not the whole
 abbrev pub AppendsProperPrefix : Option (List ℕ) → Option (List ℕ) → List ℕ → Type 0
@@ -45,3 +43,15 @@ abbrev pub AsksForAtMost : Option ℕ → Option ℕ → ℕ → Type 0
 AsksForAtMost None now limit = Unit {0}
 AsksForAtMost (Some before) None limit = ⊥
 AsksForAtMost (Some before) (Some now) limit = (before ≤ now) × (now ≤ max before limit)
+
+-- how often a source or a sink was called, where it is told, after one more call
+abbrev pub CountsCall : Option ℕ → Option ℕ → Type 0
+CountsCall None now = Unit {0}
+CountsCall (Some before) None = ⊥
+CountsCall (Some before) (Some now) = now ≡ next_count before
+
+-- the same after at most so many calls
+abbrev pub CallsAtMost : Option ℕ → Option ℕ → ℕ → Type 0
+CallsAtMost None now limit = Unit {0}
+CallsAtMost (Some before) None limit = ⊥
+CallsAtMost (Some before) (Some now) limit = now ≤ before + limit

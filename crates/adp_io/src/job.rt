@@ -2,7 +2,7 @@
 ghost use Rattle.std.specs.Prelude.{◌≡◌, ◌+◌, ◌-◌, ◌<◌, ◌≤◌, length, vec_len, IfOk, IfSome, OnOk, OnErr, IsErrOf};
 ghost use Rattle.std.specs.Io.KnownBytes.{IsAtEnd, Keeps};
 ghost use Rattle.adp_io.specs.Causes.{RisesWhere};
-ghost use Rattle.adp_io.specs.Streams.{AsksForAtMost, Loses, LosesAtMost, Moves, SameTold, job_limit, piece_limit};
+ghost use Rattle.adp_io.specs.Streams.{AsksForAtMost, CallsAtMost, CountsCall, Loses, LosesAtMost, Moves, SameTold, job_limit, piece_limit};
 
 use crate::stream::Source;
 use std::alloc::{AllocError, Global};
@@ -27,7 +27,7 @@ pub enum JobFault {
 
 /// Reads to the end of the source, or until one byte more than `JOB_LIMIT` has come, in pieces of at most
 /// `PIECE_LIMIT` bytes. After a refusal the bytes read are gone.
-#[tactic(auto, using(crate::proofs::Told::consumes_moved, crate::proofs::Told::loses_all, crate::proofs::Asked::asks_for_more))]
+#[tactic(auto, using(crate::proofs::Asked::over_reads))]
 pub fn read_job<S: Source>(alloc: Global, source: &mut S) -> Result<Vec<u8>, JobFault>
     ensures told { SameTold (S.left source.old) (S.left source.new) }
     ensures faults { RisesWhere (S.faults source.old) (S.faults source.new) (IsErrOf result JobFault.ReadFault) }
@@ -37,6 +37,9 @@ pub fn read_job<S: Source>(alloc: Global, source: &mut S) -> Result<Vec<u8>, Job
     ensures whole { IfOk result (λ bytes. IfSome (S.left source.old) (λ left. bytes.items ≡ left)) }
     ensures end { OnOk result (IsAtEnd (S.left source.new)) }
     ensures fits { IfOk result (λ bytes. vec_len bytes ≤ job_limit) }
+
+    // Each read but the last gave a byte: nothing is read behind the end.
+    ensures calls { IfOk result (λ bytes. CallsAtMost (S.calls source.old) (S.calls source.new) (vec_len bytes + 1)) }
 
     ensures read_fault { IsErrOf result JobFault.ReadFault
         → LosesAtMost (S.left source.old) (S.left source.new) job_limit }
@@ -75,6 +78,7 @@ fn read_piece<S: Source>(
     ensures told { SameTold (S.left source.old) (S.left source.new) }
     ensures faults { RisesWhere (S.faults source.old) (S.faults source.new) (IsErrOf result JobFault.ReadFault) }
     ensures asked { AsksForAtMost (S.asked source.old) (S.asked source.new) piece_limit }
+    ensures calls { CountsCall (S.calls source.old) (S.calls source.new) }
     ensures moved { IfOk result (λ count.
         Moves (S.left source.old) (S.left source.new) bytes.old.items bytes.new.items count) }
     ensures len { IfOk result (λ count. vec_len bytes.new ≡ vec_len bytes.old + count) }

@@ -12,11 +12,8 @@ mod whole;
 
 pub use clean::{CleanSink, CleanSource};
 pub use job::{JOB_LIMIT, JobFault, PIECE_LIMIT, read_job};
-pub use laws::{prefix_after_whole, whole_after_whole};
+pub use laws::{proper_prefix_after_whole, proper_prefix_of_more, whole_after_whole};
 pub use memory::{MemSink, MemSource};
 pub use standard::{StdSink, StdSource};
 pub use stream::{Failed, Sink, Source};
 pub use whole::{WriteFault, write_whole};
-
-#[cfg(test)]
-mod tests;

@@ -67,6 +67,8 @@ impl Source for MemSource {
 
     ghost asked = { λ s. Some s.asked };
 
+    ghost calls = { λ s. Some s.calls };
+
     fn read(&mut self, into: &mut [u8]) -> Result<usize, Failed>
         ensures fails { IsErr result ↔ Contains self.old.fails self.old.calls }
         ensures count { IfOk result (λ count.
@@ -163,9 +165,12 @@ impl Sink for MemSink {
 
     ghost faults = { λ s. s.faults };
 
+    ghost calls = { λ s. Some s.calls };
+
     fn write(&mut self, piece: &[u8]) -> Result<usize, Failed>
         ensures fails { IsErr result
-            ↔ (Contains self.old.fails self.old.calls ⊎ ((0 < length piece.now) × (self.old.room ≤ length self.old.held))) }
+            ↔ (Contains self.old.fails self.old.calls
+            ⊎ ((0 < length piece.now) × (self.old.room ≤ length self.old.held))) }
         ensures count { IfOk result (λ count.
             count ≡ min self.old.piece (min (length piece.now) (self.old.room - length self.old.held))) }
         ensures taken { IfOk result (λ count. self.new.held ≡ self.old.held ++ take count piece.now) }

@@ -3,7 +3,7 @@ ghost use Rattle.std.specs.Prelude.{◌≡◌, ◌<◌, List, ℕ, Option, None,
 ghost use Rattle.std.specs.Io.{ReadsAtMost, WritesAtMost};
 ghost use Rattle.std.specs.Io.KnownBytes.{Appends, Consumes, IsAtEnd, Keeps};
 ghost use Rattle.adp_io.specs.Causes.{IsFailedWrite, RisesWhere};
-ghost use Rattle.adp_io.specs.Streams.{AsksFor, SameTold};
+ghost use Rattle.adp_io.specs.Streams.{AsksFor, CountsCall, SameTold};
 
 /// A read or a write failed.
 #[derive(Clone, Copy, Debug, PartialEq, Eq)]
@@ -20,6 +20,9 @@ pub trait Source {
     /// The most bytes that it was asked for in one read, where the source tells it.
     ghost asked: { Self → Option ℕ } = { λ _. None };
 
+    /// How often it was read, up to 2^64 - 1, where the source tells it.
+    ghost calls: { Self → Option ℕ } = { λ _. None };
+
     /// Reads some bytes into the front of `into` and answers how many. `Ok(0)` on a nonempty slice is the
     /// end of the input. What stands in `into` behind the bytes that were read is left open.
     fn read(&mut self, into: &mut [u8]) -> Result<usize, Failed>
@@ -30,7 +33,8 @@ pub trait Source {
         ensures end { IfOk result (λ count. count ≡ 0 → 0 < length into.new → IsAtEnd (left self.new)) }
         ensures kept { OnErr result (Keeps (left self.old) (left self.new)) }
         ensures faults { RisesWhere (faults self.old) (faults self.new) (IsErr result) }
-        ensures asked { AsksFor (asked self.old) (asked self.new) (length into.new) };
+        ensures asked { AsksFor (asked self.old) (asked self.new) (length into.new) }
+        ensures calls { CountsCall (calls self.old) (calls self.new) };
 }
 
 /// What bytes are written to.
@@ -41,6 +45,9 @@ pub trait Sink {
     /// How often a write has failed, or has taken nothing of a nonempty piece, up to 2^64 - 1.
     ghost faults: { Self → ℕ };
 
+    /// How often it was written to, up to 2^64 - 1, where the sink tells it.
+    ghost calls: { Self → Option ℕ } = { λ _. None };
+
     /// Takes some bytes from the front of `piece` and answers how many.
     fn write(&mut self, piece: &[u8]) -> Result<usize, Failed>
         ensures bound { WritesAtMost result piece.now }
@@ -48,5 +55,6 @@ pub trait Sink {
         ensures taken { IfOk result (λ count.
             Appends (held self.old) (held self.new) (take count piece.now)) }
         ensures kept { OnErr result (Keeps (held self.old) (held self.new)) }
-        ensures faults { RisesWhere (faults self.old) (faults self.new) (IsFailedWrite result piece.now) };
+        ensures faults { RisesWhere (faults self.old) (faults self.new) (IsFailedWrite result piece.now) }
+        ensures calls { CountsCall (calls self.old) (calls self.new) };
 }

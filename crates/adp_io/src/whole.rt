@@ -1,8 +1,8 @@
 // A whole text to a sink, however few bytes the sink takes at a time.
-ghost use Rattle.std.specs.Prelude.{IsErr, OnErr, OnOk};
+ghost use Rattle.std.specs.Prelude.{IsErr, OnErr, OnOk, length};
 ghost use Rattle.std.specs.Io.KnownBytes.{Appends};
 ghost use Rattle.adp_io.specs.Causes.{RisesWhere};
-ghost use Rattle.adp_io.specs.Streams.{AppendsProperPrefix, SameTold};
+ghost use Rattle.adp_io.specs.Streams.{AppendsProperPrefix, CallsAtMost, SameTold};
 
 use crate::stream::{Failed, Sink};
 
@@ -17,6 +17,9 @@ pub fn write_whole<K: Sink>(sink: &mut K, bytes: &[u8]) -> Result<(), WriteFault
     ensures whole { OnOk result (Appends (K.held sink.old) (K.held sink.new) bytes.now) }
     ensures part { OnErr result (AppendsProperPrefix (K.held sink.old) (K.held sink.new) bytes.now) }
     ensures faults { RisesWhere (K.faults sink.old) (K.faults sink.new) (IsErr result) }
+
+    // Each write but one that failed took a byte: no empty piece is written.
+    ensures calls { CallsAtMost (K.calls sink.old) (K.calls sink.new) (length bytes.now) }
 {
     let mut written = 0;
     while written < bytes.len() {

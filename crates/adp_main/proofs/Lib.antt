@@ -1,4 +1,9 @@
 mod Told
+mod Turned
+mod CheckedJobs
 mod Endings
-mod TreeSteps
-mod Reports
+mod Options
+pub mod Written
+pub mod FirstLimit
+pub mod Reported
+pub mod AskedNames

@@ -1,4 +1,5 @@
 pub mod Status
 pub mod Faults
 pub mod Ending
-pub mod TreeWriting
+pub mod Commands
+pub mod Reporting

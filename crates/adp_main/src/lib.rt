@@ -1,12 +1,14 @@
-//! The engine's top call: from the words of the command line and the bytes of a job to a report and a status.
+//! The engine's top call: from the words of the command line and the bytes of a job to reports and a status.
 #![tactic(auto)]
 
+mod checked_job;
 mod fault;
-mod report;
+mod limits;
+mod reports;
 mod status;
 mod top_call;
-mod tree_text;
 mod words;
+mod writing;
 
 pub use status::Status;
 pub use top_call::run;

@@ -1,13 +1,20 @@
-ghost use Rattle.std.specs.Prelude.{◌≡◌, ◌↔◌, map, None, IsOk, IfOk};
+ghost use Rattle.std.specs.Prelude.{◌≡◌, ◌↔◌, ◌<◌, ◌+◌, ◌^◌, ℕ, map, None, IsOk, IfOk, IfSome, IfNone, OnErr, SomeIff};
 ghost use Rattle.std.specs.String.{string_bytes};
-ghost use Rattle.small_model.specs.Command.{IsBestAlone};
-ghost use Rattle.adp_main.specs.declared.words.Mode.TheVariants.{Best};
+ghost use Rattle.std.specs.Str.Parse.{IsNumeral, digits_value};
+ghost use Rattle.adp_model.specs.Command.{HasCommand, IsValue, mode_word, option_word};
+ghost use Rattle.adp_model.specs.Command as asked;
+ghost use Rattle.adp_main.specs.declared.words.Settings.{Settings};
+ghost use Rattle.adp_main.specs.Commands.{Adds, AddsAlgebra, AddsSeed, AddsWorkers, IsCommandOf, mode_of};
+
+use adp_model::is_name;
 
 /// What the program is asked for.
 #[derive(Clone, Copy, Debug, PartialEq, Eq)]
 pub enum Mode {
-    /// The report of each word.
+    /// The report of each word, by evaluators that share their results.
     Best,
+    /// The report of each word, by one sweep.
+    Serial,
 }
 
 /// The words of the command line, read: the mode, the place of the algebra's name among the words where one is
@@ -25,19 +32,127 @@ pub struct Command {
 #[derive(Clone, Copy, Debug, PartialEq, Eq)]
 pub struct Usage;
 
-/// Reads the words after the program's name: `best`, alone. Takes no memory.
+/// Reads the words after the program's name: a mode, and then options in any order, each at most once, with its value
+/// in the next word. Takes no memory.
 pub fn read_words(words: &[String]) -> Result<Command, Usage>
-    ensures taken { IsOk result ↔ IsBestAlone (map string_bytes words.now) }
-    ensures command { IfOk result (λ command. command ≡ record { mode = Best; algebra = None; workers = 1; seed = 0; size = 0 }) }
+    ensures taken { IsOk result ↔ HasCommand (map string_bytes words.now) }
+    ensures command { IfOk result (IsCommandOf (map string_bytes words.now)) }
 {
-    match words {
-        [word] if word.as_str() == "best" => Ok(Command {
-            mode: Mode::Best,
-            algebra: None,
-            workers: 1,
-            seed: 0,
-            size: 0,
-        }),
-        _ => Err(Usage),
+    // A mode, and two words for each option.
+    if words.len() % 2 == 0 {
+        return Err(Usage);
+    }
+    let mode = read_mode(words[0].as_str())?;
+    let mut set = Settings {
+        algebra: None,
+        workers: None,
+        seed: None,
+    };
+    let mut place = words.len();
+    while place > 1 {
+        place -= 2;
+        set = set.add(words[place].as_str(), words[place + 1].as_str(), place + 1)?;
+    }
+    Ok(Command {
+        mode,
+        algebra: set.algebra,
+        workers: set.workers.unwrap_or(1),
+        seed: set.seed.unwrap_or(0),
+        size: 0,
+    })
+}
+
+fn read_mode(word: &str) -> Result<Mode, Usage>
+    ensures known { IfOk result (λ mode. word.now ≡ mode_word (mode_of mode)) }
+    ensures unknown { OnErr result ((mode : asked.Mode) → word.now ≡ mode_word mode → ⊥) }
+{
+    if word == "best" {
+        return Ok(Mode::Best);
+    }
+    if word == "serial" {
+        return Ok(Mode::Serial);
+    }
+    Err(Usage)
+}
+
+// The values of the options that are set.
+#[derive(Clone, Copy)]
+struct Settings {
+    algebra: Option<usize>,
+    workers: Option<u32>,
+    seed: Option<u64>,
+}
+
+impl Settings {
+    // One more option with its value, which stands at this place among the words. It is an error where the option is
+    // set already.
+    fn add(self, option: &str, value: &str, place: usize) -> Result<Settings, Usage>
+        ensures added { IfOk result (λ after. (setting : asked.Setting)
+            × Adds self option.now value.now place setting after) }
+        ensures refused { OnErr result ((setting : asked.Setting) (after : Settings)
+            → Adds self option.now value.now place setting after → ⊥) }
+    {
+        if option == "--algebra" {
+            return self.add_algebra(value, place);
+        }
+        if option == "--workers" {
+            return self.add_workers(value);
+        }
+        if option == "--seed" {
+            return self.add_seed(value);
+        }
+        Err(Usage)
+    }
+
+    fn add_algebra(self, value: &str, place: usize) -> Result<Settings, Usage>
+        ensures added { IfOk result (λ after. AddsAlgebra self value.now place after) }
+        ensures refused { OnErr result ((after : Settings) → AddsAlgebra self value.now place after → ⊥) }
+    {
+        if self.algebra.is_some() || !is_name(value.as_bytes()) {
+            return Err(Usage);
+        }
+        Ok(Settings {
+            algebra: Some(place),
+            ..self
+        })
+    }
+
+    fn add_workers(self, value: &str) -> Result<Settings, Usage>
+        ensures added { IfOk result (λ after. (workers : ℕ) × AddsWorkers self value.now workers after) }
+        ensures refused { OnErr result ((workers : ℕ) (after : Settings)
+            → AddsWorkers self value.now workers after → ⊥) }
+    {
+        match number(value) {
+            Some(workers) if self.workers.is_none() && 1 <= workers && workers <= 32 => {
+                Ok(Settings {
+                    workers: Some(workers as u32),
+                    ..self
+                })
+            }
+            _ => Err(Usage),
+        }
+    }
+
+    fn add_seed(self, value: &str) -> Result<Settings, Usage>
+        ensures added { IfOk result (λ after. (seed : ℕ) × AddsSeed self value.now seed after) }
+        ensures refused { OnErr result ((seed : ℕ) (after : Settings) → AddsSeed self value.now seed after → ⊥) }
+    {
+        match number(value) {
+            Some(seed) if self.seed.is_none() => Ok(Settings {
+                seed: Some(seed),
+                ..self
+            }),
+            _ => Err(Usage),
+        }
+    }
+}
+
+// The number that the digits of a word write, without a sign.
+fn number(word: &str) -> Option<u64>
+    ensures { SomeIff result (IsNumeral 10 word.now × (digits_value 10 word.now < 2 ^ 64)) (digits_value 10 word.now) }
+{
+    match word.as_bytes().first() {
+        Some(b'+') => None,
+        _ => word.parse::<u64>().ok(),
     }
 }

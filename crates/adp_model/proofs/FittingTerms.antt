@@ -29,7 +29,7 @@ factors-formed (sign ∷ signs) (term ∷ terms) zero d e inside inside' h =
 factors-formed (sign ∷ signs) (term ∷ terms) (suc i) d e inside inside' h =
     factors-formed signs terms i d e (omega arith) (omega arith) (and_second (is_term (sign, term)) (list_all is_term (zip signs terms)) h)
 
-algebra-formed : (grammar : Grammar) → IsTrue (is_well_formed grammar) → (algebra : ℕ) → algebra < length grammar.algebras → is_algebra grammar.signs (algebra_at grammar algebra) ≡ true
+pub algebra-formed : (grammar : Grammar) → IsTrue (is_well_formed grammar) → (algebra : ℕ) → algebra < length grammar.algebras → is_algebra grammar.signs (algebra_at grammar algebra) ≡ true
 algebra-formed grammar h algebra inside = item-formed (is_algebra grammar.signs) grammar.algebras algebra (record { name = []; goal = Least; terms = [] }) inside (algebras-formed grammar h)
 
 -- an algebra has a term for each sign

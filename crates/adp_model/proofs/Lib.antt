@@ -36,3 +36,4 @@ pub mod Strict
 pub mod FormedTerms
 pub mod TextTokens
 pub mod FittingTerms
+pub mod FormedNames

@@ -1,3 +1,4 @@
+pub mod Ascii
 pub mod Printable
 pub mod PosedProblem
 pub mod Parts

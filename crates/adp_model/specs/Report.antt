@@ -2,6 +2,7 @@
 -- of demanded cells.
 use Rattle.std.specs.Prelude.{◌≡◌, ℕ, ◌⊎◌, List, [], ◌∷◌, ◌++◌, codes}
 use Rattle.std.specs.Fmt.{decimal, signed_decimal}
+use Rattle.adp_model.specs.Ascii.{line_feed}
 use Rattle.adp_model.specs.PosedProblem.{PosedProblem, axiom_cell}
 use Rattle.adp_model.specs.Tree.{Tree}
 use Rattle.adp_model.specs.Scores.{score_of}
@@ -12,7 +13,7 @@ use Rattle.adp_model.specs.TreeText.{tree_text}
 
 -- a line with its end
 abbrev pub line : List ℕ → List ℕ
-line content = content ++ 10 ∷ []
+line content = content ++ line_feed ∷ []
 
 -- the lines of a candidate
 abbrev pub tree_lines : PosedProblem → Tree → List ℕ

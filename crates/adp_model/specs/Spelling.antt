@@ -3,6 +3,7 @@ use Rattle.std.specs.Prelude.{ℕ, ◌+◌, ℤ, pos, negsuc, zero, suc, Option,
 use Rattle.std.specs.Ordering.{int_eq}
 use Rattle.std.specs.Fmt.{decimal, signed_decimal}
 use Rattle.std.specs.List.{flat_map, join_by, zip}
+use Rattle.adp_model.specs.Ascii.{small_x, space}
 use Rattle.adp_model.specs.declared.grammar.Class.{Class}
 use Rattle.adp_model.specs.declared.grammar.Kind.{Kind}
 use Rattle.adp_model.specs.declared.grammar.Kind.TheVariants.{Score, Token}
@@ -38,7 +39,7 @@ runs_of (entry ∷ entries) = join_run entry (runs_of entries)
 
 -- ` "ab" 5`
 abbrev pub run_text : List ℕ × ℤ → List ℕ
-run_text run = 32 ∷ quoted run.0 ++ 32 ∷ signed_decimal run.1
+run_text run = space ∷ quoted run.0 ++ space ∷ signed_decimal run.1
 
 -- `class NAME = "ab" 5 "c" -2`
 abbrev pub class_line : Class → List ℕ
@@ -60,7 +61,7 @@ goal_text Greatest = codes "max"
 -- `x1`, `x2` and so on, one for each kind
 abbrev pub variables : ℕ → List Kind → List (List ℕ)
 variables number [] = []
-variables number (kind ∷ kinds) = (120 ∷ decimal number) ∷ variables (number + 1) kinds
+variables number (kind ∷ kinds) = (small_x ∷ decimal number) ∷ variables (number + 1) kinds
 
 -- ` + 3*x2`, ` - 3*x2`, or nothing for the factor 0
 abbrev pub factor_text : ℕ → ℤ → List ℕ

@@ -1,6 +1,7 @@
 -- Well-formed grammars and jobs: names, numbers, indices and kinds fit together, and counts keep their limits.
 use Rattle.std.specs.Prelude.{ℕ, ◌^◌, ◌<◌, ℤ, nat_abs, Bool, true, false, ◌&&◌, ◌||◌, not, nat_eq, nat_lt, nat_le, ◌==◌, Option, Some, None, List, [], ◌∷◌, length, map}
 use Rattle.std.specs.List.{list_all, list_any, zip}
+use Rattle.adp_model.specs.Ascii.{capital_a, capital_z, digit_nine, digit_zero, small_a, small_z, underscore}
 use lib.Pointwise.{pointwise}
 use Rattle.adp_model.specs.declared.grammar.Class.{Class}
 use Rattle.adp_model.specs.declared.grammar.Kind.{Kind}
@@ -17,11 +18,11 @@ use Rattle.adp_model.specs.Printable.{is_printable_byte}
 use Rattle.adp_model.specs.Parts.{sign_at}
 
 abbrev pub is_letter_byte : ℕ → Bool
-is_letter_byte byte = (nat_le 65 byte && nat_le byte 90) || (nat_le 97 byte && nat_le byte 122)
+is_letter_byte byte = (nat_le capital_a byte && nat_le byte capital_z) || (nat_le small_a byte && nat_le byte small_z)
 
 -- a letter, a digit or `_`
 abbrev pub is_word_byte : ℕ → Bool
-is_word_byte byte = is_letter_byte byte || (nat_le 48 byte && nat_le byte 57) || byte == 95
+is_word_byte byte = is_letter_byte byte || (nat_le digit_zero byte && nat_le byte digit_nine) || byte == underscore
 
 -- a letter, then at most 31 letters, digits or `_`
 abbrev pub is_name : List ℕ → Bool

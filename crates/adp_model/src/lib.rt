@@ -11,8 +11,6 @@ pub mod laws;
 mod output;
 mod problem;
 mod sequence;
-#[cfg(test)]
-mod tests;
 mod text;
 pub mod text_vectors;
 pub mod vectors;

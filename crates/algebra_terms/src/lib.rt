@@ -20,6 +20,3 @@ pub use part::is_term;
 pub use read::read_term;
 pub use symbols::{Symbol, split_symbol, symbol_at};
 pub use value::eval;
-
-#[cfg(test)]
-mod tests;

@@ -12,9 +12,9 @@ use Rattle.grammar_check.proofs.CutNumbers.{told-max}
 -- the greatest at so many lengths, from 0 on, cut
 abbrev pub cut_number : Table → List (List (ℕ × List Part)) → ℕ → ℕ
 cut_number table plan zero = 0
-cut_number table plan (suc len) = max (cut_number table plan len) (max (greatest_from (λ rule. entry table rule len) 0 table.rows) (told (tokens_number len plan)))
+cut_number table plan (suc len) = max (cut_number table plan len) (max (greatest_from (λ row. entry table row len) 0 table.rows) (told (tokens_number len plan)))
 
-greatest_cut : (bound : ℕ → ℕ → ℕ) (table : Table) (len count : ℕ) → ((rule : ℕ) → rule < count → entry table rule len ≡ told (bound rule len)) → greatest_from (λ rule. entry table rule len) 0 count ≡ told (greatest_from (λ rule. bound rule len) 0 count)
+greatest_cut : (bound : ℕ → ℕ → ℕ) (table : Table) (len count : ℕ) → ((rule : ℕ) → rule < count → entry table rule len ≡ told (bound rule len)) → greatest_from (λ row. entry table row len) 0 count ≡ told (greatest_from (λ rule. bound rule len) 0 count)
 greatest_cut bound table len zero right = omega arith
 greatest_cut bound table len (suc count) right =
     let rest = greatest_cut bound table len count (λ rule below. right rule (omega arith)) in
@@ -25,16 +25,16 @@ greatest_cut bound table len (suc count) right =
 pub cut_number-told : (bound : ℕ → ℕ → ℕ) (table : Table) (plan : List (List (ℕ × List Part))) (most : ℕ) → ((rule len : ℕ) → rule < table.rows → len ≤ most → entry table rule len ≡ told (bound rule len)) → (len : ℕ) → len ≤ most → cut_number table plan (suc len) ≡ told (score_number bound table.rows plan len)
 cut_number-told bound table plan most right zero short =
     let rules = greatest_cut bound table 0 table.rows (λ rule below. right rule 0 below short) in
-    let first : max 0 (max (greatest_from (λ rule. entry table rule 0) 0 table.rows) (told (tokens_number 0 plan))) ≡ max (greatest_from (λ rule. entry table rule 0) 0 table.rows) (told (tokens_number 0 plan)) = omega arith in
+    let first : max 0 (max (greatest_from (λ row. entry table row 0) 0 table.rows) (told (tokens_number 0 plan))) ≡ max (greatest_from (λ row. entry table row 0) 0 table.rows) (told (tokens_number 0 plan)) = omega arith in
     first ∙ ap (λ a. max a (told (tokens_number 0 plan))) rules ∙ told-max (rules_number bound table.rows 0) (tokens_number 0 plan)
 cut_number-told bound table plan most right (suc len) short =
     let before = cut_number-told bound table plan most right len (omega arith) in
     let rules = greatest_cut bound table (suc len) table.rows (λ rule below. right rule (suc len) below short) in
-    let here : max (greatest_from (λ rule. entry table rule (suc len)) 0 table.rows) (told (tokens_number (suc len) plan)) ≡ told (max (rules_number bound table.rows (suc len)) (tokens_number (suc len) plan)) =
+    let here : max (greatest_from (λ row. entry table row (suc len)) 0 table.rows) (told (tokens_number (suc len) plan)) ≡ told (max (rules_number bound table.rows (suc len)) (tokens_number (suc len) plan)) =
     ap (λ a. max a (told (tokens_number (suc len) plan))) rules ∙ told-max (rules_number bound table.rows (suc len)) (tokens_number (suc len) plan) in
     ap₂ (λ a b. max a b) before here ∙ told-max (score_number bound table.rows plan len) (max (rules_number bound table.rows (suc len)) (tokens_number (suc len) plan))
 
-pub cut_more : (table : Table) (plan : List (List (ℕ × List Part))) (len greatest rules tokens most next : ℕ) → greatest ≡ cut_number table plan len → rules ≡ greatest_from (λ rule. entry table rule len) 0 table.rows → tokens ≡ told (tokens_number len plan) → most ≡ max rules tokens → next ≡ max greatest most → next ≡ cut_number table plan (len + 1)
+pub cut_more : (table : Table) (plan : List (List (ℕ × List Part))) (len greatest rules tokens most next : ℕ) → greatest ≡ cut_number table plan len → rules ≡ greatest_from (λ row. entry table row len) 0 table.rows → tokens ≡ told (tokens_number len plan) → most ≡ max rules tokens → next ≡ max greatest most → next ≡ cut_number table plan (len + 1)
 cut_more table plan len greatest rules tokens most next greatest_is rules_are tokens_are most_is next_is =
     let count : len + 1 ≡ suc len = omega arith in
     rw count (omega arith)

@@ -17,7 +17,8 @@ pub record KeepsCells (grammar : Grammar) (len cells : ℕ) : Type 0 where
 
 -- the problem of the checked grammar, its algebra and the word
 abbrev pub IsProblemOf : CheckedGrammar → List ℕ → PosedProblem → Type 0
-IsProblemOf checked word problem = problem ≡ record { grammar = checked.grammar; algebra = checked.algebra; word = word }
+IsProblemOf checked word problem =
+    problem ≡ record { grammar = checked.grammar; algebra = checked.algebra; word = word }
 
 -- the problem, or the word's limit fault, or want of memory
 abbrev pub MatchAdmission : CheckedGrammar → List ℕ → Result PosedProblem AdmitError → Type 0

@@ -10,13 +10,15 @@ use Rattle.grammar_check.specs.Plans.{ReadsRight, rooms, lows, spread, part_at}
 -- the greatest value over all ways to give the alternative this length; 0 where there is none
 abbrev pub alternative_value : (ℕ → ℕ → ℕ) → ℕ → List Part → ℕ → ℕ
 alternative_value bound constant parts len =
-    if nat_le (lows parts) len && nat_le (len - lows parts) (rooms parts) then constant + spread bound parts (len - lows parts) else 0
+    if nat_le (lows parts) len && nat_le (len - lows parts) (rooms parts)
+    then constant + spread bound parts (len - lows parts) else 0
 
 -- the rows have what the parts add over fewer spare letters than these
 pub record AreSpread (bound : ℕ → ℕ → ℕ) (alternative : Alternative) (count : ℕ) : Type 0 where
   pub rows : (place column : ℕ) → place < length alternative.parts.items → column < count
       → entry alternative.spreads place column ≡ told (spread bound (drop place alternative.parts.items) column)
-  pub last : (column : ℕ) → column < alternative.spreads.width → entry alternative.spreads (length alternative.parts.items) column ≡ 0
+  pub last : (column : ℕ) → column < alternative.spreads.width
+      → entry alternative.spreads (length alternative.parts.items) column ≡ 0
 
 -- the table has the bounds that ways to give the parts this length need
 abbrev pub AreRead : (ℕ → ℕ → ℕ) → Table → List Part → ℕ → Type 0

@@ -16,7 +16,13 @@ pub record CheckedGrammar : Type 0 where
   pub ranks : List ℕ
 
 abbrev pub checked_grammar : Inside → CheckedGrammar
-checked_grammar fields = record { grammar = fields.grammar; algebra = fields.algebra; sizes = fields.sizes; anchors = fields.anchors; ranks = fields.ranks }
+checked_grammar fields = record {
+  grammar = fields.grammar;
+  algebra = fields.algebra;
+  sizes = fields.sizes;
+  anchors = fields.anchors;
+  ranks = fields.ranks;
+}
 
 -- the checks passed, and sizes, anchors and ranks are the grammar's
 pub record PassesChecks (checked : CheckedGrammar) : Type 0 where

@@ -44,7 +44,8 @@ NamesLesser ranks rule (OfLetters weight factor) = Unit {0}
 -- a part that can be as long as the rule, since all others can be empty, names a rule of lesser rank
 abbrev pub IsRanked : List ℕ → List (List (ℕ × List Part)) → Type 0
 IsRanked ranks plan =
-    (rule alternative place : ℕ) → rule < length plan → alternative < length (plan_at plan rule) → place < length (parts_at plan rule alternative)
+    (rule alternative place : ℕ) → rule < length plan → alternative < length (plan_at plan rule)
+    → place < length (parts_at plan rule alternative)
     → lows (parts_at plan rule alternative) ≤ (part_at (parts_at plan rule alternative) place).low
     → NamesLesser ranks rule (part_at (parts_at plan rule alternative) place).worth
 
@@ -54,8 +55,10 @@ pub record IsFilledTo (bound : ℕ → ℕ → ℕ) (table : Table) (plans : Lis
   pub spread : All (IsRuleSpread bound len) plans
 
 -- so is it at this length for rules of lesser ranks
-pub record IsRankFilled (bound : ℕ → ℕ → ℕ) (ranks : List ℕ) (table : Table) (plans : List RulePlan) (len rank : ℕ) : Type 0 where
+pub record IsRankFilled (bound : ℕ → ℕ → ℕ) (ranks : List ℕ) (table : Table) (plans : List RulePlan) (len rank : ℕ)
+    : Type 0 where
   pub lower : IsFilledTo bound table plans len
-  pub entries : (rule : ℕ) → rule < length plans → slice_index ranks rule < rank → entry table rule len ≡ told (bound rule len)
+  pub entries : (rule : ℕ) → rule < length plans → slice_index ranks rule < rank
+      → entry table rule len ≡ told (bound rule len)
   pub spread : (rule : ℕ) (d : RulePlan) → rule < length plans → slice_index ranks rule < rank
       → IsRuleSpread bound (len + 1) (slice_index_or plans rule d)

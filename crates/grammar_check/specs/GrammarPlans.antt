@@ -21,7 +21,8 @@ constant_in grammar Nodes sign = 1
 
 -- how often what the argument at this place adds is counted
 abbrev pub factor_in : Grammar → Measure → ℕ → ℕ → ℕ
-factor_in grammar (Scores algebra) sign place = nat_abs (slice_index_or (term_for grammar algebra sign).factors place (pos 0))
+factor_in grammar (Scores algebra) sign place =
+    nat_abs (slice_index_or (term_for grammar algebra sign).factors place (pos 0))
 factor_in grammar Nodes sign place = 1
 
 -- how much a letter of the class adds
@@ -52,7 +53,11 @@ high_in greatest (Run class low high) = high
 
 -- a part between these lengths, where no length above `most` counts
 abbrev pub ranged : ℕ → ℕ → Option ℕ → Worth → Part
-ranged most low high worth = record { worth = worth; low = min low (most + 1); room = min (unwrap_or high most) most - min low (most + 1) }
+ranged most low high worth = record {
+  worth = worth;
+  low = min low (most + 1);
+  room = min (unwrap_or high most) most - min low (most + 1);
+}
 
 -- what the checks found of the rules, and the greatest length that counts
 pub record Lengths : Type 0 where
@@ -63,7 +68,8 @@ pub record Lengths : Type 0 where
 -- the argument at this place of an alternative of the sign, as a part
 abbrev pub part_in : Grammar → Measure → Lengths → ℕ → ℕ → Arg → Part
 part_in grammar measure lengths sign place argument =
-    ranged lengths.most (low_in lengths.least argument) (high_in lengths.greatest argument) (worth_in grammar measure (factor_in grammar measure sign place) argument)
+    ranged lengths.most (low_in lengths.least argument) (high_in lengths.greatest argument)
+    (worth_in grammar measure (factor_in grammar measure sign place) argument)
 
 -- the arguments from this place on
 abbrev pub parts_in : Grammar → Measure → Lengths → ℕ → ℕ → List Arg → List Part

@@ -14,7 +14,8 @@ plan_of alternatives = map (λ (alternative : Alternative). (alternative.constan
 -- the greatest value over all ways to give the rule this length; 0 where there is none
 abbrev pub rule_value : (ℕ → ℕ → ℕ) → List (ℕ × List Part) → ℕ → ℕ
 rule_value bound [] len = 0
-rule_value bound (entry ∷ entries) len = max (alternative_value bound entry.0 entry.1 len) (rule_value bound entries len)
+rule_value bound (entry ∷ entries) len = max (alternative_value bound entry.0 entry.1 len)
+    (rule_value bound entries len)
 
 -- the alternative names rules of so many
 abbrev pub IsAllReadable : ℕ → Alternative → Type 0

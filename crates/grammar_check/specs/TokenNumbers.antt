@@ -17,7 +17,8 @@ letters_worth (OfLetters weight factor) len = weight * len
 
 -- the same, where the part may have this length
 abbrev pub token_number : ℕ → Part → ℕ
-token_number len part = if nat_le part.low len && nat_le len (part.low + part.room) then letters_worth part.worth len else 0
+token_number len part =
+    if nat_le part.low len && nat_le len (part.low + part.room) then letters_worth part.worth len else 0
 
 -- the greatest over all tokens of an alternative
 abbrev pub alternative_tokens : ℕ → ℕ × List Part → ℕ

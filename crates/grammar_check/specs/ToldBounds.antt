@@ -6,7 +6,8 @@ use Rattle.adp_model.specs.LimitFaults.{told}
 
 -- the number tells the score bound of words of this length
 abbrev pub IsToldScoreBound : Grammar → ℕ → ℕ → ℕ → Type 0
-IsToldScoreBound grammar algebra len number = (bound : ℕ) × IsScoreBound grammar algebra len bound × (number ≡ told bound)
+IsToldScoreBound grammar algebra len number =
+    (bound : ℕ) × IsScoreBound grammar algebra len bound × (number ≡ told bound)
 
 -- the number tells the node bound of words of this length
 abbrev pub IsToldNodeBound : Grammar → ℕ → ℕ → Type 0

@@ -8,5 +8,6 @@ use Rattle.grammar_check.specs.ToldBounds.{IsToldScoreBound, IsToldNodeBound}
 pub record AreRowsOf (checked : CheckedGrammar) (rows : BoundRows) : Type 0 where
   pub scores_each : length rows.scores ≡ rows.longest + 1
   pub nodes_each : length rows.nodes ≡ rows.longest + 1
-  pub scores_are : (len : ℕ) → len ≤ rows.longest → IsToldScoreBound checked.grammar checked.algebra len (slice_index rows.scores len)
+  pub scores_are : (len : ℕ) → len ≤ rows.longest
+      → IsToldScoreBound checked.grammar checked.algebra len (slice_index rows.scores len)
   pub nodes_are : (len : ℕ) → len ≤ rows.longest → IsToldNodeBound checked.grammar len (slice_index rows.nodes len)

@@ -22,7 +22,8 @@ const GREATEST_SCORE: u64 = 4_611_686_018_427_387_903;
 
 /// The cell bound of the word, where its length and its cell bound keep their limits; else the fault. Takes no memory.
 pub fn cells_within_limits(checked: &Checked, word: &Text) -> Result<u64, LimitFault>
-    ensures { MatchResult result (KeepsCells checked.now.grammar (length word.now)) (IsLimitFault checked.now.grammar checked.now.algebra (length word.now)) }
+    ensures { MatchResult result (KeepsCells checked.now.grammar (length word.now))
+        (IsLimitFault checked.now.grammar checked.now.algebra (length word.now)) }
 {
     checked.passes();
     let letters = word.bytes().len();
@@ -50,7 +51,8 @@ pub fn admit_within<'a>(
     requires rows { AreRowsOf checked.now rows.now }
     requires known { length word.now ≤ rows.now.longest }
     requires cells { KeepsCells checked.now.grammar (length word.now) cells }
-    ensures { MatchResult result (IsProblemOf checked.now word.now) (IsLimitFault checked.now.grammar checked.now.algebra (length word.now)) }
+    ensures { MatchResult result (IsProblemOf checked.now word.now)
+        (IsLimitFault checked.now.grammar checked.now.algebra (length word.now)) }
 {
     checked.passes();
     let letters = word.bytes().len();

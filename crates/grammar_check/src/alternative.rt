@@ -70,8 +70,11 @@ impl Alternative {
         requires within { (part_at self.now.parts.items place).low + spare < bounds.now.width }
         requires rest_room { rest_room ≡ min (rooms (drop (place + 1) self.now.parts.items)) (2 ^ 64 - 1) }
         ensures { (bound : ℕ → ℕ → ℕ)
-            → ((more : ℕ) → more ≤ spare → ReadsRight bound bounds.now (part_at self.now.parts.items place).worth ((part_at self.now.parts.items place).low + more))
-            → ((column : ℕ) → column ≤ spare → entry self.now.spreads (place + 1) column ≡ told (spread bound (drop (place + 1) self.now.parts.items) column))
+            → ((more : ℕ) → more ≤ spare
+            → ReadsRight bound bounds.now (part_at self.now.parts.items place).worth
+            ((part_at self.now.parts.items place).low + more))
+            → ((column : ℕ) → column ≤ spare → entry self.now.spreads (place + 1) column
+            ≡ told (spread bound (drop (place + 1) self.now.parts.items) column))
             → result ≡ told (spread bound (drop place self.now.parts.items) spare) }
     {
         let part = self.parts[place];

@@ -65,9 +65,11 @@ fn greatest_entry(table: &Table, column: usize) -> u64
 fn score_row(alloc: Global, checked: &Checked, longest: usize) -> Result<Vec<u64>, AllocError>
     requires { longest ≤ 4000 }
     ensures each { IfOk result (λ row. length row.items ≡ longest + 1) }
-    ensures bounds { IfOk result (λ row. (bound : ℕ → ℕ → ℕ) → AreScoreBounds checked.now.grammar checked.now.algebra bound
+    ensures bounds { IfOk result (λ row. (bound : ℕ → ℕ → ℕ)
+        → AreScoreBounds checked.now.grammar checked.now.algebra bound
         → (len : ℕ) → len ≤ longest → slice_index row.items len
-        ≡ told (score_number bound (length checked.now.grammar.rules) (grammar_plan checked.now.grammar (Scores checked.now.algebra) (lengths_of checked.now.sizes longest)) len)) }
+        ≡ told (score_number bound (length checked.now.grammar.rules) (grammar_plan checked.now.grammar
+        (Scores checked.now.algebra) (lengths_of checked.now.sizes longest)) len)) }
 {
     let measure = Measure::Scores {
         algebra: checked.algebra,

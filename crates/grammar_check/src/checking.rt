@@ -15,7 +15,8 @@ use yield_sizes::{anchors, first_loop, productive, ranks, sizes};
 /// The number of the algebra with this name.
 fn algebra_named(grammar: &Grammar, name: &Text) -> Option<u32>
     requires { IsTrue (is_well_formed grammar.now) }
-    ensures { MatchOption result ((algebra : ℕ) → IsNamed grammar.now name.now algebra → ⊥) (IsNamed grammar.now name.now) }
+    ensures { MatchOption result ((algebra : ℕ) → IsNamed grammar.now name.now algebra → ⊥)
+        (IsNamed grammar.now name.now) }
 {
     for (number, algebra) in grammar.algebras.as_slice().iter().enumerate() {
         if algebra.name.bytes() == name.bytes() {
@@ -41,8 +42,10 @@ fn first_false(flags: &[bool]) -> Option<usize>
 fn first_other_term(grammar: &Grammar, algebra: u32) -> Option<usize>
     requires well_formed { IsTrue (is_well_formed grammar.now) }
     requires algebra { algebra < length grammar.now.algebras }
-    ensures { MatchOption result ((sign : ℕ) → sign < length grammar.now.signs → HasMonotoneTerm grammar.now algebra sign)
-        (IsFirstFaulty (HasOtherTerm grammar.now algebra) (HasMonotoneTerm grammar.now algebra) (length grammar.now.signs)) }
+    ensures { MatchOption result
+        ((sign : ℕ) → sign < length grammar.now.signs → HasMonotoneTerm grammar.now algebra sign)
+        (IsFirstFaulty (HasOtherTerm grammar.now algebra) (HasMonotoneTerm grammar.now algebra)
+        (length grammar.now.signs)) }
 {
     terms_fit_their_signs();
     let terms = grammar.algebras.as_slice()[algebra as usize]

@@ -19,7 +19,8 @@ fn fill_rank(plans: &mut Vec<RulePlan>, ranks: &[u32], table: &mut Table, len: u
     ensures plan { rules_plan plans.new.items ≡ rules_plan plans.old.items }
     ensures readable { All (λ plan. IsRuleReadable (vec_len plans.old) plan) plans.new.items }
     ensures columns { All (λ plan. IsRuleWide table.old.width plan) plans.new.items }
-    ensures filled { (bound : ℕ → ℕ → ℕ) → IsPlanned bound (rules_plan plans.old.items) len → IsRanked ranks.now (rules_plan plans.old.items)
+    ensures filled { (bound : ℕ → ℕ → ℕ) → IsPlanned bound (rules_plan plans.old.items) len
+        → IsRanked ranks.now (rules_plan plans.old.items)
         → IsRankFilled bound ranks.now table.old plans.old.items len rank
         → IsRankFilled bound ranks.now table.new plans.new.items len (rank + 1) }
 {
@@ -47,7 +48,8 @@ fn fill_length(plans: &mut Vec<RulePlan>, ranks: &[u32], table: &mut Table, len:
     ensures plan { rules_plan plans.new.items ≡ rules_plan plans.old.items }
     ensures readable { All (λ plan. IsRuleReadable (vec_len plans.old) plan) plans.new.items }
     ensures columns { All (λ plan. IsRuleWide table.old.width plan) plans.new.items }
-    ensures filled { (bound : ℕ → ℕ → ℕ) → IsPlanned bound (rules_plan plans.old.items) len → IsRanked ranks.now (rules_plan plans.old.items)
+    ensures filled { (bound : ℕ → ℕ → ℕ) → IsPlanned bound (rules_plan plans.old.items) len
+        → IsRanked ranks.now (rules_plan plans.old.items)
         → IsFilledTo bound table.old plans.old.items len → IsFilledTo bound table.new plans.new.items (len + 1) }
 {
     for rank in 0..plans.len() {

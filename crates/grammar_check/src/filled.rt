@@ -30,11 +30,13 @@ pub fn filled_table(
     most: usize,
 ) -> Result<Filled, AllocError>
     requires { most ≤ 4000 }
-    ensures plan { IfOk result (λ filled. rules_plan filled.plans.items ≡ grammar_plan checked.now.grammar measure (lengths_of checked.now.sizes most)) }
+    ensures plan { IfOk result (λ filled. rules_plan filled.plans.items
+        ≡ grammar_plan checked.now.grammar measure (lengths_of checked.now.sizes most)) }
     ensures rows { IfOk result (λ filled. filled.table.rows ≡ length checked.now.grammar.rules) }
     ensures width { IfOk result (λ filled. filled.table.width ≡ most + 1) }
     ensures entries { IfOk result (λ filled. (bound : ℕ → ℕ → ℕ) → AreBoundsOf checked.now.grammar measure bound
-        → (rule len : ℕ) → rule < length checked.now.grammar.rules → len ≤ most → entry filled.table rule len ≡ told (bound rule len)) }
+        → (rule len : ℕ) → rule < length checked.now.grammar.rules → len ≤ most
+        → entry filled.table rule len ≡ told (bound rule len)) }
 {
     checked.passes();
     sizes_are_the_checked_numbers();

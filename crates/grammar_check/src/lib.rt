@@ -15,8 +15,6 @@ mod part;
 mod plan;
 mod rule_plan;
 mod table;
-#[cfg(test)]
-mod tests;
 mod tokens;
 
 pub use admission::{admit, admit_within, cells_within_limits};

@@ -77,7 +77,8 @@ fn parts(
     arguments: &[Arg],
 ) -> Result<Vec<Part>, AllocError>
     requires { most < 2 ^ 32 }
-    ensures { IfOk result (λ parts. parts.items ≡ parts_in grammar.now measure (lengths_of sizes.now most) sign 0 arguments.now) }
+    ensures { IfOk result (λ parts. parts.items
+        ≡ parts_in grammar.now measure (lengths_of sizes.now most) sign 0 arguments.now) }
 {
     let mut parts = Vec::with_capacity(alloc, arguments.len())?;
     for (place, argument) in arguments.iter().enumerate() {
@@ -99,9 +100,11 @@ fn rule_plan(
 ) -> Result<RulePlan, AllocError>
     requires few { All (λ alternative. length alternative.args ≤ 4) alternatives.now }
     requires short { most ≤ 4000 }
-    ensures plan { IfOk result (λ plan. plan_of plan.alternatives.items ≡ map (entry_in grammar.now measure (lengths_of sizes.now most)) alternatives.now) }
+    ensures plan { IfOk result (λ plan. plan_of plan.alternatives.items
+        ≡ map (entry_in grammar.now measure (lengths_of sizes.now most)) alternatives.now) }
     ensures columns { IfOk result (λ plan. IsRuleWide (most + 1) plan) }
-    ensures spread { IfOk result (λ plan. (bound : ℕ → ℕ → ℕ) → All (λ alternative. AreSpread bound alternative 0) plan.alternatives.items) }
+    ensures spread { IfOk result (λ plan. (bound : ℕ → ℕ → ℕ)
+        → All (λ alternative. AreSpread bound alternative 0) plan.alternatives.items) }
 {
     let mut planned = Vec::with_capacity(alloc, alternatives.len())?;
     for alternative in alternatives {
@@ -133,9 +136,11 @@ pub fn plans(
 ) -> Result<Vec<RulePlan>, AllocError>
     requires well_formed { IsTrue (is_well_formed grammar.now) }
     requires short { most ≤ 4000 }
-    ensures plan { IfOk result (λ plans. rules_plan plans.items ≡ grammar_plan grammar.now measure (lengths_of sizes.now most)) }
+    ensures plan { IfOk result (λ plans. rules_plan plans.items
+        ≡ grammar_plan grammar.now measure (lengths_of sizes.now most)) }
     ensures columns { IfOk result (λ plans. All (λ plan. IsRuleWide (most + 1) plan) plans.items) }
-    ensures spread { IfOk result (λ plans. (bound : ℕ → ℕ → ℕ) → All (λ plan. All (λ alternative. AreSpread bound alternative 0) plan.alternatives.items) plans.items) }
+    ensures spread { IfOk result (λ plans. (bound : ℕ → ℕ → ℕ)
+        → All (λ plan. All (λ alternative. AreSpread bound alternative 0) plan.alternatives.items) plans.items) }
 {
     arguments_are_few_and_known();
     let mut planned = Vec::with_capacity(alloc, grammar.rules.as_slice().len())?;

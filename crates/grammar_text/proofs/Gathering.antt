@@ -1,10 +1,10 @@
 -- The number of the `words` line, by the header.
-use Rattle.std.proofs.Common.{◌≡◌, ℕ, zero, suc, ◌+◌, ◌-◌, ◌<◌, ◌≤◌, Bool, true, false, ◌||◌, cond, Option, Some, None, List, [], ◌∷◌, ◌++◌, length, map, drop, refl, sym, ◌∙◌, ap, arith}
+use Rattle.std.proofs.Common.{◌≡◌, ℕ, suc, ◌+◌, ◌-◌, Bool, true, false, cond, Option, Some, None, List, [], ◌∷◌, length, map, drop, refl, sym, ◌∙◌, ap, arith}
 use Rattle.std.specs.List.{list_any, position}
 use Rattle.std.specs.Option.{option_map}
 use Rattle.std.specs.Borrow.{Bor}
 use Rattle.adp_model.specs.JobLines.{job_lines, is_words_line, up_to_words_line, words_line_of, words_of}
-use Rattle.adp_model.specs.DeclaredNames.{TextLines, text_lines}
+use Rattle.adp_model.specs.DeclaredNames.{text_lines}
 use Rattle.grammar_text.specs.Seen.{words_seen}
 use Rattle.adp_model.specs.Declarations as forms
 use Rattle.grammar_text.specs.declared.reader.collected.LineSort.{LineSort}

@@ -18,7 +18,7 @@ pub mod Letters
 pub mod Members
 pub mod Nothing
 pub mod PartCounts
-pub mod Printing
+pub mod AllNames
 pub mod RulesKept
 pub mod Runs
 pub mod Scans

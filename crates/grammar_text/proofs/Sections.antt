@@ -1,15 +1,9 @@
 -- The section of an algebra in what the reader has in its hands, and the term of a sign in it.
-use Rattle.std.proofs.Common.{◌≡◌, ℕ, zero, suc, ◌+◌, ◌<◌, ◌≤◌, Bool, true, false, cond, not, nat_eq, nat_lt, Option, Some, None, unwrap_or, List, [], ◌∷◌, length, map, take, drop, get_or, length-drop, ◌-◌, refl, sym, ◌∙◌, ap, subst, arith}
-use Rattle.std.specs.List.{list_all, position, position_or_len, prefix_len, filter_map}
-use Rattle.std.proofs.lemmas.Bool.{and_parts, and_from, ltb-true, ltb-false}
+use Rattle.std.proofs.Common.{◌≡◌, ℕ, zero, suc, ◌+◌, ◌<◌, ◌≤◌, true, false, cond, not, List, [], ◌∷◌, length, map, take, drop, get_or, length-drop, ◌-◌, refl, sym, ◌∙◌, ap, arith}
+use Rattle.std.specs.List.{position_or_len}
+use Rattle.std.proofs.lemmas.Bool.{and_parts}
 use Rattle.std.proofs.lemmas.List.{take_all, drop_more, length-map}
-use Rattle.std.proofs.lemmas.List.Sums.{prefix_len-le-length}
-use lib.Pointwise.{pointwise}
-use Rattle.adp_model.specs.declared.grammar.Linear.{Linear}
-use Rattle.adp_model.specs.Declarations as forms
 use Rattle.adp_model.specs.DeclaredNames.{is_algebra_line, section_of}
-use Rattle.adp_model.specs.TermText.{Part, linear_of}
-use Rattle.adp_model.specs.JobText as texts
 use Rattle.grammar_text.specs.declared.reader.declaration.Declaration.{Declaration}
 use Rattle.grammar_text.specs.declared.reader.declaration.Declaration.TheVariants as code
 use Rattle.std.specs.Borrow.{Bor}

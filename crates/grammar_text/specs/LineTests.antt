@@ -1,5 +1,5 @@
 -- The tests of a line, as the reader makes them.
-use Rattle.std.specs.Prelude.{◌≡◌, ℕ, ◌+◌, Bool, true, false, ◌&&◌, not, Option, Some, None, List, take, drop, get_or}
+use Rattle.std.specs.Prelude.{◌≡◌, ℕ, ◌+◌, Bool, true, false, ◌&&◌, not, List, take, drop, get_or}
 use Rattle.std.specs.List.{list_all, list_any}
 use Rattle.adp_model.specs.TermText.{is_among}
 use Rattle.adp_model.specs.Declarations.{Declaration, Words}

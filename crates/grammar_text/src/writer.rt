@@ -8,16 +8,20 @@ mod signs;
 
 ghost use Rattle.std.specs.Prelude.{◌≡◌, ◌++◌, IfOk, OnOk};
 ghost use Rattle.std.specs.List.{flat_map};
+ghost use Rattle.adp_model.specs.JobText.{IsText};
 ghost use Rattle.adp_model.specs.Report.{line};
 ghost use Rattle.adp_model.specs.Spelling.{grammar_lines, spelling};
 
 use adp_model::{Grammar, Job, Text};
+use spelled_texts::spellings_are_read_back;
 use std::alloc::{AllocError, Global};
 
-/// The canonical spelling of a job. The only error is want of memory.
+/// The canonical spelling of a job, which is a text of this job. The only error is want of memory.
 pub fn write_text(alloc: Global, job: &Job) -> Result<Vec<u8>, AllocError>
-    ensures { IfOk result (λ text. text.items ≡ spelling job.now) }
+    ensures spelled { IfOk result (λ text. text.items ≡ spelling job.now) }
+    ensures read_back { IfOk result (λ text. IsText text.items job.now) }
 {
+    spellings_are_read_back();
     let mut out = Vec::new(alloc);
     out.extend_from_slice(b"adp 1\n")?;
     push_grammar(&mut out, &job.grammar)?;
@@ -46,6 +50,3 @@ fn push_words(out: &mut Vec<u8>, words: &[Text]) -> Result<(), AllocError>
     }
     Ok(())
 }
-
-#[cfg(test)]
-mod tests;

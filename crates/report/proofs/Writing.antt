@@ -16,7 +16,8 @@ use Rattle.traceback.specs.declared.tree_nodes.NodeAt.{NodeAt}
 use Rattle.traceback.specs.Preorder.{nodes_of, nodes_of_all}
 use Rattle.report.specs.declared.tree_lines.Piece.{Piece}
 use Rattle.report.specs.declared.tree_lines.Piece.TheVariants.{Mark, Letters, Subtree}
-use Rattle.report.specs.Pieces.{comma, closing_bracket, AreBestNodes, StandsFor, Waiting, Unwritten, head_text, piece_of, child_pieces, further_pieces, pieces_behind}
+use Rattle.adp_model.specs.Ascii.{closing_bracket, comma}
+use Rattle.report.specs.Pieces.{AreBestNodes, StandsFor, Waiting, Unwritten, head_text, piece_of, child_pieces, further_pieces, pieces_behind}
 
 append-nil : {A : Type 0} (xs : List A) → xs ++ [] ≡ xs
 append-nil [] = refl

@@ -1,6 +1,7 @@
 -- The text of a tree while it is written: the pieces that wait on a stack, and what they and the nodes that were not
 -- taken yet stand for.
 use Rattle.std.specs.Prelude.{◌≡◌, ℕ, List, [], ◌∷◌, ◌++◌, codes}
+use Rattle.adp_model.specs.Ascii.{closing_bracket, comma}
 use Rattle.adp_model.specs.declared.grammar.Arg.{Arg}
 use Rattle.adp_model.specs.declared.grammar.Arg.TheVariants.{Rule}
 use Rattle.adp_model.specs.declared.cell.Cell.{Cell}
@@ -16,12 +17,6 @@ use Rattle.traceback.specs.declared.tree_nodes.NodeAt.{NodeAt}
 use Rattle.traceback.specs.Preorder.{nodes_of}
 use Rattle.report.specs.declared.tree_lines.Piece.{Piece}
 use Rattle.report.specs.declared.tree_lines.Piece.TheVariants.{Mark, Letters, Subtree}
-
-abbrev pub comma : ℕ
-comma = 44
-
-abbrev pub closing_bracket : ℕ
-closing_bracket = 41
 
 -- the nodes that a piece takes, and its text: a subtree takes its own nodes
 abbrev pub StandsFor : PosedProblem → Piece → List NodeAt → List ℕ → Type 0

@@ -21,8 +21,6 @@ mod relation;
 mod rule_anchors;
 mod rule_sizes;
 mod sizing;
-#[cfg(test)]
-mod tests;
 mod walk;
 
 pub use anchoring::anchors;

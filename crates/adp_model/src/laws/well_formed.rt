@@ -1,11 +1,12 @@
-//! Arguments and numbers of well-formed grammars.
+//! Arguments, numbers and names of well-formed grammars.
 
-ghost use Rattle.std.specs.Prelude.{◌≡◌, ℕ, ◌<◌, ◌≤◌, Some, IsTrue, length};
+ghost use Rattle.std.specs.Prelude.{◌≡◌, ℕ, ◌<◌, ◌≤◌, Some, IsTrue, List, length};
 ghost use Rattle.std.specs.List.{AllByRecursion, Contains};
 ghost use Rattle.adp_model.specs.declared.grammar.Arg.TheVariants.{Rule, Run};
 ghost use Rattle.adp_model.specs.declared.grammar.Grammar.{Grammar};
-ghost use Rattle.adp_model.specs.Parts.{algebra_at, arguments_of, sign_at, term_for};
-ghost use Rattle.adp_model.specs.WellFormed.{IsKnown, is_well_formed};
+ghost use Rattle.adp_model.specs.Parts.{algebra_at, arguments_of, rule_at, sign_at, term_for};
+ghost use Rattle.adp_model.specs.Printable.{IsPrintable};
+ghost use Rattle.adp_model.specs.WellFormed.{IsKnown, is_name, is_well_formed};
 
 /// An alternative has at most four arguments, and the rules and classes that they name are there.
 pub fn arguments_are_few_and_known()
@@ -34,4 +35,20 @@ pub fn terms_fit_their_signs()
     ensures factors { (grammar : Grammar) → IsTrue (is_well_formed grammar) → (algebra sign : ℕ)
         → algebra < length grammar.algebras → sign < length grammar.signs
         → length (term_for grammar algebra sign).factors ≡ length (sign_at grammar sign).kinds }
+{}
+
+/// A name has at most 32 bytes, and all of them are printable.
+pub fn names_are_short_and_printable()
+    ensures short { (name : List ℕ) → IsTrue (is_name name) → length name ≤ 32 }
+    ensures printable { (name : List ℕ) → IsTrue (is_name name) → IsPrintable name }
+{}
+
+/// The signs, algebras and rules of a grammar have names.
+pub fn parts_have_names()
+    ensures signs { (grammar : Grammar) → IsTrue (is_well_formed grammar)
+        → (sign : ℕ) → sign < length grammar.signs → IsTrue (is_name (sign_at grammar sign).name) }
+    ensures algebras { (grammar : Grammar) → IsTrue (is_well_formed grammar)
+        → (algebra : ℕ) → algebra < length grammar.algebras → IsTrue (is_name (algebra_at grammar algebra).name) }
+    ensures rules { (grammar : Grammar) → IsTrue (is_well_formed grammar)
+        → (rule : ℕ) → rule < length grammar.rules → IsTrue (is_name (rule_at grammar rule).name) }
 {}

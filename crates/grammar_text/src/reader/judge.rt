@@ -9,6 +9,7 @@ ghost use Rattle.grammar_text.specs.Seen.{alternative_seen, argument_seen, decla
 
 use crate::reader::declaration::{Alternative, Argument, Declaration, Item, Term};
 use crate::reader::letters::class_letters;
+use adp_model::laws::well_formed::names_are_short_and_printable;
 use adp_model::{Linear, Text, is_name};
 use algebra_terms::{TermError, number_of, read_term};
 use std::alloc::{AllocError, Global};
@@ -238,6 +239,7 @@ pub(crate) fn text_of(alloc: Global, name: &[u8]) -> Result<Text, AllocError>
     requires { words.is_name name.now ≡ true }
     ensures { IfOk result (λ text. text ≡ name.now) }
 {
+    names_are_short_and_printable();
     let mut bytes = Vec::with_capacity(alloc, name.len())?;
     bytes.extend_from_slice(name)?;
     Ok(Text::new(bytes))

@@ -1,11 +1,26 @@
 use Rattle.std.proofs.Common.{refl, arith}
-use Rattle.adp_main.proofs.Endings.{ends}
+use Rattle.std.proofs.lemmas.Result.{err_from_is_err_and}
+use Rattle.adp_main.proofs.Endings.{ends, ends_usage, ends_unread, fault_left}
 use Rattle.adp_main.proofs.top_call.answer.Goals as goal
 
-pub returns : goal.returns
-returns g c =
-    let best = c.in_ok-read_words.ensures.taken.0 refl in
-    ends _ _ _ _ _ c.in_ok-bytes.bytes.items c.deref.result.now _ _ _ _ c.write_reports.result best c.deref.ensures.value
-    (c.in_ok-bytes.ensures.faults.stands (λ e. cc)) c.in_ok-bytes.ensures.told c.in_ok-bytes.ensures.whole c.in_ok-bytes.ensures.end (omega (arith, c.in_ok-bytes.bytes.ok.0, c.in_ok-bytes.ensures.fits))
+pub returns-in_err-command-clause-ending : goal.returns-in_err-command-clause-ending
+returns-in_err-command-clause-ending g c =
+    let p = err_from_is_err_and c.from_residual.result c.from_residual.ensures.1 in
+    rw (p.1, p.2) (ends_usage _ _ _ _ _ _ _ (λ has. let e = c.in_err-command.ensures.taken.1 has in cc))
+
+pub returns-in-Err-clause-ending : goal.returns-in-Err-clause-ending
+returns-in-Err-clause-ending g c =
+    let e = c.in-Err.ensures in
+    rw c.reading_fault.ensures (ends_unread _ _ _ _ _ _ _ _ _ (c.in_ok-command.ensures.taken.0 refl) e.faults e.told e.refused e.read_fault e.long)
+
+pub returns-clause-ending : goal.returns-clause-ending
+returns-clause-ending g c =
+    let command = c.in_ok-command.ensures.taken.0 refl in
+    ends _ _ _ _ _ c.in-Ok.bytes.items c.deref.result.now _ _ _ _ c.write_reports.result command c.deref.ensures.value
+    (c.in-Ok.ensures.faults.stands (λ e. cc)) c.in-Ok.ensures.told c.in-Ok.ensures.whole c.in-Ok.ensures.end (omega (arith, c.in-Ok.bytes.ok.0, c.in-Ok.ensures.fits))
     c.write_reports.ensures.usage c.write_reports.ensures.read c.write_reports.ensures.writing
-    (c.write_reports.ensures.verdict _ best) (c.write_reports.ensures.part _ best)
+    c.write_reports.ensures.verdict c.write_reports.ensures.part c.write_reports.ensures.first
+
+pub returns-clause-fault : goal.returns-clause-fault
+returns-clause-fault g c =
+    fault_left _ _ c.in-Ok.bytes.items c.deref.result.now c.write_reports.result c.in-Ok.ensures.whole c.deref.ensures.value c.write_reports.ensures.fault

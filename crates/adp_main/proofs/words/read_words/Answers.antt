@@ -1,10 +1,40 @@
-use Rattle.std.proofs.Common.{[], ◌∷◌, ap, ◌∙◌, refl, arith}
+use Rattle.std.proofs.Common.{refl, arith}
+use Rattle.std.proofs.lemmas.List.{length-map}
+use Rattle.std.proofs.lemmas.Result.{err_from_is_err_and}
 use Rattle.std.specs.String.{string_bytes}
-use Rattle.std.specs.Cmp.Lexicographic.{same_text}
-use Rattle.adp_main.proofs.Told.{map-single}
+use Rattle.adp_main.proofs.Options.{odd_words, stop, turn, finish}
 use Rattle.adp_main.proofs.words.read_words.Goals as goal
 
-pub returns-in-len1-clause-taken : goal.returns-in-len1-clause-taken
-returns-in-len1-clause-taken c =
-    let e = map-single string_bytes c.args.words.now c.word-item.result (omega arith) (omega arith) c.word-item.is in
-    (λ _. e ∙ ap (λ word. word ∷ []) (same_text _ _ (cc)), λ _. refl)
+pub returns-then-words-eq0-clause-taken : goal.returns-then-words-eq0-clause-taken
+returns-then-words-eq0-clause-taken c = (
+  λ e. cc,
+  λ has. absurd (omega (arith, odd_words _ has, length-map c.args.words.now string_bytes, c.if-words-eq0.true)),
+)
+
+pub returns-in_err-set-clause-taken : goal.returns-in_err-set-clause-taken
+returns-in_err-set-clause-taken c =
+    let p = err_from_is_err_and c.from_residual-in_err-set.result c.from_residual-in_err-set.ensures.1 in
+    rw p.1 (
+      λ e. cc,
+      λ has. absurd (stop string_bytes c.args.words.now c.loop-place.place c.index-words-place.result c.index-words-place-in-loop-place.result _ _ c.loop-place.set
+          c.loop-place-test.true c.loop-place.invariant.odd c.loop-place.invariant.within c.index-words-place.is c.index-words-place-in-loop-place.is
+          c.as_str-in-loop-place.ensures.value c.as_str-in-loop-place-2.ensures.value c.loop-place.invariant.read c.in_err-set.ensures.refused has),
+    )
+
+pub loop-place-preserved : goal.loop-place-preserved
+loop-place-preserved c = record {
+  odd = omega (arith, c.loop-place.invariant.odd, c.loop-place-test.true);
+  within = omega arith;
+  read = turn string_bytes c.args.words.now c.loop-place.place c.index-words-place.result c.index-words-place-in-loop-place.result _ _ c.loop-place.set _
+      c.loop-place-test.true c.loop-place.invariant.odd c.loop-place.invariant.within c.index-words-place.is c.index-words-place-in-loop-place.is
+      c.as_str-in-loop-place.ensures.value c.as_str-in-loop-place-2.ensures.value c.loop-place.invariant.read c.in_ok-set.ensures.added;
+}
+
+pub returns-clause-command : goal.returns-clause-command
+returns-clause-command c =
+    finish string_bytes c.args.words.now c.index-words-0.result c.as_str.result.now c.in_ok-mode.mode c.loop-place.place c.loop-place.set _ _ 0
+    (omega (arith, c.if-words-eq0.false)) c.index-words-0.is c.as_str.ensures.value c.in_ok-mode.ensures.known c.loop-place.invariant.odd c.loop-place-test.false
+    c.loop-place.invariant.read c.unwrap_or.ensures c.unwrap_or-2.ensures
+
+pub returns-clause-taken : goal.returns-clause-taken
+returns-clause-taken c = (λ _. (_, returns-clause-command c), λ _. refl)

@@ -1,4 +1,4 @@
-use Rattle.std.proofs.Common.{◌≡◌, List, length, map, refl, sym, ◌∙◌, ap}
+use Rattle.std.proofs.Common.{map, refl, sym, ◌∙◌, ap}
 use Rattle.std.proofs.lemmas.List.{length-map}
 use Rattle.adp_model.specs.DeclaredNames.{TextLines, declarations}
 use Rattle.adp_model.specs.JobLines.{words_line_of}

@@ -1,4 +1,4 @@
-use Rattle.std.proofs.Common.{◌≡◌, ℕ, ◌++◌, true, length, map}
+use Rattle.std.proofs.Common.{◌≡◌, ◌++◌, true, length, map}
 use Rattle.adp_model.specs.JobText as texts
 use Rattle.grammar_text.specs.Building.{are_buildable, sign_names}
 use Rattle.grammar_text.specs.Seen.{declaration_seen}

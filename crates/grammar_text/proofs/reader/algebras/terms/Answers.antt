@@ -1,4 +1,4 @@
-use Rattle.std.proofs.Common.{◌≡◌, map, refl, sym, ◌∙◌, ap}
+use Rattle.std.proofs.Common.{map, ◌∙◌, ap}
 use Rattle.adp_model.specs.declared.grammar.Sign as signs
 use Rattle.adp_model.specs.JobText as texts
 use Rattle.grammar_text.specs.Seen.{declaration_seen}

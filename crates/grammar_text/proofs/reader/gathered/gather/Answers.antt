@@ -1,13 +1,9 @@
-use Rattle.std.proofs.Common.{◌≡◌, ℕ, Option, List, ◌∷◌, length, map, drop, sym, ◌∙◌, ap, refl}
+use Rattle.std.proofs.Common.{ℕ, List, length, drop, ◌∙◌, ap}
 use Rattle.std.specs.Borrow.{Bor}
-use Rattle.adp_model.specs.JobLines.{job_lines, up_to_words_line, words_line_of, words_of, header_of}
-use Rattle.adp_model.specs.Declarations as forms
-use Rattle.adp_model.specs.DeclaredNames.{TextLines, text_lines}
-use Rattle.grammar_text.specs.Gathering.{text_seen, words_line_in}
 use Rattle.grammar_text.specs.Collecting.{header_seen}
 use Rattle.grammar_text.specs.Seen.{words_seen}
 use Rattle.grammar_text.proofs.HeaderParts.{declared_within, parts_within}
-use Rattle.grammar_text.proofs.Gathering.{words_line_is, words_behind_first, text_is}
+use Rattle.grammar_text.proofs.Gathering.{words_behind_first, text_is}
 use Rattle.grammar_text.proofs.reader.gathered.gather.Goals as goal
 
 pub returns-clause-seen : goal.returns-clause-seen

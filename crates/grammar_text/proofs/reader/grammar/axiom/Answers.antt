@@ -1,4 +1,4 @@
-use Rattle.std.proofs.Common.{◌≡◌, None, [], map, drop, refl, sym, ◌∙◌, ap}
+use Rattle.std.proofs.Common.{◌≡◌, None, map, sym, ◌∙◌, ap}
 use Rattle.std.specs.List.{filter_map}
 use Rattle.adp_model.specs.DeclaredNames.{first_of_list}
 use Rattle.adp_model.specs.JobText.{axiom_name}

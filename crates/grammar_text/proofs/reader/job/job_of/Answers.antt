@@ -1,6 +1,6 @@
-use Rattle.std.proofs.Common.{◌≡◌, ap, ◌∙◌}
+use Rattle.std.proofs.Common.{ap, ◌∙◌}
 use Rattle.adp_model.specs.JobText.{declared_grammar}
-use Rattle.grammar_text.proofs.AcceptedTexts.{accepted-buildable, accepted-printable, IsMade, made}
+use Rattle.grammar_text.proofs.AcceptedTexts.{accepted-buildable, accepted-printable, made}
 use Rattle.grammar_text.proofs.reader.job.job_of.Goals as goal
 
 pub declared_grammar-requires-clause-buildable : goal.declared_grammar-requires-clause-buildable

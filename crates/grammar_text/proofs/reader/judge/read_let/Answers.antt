@@ -1,7 +1,7 @@
 use Rattle.std.proofs.Common.{◌≡◌, arith}
 use Rattle.std.proofs.lemmas.Grind.{common_steps}
 use Rattle.grammar_text.specs.Seen.{words_seen}
-use Rattle.grammar_text.proofs.Printing.{name_at}
+use Rattle.grammar_text.proofs.AllNames.{name_at}
 use Rattle.grammar_text.proofs.Judging.{judged}
 use Rattle.grammar_text.proofs.reader.judge.read_let.Goals as goal
 

@@ -1,4 +1,4 @@
-use Rattle.std.proofs.Common.{◌≡◌, List, map, get_or, refl, ap, sym, ◌∙◌}
+use Rattle.std.proofs.Common.{List, map, get_or, refl, ap, sym, ◌∙◌}
 use Rattle.std.proofs.lemmas.List.{length-map}
 use Rattle.grammar_text.specs.Gathering.{text_seen}
 use Rattle.grammar_text.specs.LineKinds.{is_unclosed_sort}

@@ -1,5 +1,3 @@
-use Rattle.std.proofs.Common.{◌≡◌, map, ap, ◌∙◌}
-use Rattle.std.proofs.lemmas.List.{take_all}
 use Rattle.adp_model.specs.JobText as texts
 use Rattle.grammar_text.specs.Building.{is_printable_alternative}
 use Rattle.grammar_text.specs.Seen.{alternative_seen}

@@ -1,4 +1,4 @@
-use Rattle.std.proofs.Common.{◌≡◌, [], map, get_or, refl, ap, ◌∙◌}
+use Rattle.std.proofs.Common.{[], map, get_or, ap, ◌∙◌}
 use Rattle.std.proofs.lemmas.List.{take_all}
 use Rattle.adp_model.specs.JobText as texts
 use Rattle.grammar_text.specs.declared.reader.declaration.Argument.{Argument}

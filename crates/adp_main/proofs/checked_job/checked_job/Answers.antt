@@ -1,0 +1,38 @@
+use Rattle.std.proofs.Common.{◌≡◌, ◌∙◌}
+use Rattle.std.proofs.lemmas.Result.{err_from_is_err_and}
+use Rattle.grammar_check.specs.declared.error.CheckError.{CheckError}
+use Rattle.report.specs.declared.fault.Fault.{Fault}
+use Rattle.adp_main.specs.Commands.{asked_command}
+use Rattle.adp_main.specs.Reporting.{grammar_refusal}
+use Rattle.adp_main.proofs.CheckedJobs.{is_text, is_checked, grammar_refused}
+use Rattle.adp_main.proofs.Turned.{gave_ok, gave_err}
+use Rattle.adp_main.proofs.checked_job.checked_job.Goals as goal
+
+pub new-name-requires : goal.new-name-requires
+new-name-requires c =
+    rw c.in_ok-from_slice.ensures.items (c.names_are_short_and_printable.ensures.printable c.named_algebra-name.result.now c.named_algebra-name.ensures.name)
+
+pub returns-in_err-checked-clause-refusal : goal.returns-in_err-checked-clause-refusal
+returns-in_err-checked-clause-refusal c =
+    let job = c.in_ok-job.job in
+    let text = is_text c.args.bytes.now job c.read_text.result c.read_text.ensures (gave_ok _ c.read_text.result job _ c.in_ok-job.ensures.variant c.in_ok-job.ensures.cases) in
+    let p = err_from_is_err_and c.from_residual-in_err-checked.result c.from_residual-in_err-checked.ensures.1 in
+    let same : c.new-name.result ≡ c.named_algebra-name.result.now = c.new-name.ensures ∙ c.in_ok-from_slice.ensures.items in
+    rw (p.1, p.2)
+    (grammar_refused _ c.args.bytes.now (asked_command c.args.command.now) job c.new-name.result c.check.result c.in_err-checked.field-0.0
+    (record { is_command = c.requires.command; short_enough = c.requires.fits; is_text = text })
+    (same ∙ c.named_algebra-name.ensures.asked)
+    (rw same c.named_algebra-name.ensures.name)
+    (record { short = c.names_are_short_and_printable.ensures.short; rules = c.parts_have_names.ensures.rules job.grammar job.well_formed; signs = c.parts_have_names.ensures.signs job.grammar job.well_formed })
+    c.check.ensures (gave_err c.check.result c.in_err-checked.field-0.0 (λ (e : CheckError) (fault : Fault). fault ≡ grammar_refusal e) c.in_err-checked.ensures.cases))
+
+pub returns-clause-job : goal.returns-clause-job
+returns-clause-job c =
+    let job = c.in_ok-job.job in
+    let text = is_text c.args.bytes.now job c.read_text.result c.read_text.ensures (gave_ok _ c.read_text.result job _ c.in_ok-job.ensures.variant c.in_ok-job.ensures.cases) in
+    let same : c.new-name.result ≡ c.named_algebra-name.result.now = c.new-name.ensures ∙ c.in_ok-from_slice.ensures.items in
+    let found = is_checked _ c.args.bytes.now (asked_command c.args.command.now) job c.new-name.result c.check.result c.in_ok-checked.checked
+    (record { is_command = c.requires.command; short_enough = c.requires.fits; is_text = text })
+    (same ∙ c.named_algebra-name.ensures.asked)
+    c.check.ensures (gave_ok _ c.check.result c.in_ok-checked.checked _ c.in_ok-checked.ensures.variant c.in_ok-checked.ensures.cases) in
+    (job, found.0, found.1, (λ i. job.words))

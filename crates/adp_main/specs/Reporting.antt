@@ -1,0 +1,86 @@
+-- The reports of a job's words, and what was written of them.
+use Rattle.std.specs.Prelude.{◌≡◌, ℕ, ◌+◌, ◌≤◌, ◌⊎◌, List, [], ◌∷◌, length, map, take, Option, Result, Ok, Err}
+use Rattle.std.specs.List.{concat}
+use Rattle.std.specs.Io.KnownBytes.{Appends}
+use Rattle.adp_io.specs.Streams.{AppendsProperPrefix}
+use Rattle.adp_model.specs.declared.grammar.Grammar.{Grammar}
+use Rattle.adp_model.specs.declared.job.Job.{Job}
+use Rattle.adp_model.specs.PosedProblem.{PosedProblem}
+use Rattle.adp_model.specs.Report.{IsReport}
+use Rattle.adp_model.specs.Verdict.{IsVerdict, AsksUnder, KeepLimits, IsFirstLimit, AreReports}
+use Rattle.adp_model.specs.Verdict as verdicts
+use Rattle.report.specs.declared.fault.Fault.{Fault}
+use Rattle.report.specs.declared.fault.Fault.TheVariants as faults
+use Rattle.adp_main.specs.declared.checked_job.CheckedJob.{CheckedJob}
+use Rattle.grammar_check.specs.declared.error.CheckError.{CheckError}
+use Rattle.grammar_check.specs.declared.error.CheckError.TheVariants as check_errors
+use Rattle.grammar_text.specs.declared.error.TextError.{TextError}
+use Rattle.grammar_text.specs.declared.error.TextError.TheVariants as text_errors
+
+-- the fault of bytes that were not read as a job
+abbrev pub text_refusal : TextError → Fault
+text_refusal (text_errors.Fault fault) = faults.Text fault
+text_refusal text_errors.Memory = faults.Memory
+
+-- the fault of a grammar that was not checked
+abbrev pub grammar_refusal : CheckError → Fault
+grammar_refusal (check_errors.Fault fault) = faults.Grammar fault
+grammar_refusal check_errors.Memory = faults.Memory
+
+-- the job's grammar is that of the text that was asked about, and has no fault under the algebra; its words are the
+-- text's
+abbrev pub IsCheckedJob : List (List ℕ) → List ℕ → CheckedJob → Type 0
+IsCheckedJob words bytes checked =
+    (job : Job) × AsksUnder words bytes job checked.checked.algebra × (checked.checked.grammar ≡ job.grammar)
+    × (checked.words ≡ job.words)
+
+-- the verdict is the fault of the text or of its grammar, with a short name; of want of memory nothing is said
+abbrev pub IsJobRefusal : List (List ℕ) → List ℕ → Fault → Type 0
+IsJobRefusal words bytes (faults.Text fault) = IsVerdict words bytes (verdicts.Text fault)
+IsJobRefusal words bytes (faults.Grammar fault) =
+    IsVerdict words bytes (verdicts.Grammar fault) × (length fault.name ≤ 32)
+IsJobRefusal words bytes faults.Memory = Unit {0}
+IsJobRefusal words bytes fault = ⊥
+
+-- what is asked about each word
+abbrev pub posed_words : Grammar → ℕ → List (List ℕ) → List PosedProblem
+posed_words grammar algebra words =
+    map (λ (word : List ℕ). record { grammar = grammar; algebra = algebra; word = word }) words
+
+-- the fault of the first word that passes a limit; of want of memory nothing is said
+abbrev pub IsLimitOf : Grammar → ℕ → List (List ℕ) → Fault → Type 0
+IsLimitOf grammar algebra words (faults.Limit word fault) = IsFirstLimit grammar algebra 1 words word fault
+IsLimitOf grammar algebra words faults.Memory = Unit {0}
+IsLimitOf grammar algebra words fault = ⊥
+
+-- the reports of these problems in order, the first of which has this number
+abbrev pub AreReportsOf : ℕ → List PosedProblem → List (List ℕ) → Type 0
+AreReportsOf number [] [] = Unit {0}
+AreReportsOf number (problem ∷ problems) (report ∷ reports) =
+    IsReport number problem report × AreReportsOf (number + 1) problems reports
+AreReportsOf number problems reports = ⊥
+
+-- what was written of these reports: all of them, a part that is not the whole, or the first of them
+abbrev pub HasWritten : Result (Unit {0}) Fault → Option (List ℕ) → Option (List ℕ) → List (List ℕ) → Type 0
+HasWritten (Ok written) old new reports = Appends old new (concat reports)
+HasWritten (Err faults.Write) old new reports = AppendsProperPrefix old new (concat reports)
+HasWritten (Err faults.Memory) old new reports = (count : ℕ) × Appends old new (concat (take count reports))
+HasWritten (Err fault) old new reports = ⊥
+
+-- the words keep the limits, and these are their reports
+pub record IsReported (grammar : Grammar) (algebra : ℕ) (words : List (List ℕ)) (reports : List (List ℕ)) : Type 0 where
+  pub limits : KeepLimits grammar algebra words
+  pub reports_are : AreReports grammar algebra 1 words reports
+
+-- how the words of a checked job were reported: one of them passes a limit and nothing was written, or it was written
+-- of their reports
+abbrev pub IsJobEnding : Grammar → ℕ → List (List ℕ) → Result (Unit {0}) Fault → Option (List ℕ) → Option (List ℕ)
+    → Type 0
+IsJobEnding grammar algebra words (Err (faults.Limit word fault)) old new =
+    IsFirstLimit grammar algebra 1 words word fault × Appends old new []
+IsJobEnding grammar algebra words (Err faults.Memory) old new =
+    Appends old new []
+    ⊎ ((reports : List (List ℕ)) × IsReported grammar algebra words reports
+    × HasWritten (Err faults.Memory) old new reports)
+IsJobEnding grammar algebra words result old new =
+    (reports : List (List ℕ)) × IsReported grammar algebra words reports × HasWritten result old new reports

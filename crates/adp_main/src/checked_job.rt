@@ -1,0 +1,61 @@
+// A job whose grammar passed its checks under the algebra that the command asks for.
+ghost use Rattle.std.specs.Prelude.{◌≡◌, ◌≤◌, map, length, IfOk, IfErr, IsTrue};
+ghost use Rattle.std.specs.String.{string_bytes};
+ghost use Rattle.adp_model.specs.Verdict.{asked_name, greatest_length};
+ghost use Rattle.adp_model.specs.WellFormed.{is_name, is_well_formed};
+ghost use Rattle.adp_main.specs.Commands.{IsCommandOf, asked_command};
+ghost use Rattle.adp_main.specs.Reporting.{IsCheckedJob, IsJobRefusal};
+
+use crate::fault::{grammar_refusal, text_refusal};
+use crate::words::Command;
+use adp_model::laws::well_formed::{names_are_short_and_printable, parts_have_names};
+use adp_model::{Grammar, Sequence, Text};
+use grammar_check::{Checked, check};
+use grammar_text::read_text;
+use report::Fault;
+use std::alloc::{AllocError, Global};
+
+// The checked grammar and the words.
+#[derive(Drop)]
+pub(crate) struct CheckedJob {
+    pub(crate) checked: Checked,
+    pub(crate) words: Sequence<Text>,
+}
+
+// Reads the job that the bytes spell, and checks its grammar under the algebra that the command asks for.
+pub(crate) fn checked_job(
+    alloc: Global,
+    words: &[String],
+    command: &Command,
+    bytes: &[u8],
+) -> Result<CheckedJob, Fault>
+    requires command { IsCommandOf (map string_bytes words.now) command.now }
+    requires fits { length bytes.now ≤ greatest_length }
+    ensures job { IfOk result (IsCheckedJob (map string_bytes words.now) bytes.now) }
+    ensures few_words { IfOk result (λ job. length job.words ≤ 65536) }
+    ensures refusal { IfErr result (IsJobRefusal (map string_bytes words.now) bytes.now) }
+{
+    names_are_short_and_printable();
+    parts_have_names();
+    let job = read_text(alloc, bytes).map_err(text_refusal)?;
+    let name = named_algebra(words, command, &job.grammar);
+    let name = Text::new(Vec::from_slice(alloc, name)?);
+    let checked = check(alloc, job.grammar, &name).map_err(grammar_refusal)?;
+    Ok(CheckedJob {
+        checked,
+        words: job.words,
+    })
+}
+
+// The name of the algebra that the command asks for, or of the grammar's first.
+fn named_algebra<'a>(words: &'a [String], command: &Command, grammar: &'a Grammar) -> &'a [u8]
+    requires command { IsCommandOf (map string_bytes words.now) command.now }
+    requires formed { IsTrue (is_well_formed grammar.now) }
+    ensures asked { result.now ≡ asked_name (map string_bytes words.now) (asked_command command.now) grammar.now }
+    ensures name { IsTrue (is_name result.now) }
+{
+    match command.algebra {
+        Some(place) => words[place].as_bytes(),
+        None => grammar.algebras.as_slice()[0].name.bytes(),
+    }
+}

@@ -1,0 +1,149 @@
+// Files of cases.
+
+use crate::bytes::{push_numbered, push_text, push_times};
+use crate::case::{Case, Outcome};
+use std::alloc::{AllocError, Global};
+
+// Bytes with a name, which several cases begin with.
+#[derive(Drop)]
+struct Block {
+    name: String,
+    bytes: Vec<u8>,
+}
+
+// Where the lines of a file lead to.
+#[derive(Drop)]
+enum Open {
+    Nothing,
+    Block(Block),
+    Case(Case),
+}
+
+/// Runs the cases of a file, and tells how each ended.
+pub(crate) fn outcomes(alloc: Global, text: &str) -> Result<Vec<Outcome>, AllocError> {
+    let mut outcomes = Vec::new(alloc);
+    let mut blocks: Vec<Block> = Vec::new(alloc);
+    let mut open = Open::Nothing;
+    for line in text.lines() {
+        let (word, rest) = line.split_once(' ').unwrap_or((line, ""));
+        match word {
+            "" | "#" => {}
+            "case" => open = Open::Case(Case::new(alloc, rest)?),
+            "block" => {
+                let name = String::from_str(alloc, rest)?;
+                open = Open::Block(Block {
+                    name,
+                    bytes: Vec::new(alloc),
+                });
+            }
+            "end" => {
+                let done = open;
+                open = Open::Nothing;
+                match done {
+                    Open::Nothing => {}
+                    Open::Block(block) => blocks.push(block)?,
+                    Open::Case(case) => outcomes.push(case.outcome(alloc)?)?,
+                }
+            }
+            _ => read_line(alloc, &mut open, &blocks, word, rest)?,
+        }
+    }
+    Ok(outcomes)
+}
+
+// A line of a case or a block.
+fn read_line(
+    alloc: Global,
+    open: &mut Open,
+    blocks: &[Block],
+    word: &str,
+    rest: &str,
+) -> Result<(), AllocError> {
+    match open {
+        Open::Nothing => Ok(()),
+        Open::Block(block) => match word.strip_prefix('|') {
+            Some(form) => push_form(alloc, &mut block.bytes, blocks, form, rest),
+            None => Ok(()),
+        },
+        Open::Case(case) => read_case_line(alloc, case, blocks, word, rest),
+    }
+}
+
+fn read_case_line(
+    alloc: Global,
+    case: &mut Case,
+    blocks: &[Block],
+    word: &str,
+    rest: &str,
+) -> Result<(), AllocError> {
+    if let Some(form) = word.strip_prefix('|') {
+        return push_form(alloc, &mut case.input, blocks, form, rest);
+    }
+    if let Some(form) = word.strip_prefix('>') {
+        return push_form(alloc, &mut case.output, blocks, form, rest);
+    }
+    if let Some(form) = word.strip_prefix('!') {
+        return push_form(alloc, &mut case.error, blocks, form, rest);
+    }
+    let number = rest.parse::<u32>().unwrap_or(0);
+    match word {
+        "words" => push_words(alloc, &mut case.words, rest)?,
+        "status" => case.status = u8::try_from(number).unwrap_or(255),
+        "read" => case.read_piece = number as usize,
+        "read-fails" => case.failing_reads.push(u64::from(number))?,
+        "write" => case.write_piece = number as usize,
+        "write-fails" => case.failing_writes.push(u64::from(number))?,
+        "room" => case.room = number as usize,
+        _ => {}
+    }
+    Ok(())
+}
+
+// The words of a command, with one space between two.
+fn push_words(alloc: Global, words: &mut Vec<String>, rest: &str) -> Result<(), AllocError> {
+    for word in rest.split(' ') {
+        words.push(String::from_str(alloc, word)?)?;
+    }
+    Ok(())
+}
+
+// Appends what a line spells: a text with its end, or in another form.
+fn push_form(
+    alloc: Global,
+    out: &mut Vec<u8>,
+    blocks: &[Block],
+    form: &str,
+    rest: &str,
+) -> Result<(), AllocError> {
+    let (count, text) = counted(rest);
+    match form {
+        "" => {
+            push_text(out, rest.as_bytes())?;
+            out.push(b'\n')?;
+            Ok(())
+        }
+        "+" => push_text(out, rest.as_bytes()),
+        "*" => push_times(out, count, text.as_bytes(), alloc),
+        "@" => push_numbered(out, 0, count, text.as_bytes(), alloc),
+        "@1" => push_numbered(out, 1, count, text.as_bytes(), alloc),
+        "$" => push_block(out, blocks, rest),
+        _ => Ok(()),
+    }
+}
+
+// A number and the text behind it.
+fn counted(rest: &str) -> (u32, &str) {
+    match rest.split_once(' ') {
+        Some((number, text)) => (number.parse::<u32>().unwrap_or(0), text),
+        None => (0, rest),
+    }
+}
+
+fn push_block(out: &mut Vec<u8>, blocks: &[Block], name: &str) -> Result<(), AllocError> {
+    for block in blocks {
+        if block.name.as_str() == name {
+            out.extend_from_slice(&block.bytes)?;
+        }
+    }
+    Ok(())
+}

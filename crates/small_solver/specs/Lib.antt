@@ -1,4 +1,0 @@
-pub mod Solves
-pub mod Matching
-pub mod Marking
-pub mod Answering

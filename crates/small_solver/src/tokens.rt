@@ -1,6 +1,0 @@
-/// Where the letters that a token matches end, and what they are worth.
-#[derive(Clone, Copy)]
-pub struct TokenMatch {
-    pub end: usize,
-    pub value: i64,
-}

@@ -1,7 +1,0 @@
-use Rattle.std.proofs.Common.{◌≡◌, drop}
-use Rattle.small_model.specs.TermText as terms
-use Rattle.small_terms.specs.Reading.{parts_seen}
-use Rattle.small_terms.proofs.read.are_declared.Given as goal
-
-abbrev pub invariant-loop-part : goal.invariant-loop-part
-invariant-loop-part l = terms.are_declared l.variables (parts_seen l.parts) ≡ terms.are_declared l.variables (parts_seen (drop l.part-index l.parts))

@@ -1,0 +1,6 @@
+adp 1
+sign a(token)
+rule r = a("y")
+grammar r
+words
+y
