@@ -7,7 +7,7 @@ use Rattle.std.specs.Str.Parse.{digits_value}
 use Rattle.adp_model.specs.declared.grammar.Kind.{Kind}
 use Rattle.adp_model.specs.declared.grammar.Kind.TheVariants as kinds
 use Rattle.adp_model.specs.Printable.{is_printable_byte}
-use Rattle.adp_model.specs.WellFormed.{is_name, are_distinct, letters_are_distinct}
+use Rattle.adp_model.specs.WellFormed.{are_distinct, greatest_bound, is_name, letters_are_distinct}
 use Rattle.adp_model.specs.TermText.{Part, number_of, signed, are_names, are_numbers, totals_fit, are_declared, is_among}
 use Rattle.adp_model.specs.JobLines.{is_first_line, line_at}
 use Rattle.adp_model.specs.Declarations.{Item, Argument, Named, Spelled, OneOf, RunOf, Alternative, Declaration, Class, Sign, Algebra, Let, Rule, Axiom, Words, HeaderLine, Unclosed, Shapeless}
@@ -85,7 +85,7 @@ has_no_name text line = holds_of_form misnames text line
 -- digits alone, and a value of at most 1,000,000
 abbrev pub bound_of : List ℕ → Option ℕ
 bound_of word =
-    if all_ascii_digits word && nat_le (digits_value 10 word) 1000000 then Some (digits_value 10 word) else None
+    if all_ascii_digits word && nat_le (digits_value 10 word) greatest_bound then Some (digits_value 10 word) else None
 
 -- the number of an item, where it is one
 abbrev pub weight_of : Item → Option ℤ

@@ -66,10 +66,14 @@ abbrev pub is_algebra : List Sign → Algebra → Bool
 is_algebra signs algebra =
     is_name algebra.name && length algebra.terms == length signs && list_all is_term (zip signs algebra.terms)
 
--- at most a million letters, and not fewer than the low bound
+-- the greatest bound of a run
+abbrev pub greatest_bound : ℕ
+greatest_bound = 1000000
+
+-- at most the greatest bound, and not fewer than the low bound
 abbrev pub is_high_bound : ℕ → Option ℕ → Bool
 is_high_bound low None = true
-is_high_bound low (Some high) = nat_le low high && nat_le high 1000000
+is_high_bound low (Some high) = nat_le low high && nat_le high greatest_bound
 
 -- an argument of this kind, with its rule or class in the grammar
 abbrev pub is_argument : Grammar → Kind × Arg → Bool
@@ -82,7 +86,7 @@ is_argument grammar entry = fits entry.0 entry.1
     fits Token (Literal text) = list_all is_printable_byte text
     fits Token (Letter class) = nat_lt class (length grammar.classes)
     fits Token (Run class low high) =
-        nat_lt class (length grammar.classes) && nat_le low 1000000 && is_high_bound low high
+        nat_lt class (length grammar.classes) && nat_le low greatest_bound && is_high_bound low high
 
 -- the argument's rule or class is one of the grammar's
 abbrev pub IsKnown : Grammar → Arg → Type 0

@@ -9,6 +9,9 @@ use crate::grammar::{Algebra, Alt, Arg, Class, Grammar, Kind, Linear, Rule, Sign
 use crate::sequence::Sequence;
 use crate::text::{Text, is_printable, is_printable_byte};
 
+/// The greatest bound of a run.
+const GREATEST_BOUND: u32 = 1_000_000;
+
 /// Whether these bytes are a name: a letter, then at most 31 letters, digits or `_`.
 pub fn is_name(bytes: &[u8]) -> bool
     ensures { result ≡ is_name bytes.now }
@@ -183,7 +186,7 @@ fn is_high_bound(low: u32, high: Option<u32>) -> bool
 {
     match high {
         None => true,
-        Some(high) => low <= high && high <= 1_000_000,
+        Some(high) => low <= high && high <= GREATEST_BOUND,
     }
 }
 
@@ -204,7 +207,7 @@ fn is_argument(grammar: &Grammar, kind: Kind, argument: &Arg) -> bool
         (Kind::Token, Arg::Literal(text)) => has_printable_letters(text),
         (Kind::Token, Arg::Letter(class)) => (*class as usize) < classes,
         (Kind::Token, Arg::Run { class, low, high }) => {
-            (*class as usize) < classes && *low <= 1_000_000 && is_high_bound(*low, *high)
+            (*class as usize) < classes && *low <= GREATEST_BOUND && is_high_bound(*low, *high)
         }
     }
 }

@@ -1,5 +1,5 @@
-//! Tries the top call on cases: words and bytes in, bytes and a status out. The cases stand in `data/`, in the form that
-//! `data/README.md` describes; each gives a line, and the last line says how many pass.
+//! Tries the top call on cases: words and bytes in, bytes and a status out. The cases stand in `data/`, in the form
+//! that `data/README.md` describes; each gives a line, and the last line says how many pass.
 #![tactic(auto)]
 
 mod bytes;

@@ -76,9 +76,9 @@ fn term_of_parts(alloc: Global, parts: &[Part<'_>], vars: &[Text]) -> Result<Lin
 /// variable that stands twice the first has the factor, and the others have 0.
 ///
 /// Otherwise it is the first that holds of these: Shape, where a byte begins no token or the tokens are no term's;
-/// Name, where a variable is no name; Number, where a number word is no number from 0 to 2^62 - 1, or where the constant or
-/// the factor of a variable, declared or not, lies outside -(2^62 - 1) to 2^62 - 1; Unknown, where a variable isn't
-/// declared.
+/// Name, where a variable is no name; Number, where a number word is no number from 0 to 2^62 - 1, or where the
+/// constant or the factor of a variable, declared or not, lies outside -(2^62 - 1) to 2^62 - 1; Unknown, where a
+/// variable isn't declared.
 pub fn read_term(alloc: Global, bytes: &[u8], vars: &[Text]) -> Result<Linear, TermError>
     requires { length bytes.now ≤ 2 ^ 31 }
     ensures { Gives (term_reading bytes.now vars.now) result }

@@ -1,4 +1,4 @@
-use crate::jobs::{PAIRS, PIECES, job};
+use crate::jobs::{DOUBLING, FEWEST, LENGTH, LINE, PAIRS, PIECES, TWO_LETTERS, job};
 use adp_model::{Job, LimitFault, Text};
 use grammar_check::{AdmitError, CheckError, Checked, admit, check, node_bound, score_bound};
 use std::alloc::Global;
@@ -17,29 +17,106 @@ fn checked(rt: &impl Abort, alloc: Global, job: Job) -> Result<(Checked, Vec<Tex
     }
 }
 
+// What the checks have to find of each rule of a grammar, and cell bounds of words of some lengths.
+#[derive(Clone, Copy)]
+struct Found {
+    least: u32,
+    greatest: Option<u32>,
+    is_left: bool,
+    is_right: bool,
+    bounds: [(u32, u64); 2],
+}
+
+fn expect_found(rt: &impl Abort, checked: &Checked, want: &Found) {
+    assert!(rt;
+        checked
+            .sizes
+            .least
+            .as_slice()
+            .iter()
+            .all(|size| *size == want.least)
+    );
+    assert!(rt;
+        checked
+            .sizes
+            .greatest
+            .as_slice()
+            .iter()
+            .all(|size| *size == want.greatest)
+    );
+    assert!(rt;
+        checked
+            .anchors
+            .left
+            .as_slice()
+            .iter()
+            .all(|is_left| *is_left == want.is_left)
+    );
+    assert!(rt;
+        checked
+            .anchors
+            .right
+            .as_slice()
+            .iter()
+            .all(|is_right| *is_right == want.is_right)
+    );
+    for (n, bound) in want.bounds {
+        assert!(rt; n <= 4000);
+        assert_eq!(rt;
+            cell_bound(&checked.grammar, &checked.sizes, &checked.anchors, n),
+            bound,
+            "at {n}"
+        );
+    }
+}
+
 #[test]
 fn sizes_anchors_and_cell_bounds(rt: HostRuntime) -> Result<(), Fail> {
-    // the text, whether its only rule is right-anchored, and cell bounds of words of some lengths
-    for (text, is_right, bounds) in [
-        (
-            PAIRS,
-            false,
-            [(0, 1), (2, 6), (2046, 2_096_128), (2047, 2_098_176)],
-        ),
-        (PIECES, true, [(0, 1), (7, 8), (3999, 4000), (4000, 4001)]),
+    let free = Found {
+        least: 0,
+        greatest: None,
+        is_left: false,
+        is_right: false,
+        bounds: [(2, 6), (2046, 2_096_128)],
+    };
+    let right = Found {
+        least: 0,
+        greatest: None,
+        is_left: false,
+        is_right: true,
+        bounds: [(7, 8), (4000, 4001)],
+    };
+    let whole = Found {
+        least: 2,
+        greatest: Some(2),
+        is_left: true,
+        is_right: true,
+        bounds: [(2, 1), (3, 0)],
+    };
+    for (text, want) in [
+        (PAIRS, &free),
+        (FEWEST, &right),
+        (LENGTH, &right),
+        (LINE, &right),
+        (TWO_LETTERS, &whole),
     ] {
         let (checked, _words) = checked(&rt, rt.alloc(), job(rt.alloc(), text)?)?;
-        assert!(rt; matches!(checked.sizes.least.as_slice(), [0]));
-        assert!(rt; matches!(checked.sizes.greatest.as_slice(), [None]));
-        assert!(rt; matches!(checked.anchors.left.as_slice(), [false]));
-        assert!(rt; checked.anchors.right.as_slice().first().copied() == Some(is_right));
-        assert!(rt; matches!(checked.ranks.as_slice(), [0]));
-        for (n, want) in bounds {
-            assert!(rt; n <= 4000);
-            let found = cell_bound(&checked.grammar, &checked.sizes, &checked.anchors, n);
-            assert_eq!(rt; found, want, "at {n}");
-        }
+        expect_found(&rt, &checked, want);
     }
+    Ok(())
+}
+
+#[test]
+fn empty_rules_are_anchored(rt: HostRuntime) -> Result<(), Fail> {
+    let empty = Found {
+        least: 0,
+        greatest: Some(0),
+        is_left: true,
+        is_right: true,
+        bounds: [(0, 64), (1, 0)],
+    };
+    let (checked, _words) = checked(&rt, rt.alloc(), job(rt.alloc(), DOUBLING)?)?;
+    expect_found(&rt, &checked, &empty);
     Ok(())
 }
 

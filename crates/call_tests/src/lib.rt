@@ -1,6 +1,6 @@
-//! The public calls of the crates below, each made where there is memory enough, on what no case of `adp_tests` can show.
-//! What is expected was worked out from the definitions. They stand in a crate of their own, since a crate with tests is
-//! proved twice.
+//! The public calls of the crates below, each made where there is memory enough, on what no case of `adp_tests` can
+//! show. What is expected was worked out from the definitions. They stand in a crate of their own, since a crate with
+//! tests is proved twice.
 #![tactic(auto)]
 
 #[cfg(test)]

@@ -40,8 +40,8 @@ pub fn cells_within_limits(checked: &Checked, word: &Text) -> Result<u64, LimitF
     Ok(cells)
 }
 
-/// The problem of the word, whose length and cell bound keep their limits, where its node bound and its score bound keep
-/// theirs; else the fault. The rows of the bounds are known up to the word's length. Takes no memory.
+/// The problem of the word, whose length and cell bound keep their limits, where its node bound and its score bound
+/// keep theirs; else the fault. The rows of the bounds are known up to the word's length. Takes no memory.
 pub fn admit_within<'a>(
     checked: &'a Checked,
     rows: &BoundRows,

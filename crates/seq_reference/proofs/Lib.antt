@@ -6,10 +6,7 @@ pub mod Placing
 pub mod Spans
 pub mod Firsts
 pub mod Rooted
-pub mod Weights
-pub mod Scored
 pub mod Falls
-pub mod Sets
-pub mod Heights
-pub mod Lists
-pub mod Filled
+pub mod Ranks
+pub mod Sweeps
+pub mod Fills

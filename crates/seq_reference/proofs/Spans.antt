@@ -1,7 +1,7 @@
 -- The arguments of a viable split on their spans, and their values one after another.
-use Rattle.std.proofs.Common.{◌≡◌, ℕ, suc, ◌+◌, ◌-◌, ◌<◌, ◌≤◌, ◌⊎◌, ℤ, Some, None, List, [], ◌∷◌, ◌++◌, length, take, set, get_or, refl, sym, ap, subst, ◌∙◌, inl, inr, arith, add-one}
+use Rattle.std.proofs.Common.{◌≡◌, ℕ, suc, ◌+◌, ◌<◌, ◌≤◌, ℤ, nat_abs, Option, List, [], ◌∷◌, ◌++◌, length, take, set, get_or, refl, sym, ap, subst, ◌∙◌, arith, add-one}
 use Rattle.std.specs.List.{Contains}
-use Rattle.std.proofs.lemmas.List.{take_more, take_more_set, take_all, length-take, length-drop}
+use Rattle.std.proofs.lemmas.List.{take_more, take_more_set, take_all}
 use Rattle.std.proofs.lemmas.List.Elements.{All-contains, All-from_recursion}
 use Rattle.adp_model.specs.declared.grammar.Arg.{Arg}
 use Rattle.adp_model.specs.declared.grammar.Arg.TheVariants.{Rule, Literal, Letter, Run}
@@ -9,10 +9,10 @@ use Rattle.adp_model.specs.declared.cell.Cell.{Cell}
 use Rattle.adp_model.specs.declared.cell.Choice.{Choice}
 use Rattle.adp_model.specs.PosedProblem.{PosedProblem, IsSpan}
 use Rattle.adp_model.specs.Parts.{arguments_of}
-use Rattle.adp_model.specs.Tokens.{letters_between}
-use Rattle.adp_model.specs.Lengths.{AdmitsLength}
-use Rattle.adp_model.specs.Bounds.{token_bound, IsGreatest, IsRuleBound, IsTokenBound}
-use Rattle.adp_model.specs.ProblemFields.{IsAdmissible, greatest_score}
+use Rattle.adp_model.specs.Tokens.{letters_between, Matches, token_value}
+use Rattle.adp_model.specs.Checks.{IsChecked}
+use Rattle.adp_model.specs.Bounds.{IsScoreBound}
+use Rattle.adp_model.specs.ProblemFields.{IsAdmissible, greatest_score, most_letters}
 use Rattle.adp_model.specs.Splits.{Placed, AtRule, placed, ends_by, FitsSpan, IsViable}
 use Rattle.adp_model.specs.Demand.{IsDemandedChild}
 use Rattle.adp_model.specs.FirstSplit.{IsValue, AreArgumentValues, IsScoredSplit}
@@ -95,35 +95,17 @@ module _ (p : PosedProblem) (cell : Cell) (choice : Choice) (viable : IsViable p
 
 -- ---- how great the values of tokens are
 
-length_between : (word : List ℕ) (from to : ℕ) → from ≤ to → to ≤ length word → length (letters_between word from to) ≡ to - from
-length_between word from to l m = simp (length-take, length-drop) (omega arith)
-
-admitted : (p : PosedProblem) (argument : Arg) (from to : ℕ) → FitsSpan p (on_span argument from to) → ((rule : ℕ) → argument ≡ Rule rule → ⊥) → ((text : List ℕ) → argument ≡ Literal text → ⊥) → AdmitsLength argument (to - from)
-admitted p (Rule rule) from to fits no_rule no_text = absurd (no_rule rule refl)
-admitted p (Literal text) from to fits no_rule no_text = absurd (no_text text refl)
-admitted p (Letter class) from to fits no_rule no_text = sym (length_between p.word from to fits.0.in_order fits.0.in_word) ∙ fits.1.0
-admitted p (Run class low None) from to fits no_rule no_text =
-    let e = length_between p.word from to fits.0.in_order fits.0.in_word in (omega (arith, fits.1.0, e), tt)
-admitted p (Run class low (Some high)) from to fits no_rule no_text =
-    let e = length_between p.word from to fits.0.in_order fits.0.in_word in (omega (arith, fits.1.0, e), omega (arith, fits.1.1, e))
-
-within_greatest : (Holds : ℕ → Type 0) (number other : ℕ) → IsGreatest Holds number → Holds other → other ≤ number
-within_greatest Holds number other (inl (holds, greatest)) it = greatest other it
-within_greatest Holds number other (inr (zero, none)) it = absurd (none other it)
-
-module _ (p : PosedProblem) (admissible : IsAdmissible p) (rule alternative : ℕ) where
-  token_low : (token : Arg) (from to : ℕ) → Contains (arguments_of p.grammar rule alternative) token → IsSpan p.word from to → AdmitsLength token (to - from) → token_bound p.grammar token (to - from) ≤ greatest_score
-  token_low token from to stands span admits =
-      let scores = admissible.limits.scores in
-      let number = scores.0 in
-      let bound = scores.1.0 in
-      let below = within_greatest (λ other. IsRuleBound p.grammar bound (length p.word) other ⊎ IsTokenBound p.grammar (length p.word) other) number (token_bound p.grammar token (to - from)) scores.1.2
-      (inr (rule, alternative, token, to - from, stands, admits, omega (arith, span.in_word), refl)) in
-      omega (arith, below, scores.2)
-
-  -- the value of a token argument is within the greatest score
-  pub bound_low : (argument : Arg) (from to : ℕ) → Contains (arguments_of p.grammar rule alternative) argument → FitsSpan p (on_span argument from to) → token_bound p.grammar argument (to - from) ≤ greatest_score
-  bound_low (Rule other) from to stands fits = omega arith
-  bound_low (Literal text) from to stands fits = omega arith
-  bound_low (Letter class) from to stands fits = token_low (Letter class) from to stands fits.0 (admitted p (Letter class) from to fits (λ _ e. absurd cc) (λ _ e. absurd cc))
-  bound_low (Run class low high) from to stands fits = token_low (Run class low high) from to stands fits.0 (admitted p (Run class low high) from to fits (λ _ e. absurd cc) (λ _ e. absurd cc))
+-- the value of a token argument is within the greatest score
+pub value_low : (p : PosedProblem) → IsAdmissible p
+    → ((least : List ℕ) (greatest : List (Option ℕ)) (ranks : List ℕ) → IsChecked p.grammar p.algebra least greatest ranks → length p.word ≤ most_letters → (number : ℕ) → IsScoreBound p.grammar p.algebra (length p.word) number → (rule alternative : ℕ) (token : Arg) (from to : ℕ) → Contains (arguments_of p.grammar rule alternative) token → IsSpan p.word from to → Matches p.grammar token (letters_between p.word from to) → nat_abs (token_value p.grammar token (letters_between p.word from to)) ≤ number)
+    → (rule alternative : ℕ) (argument : Arg) (from to : ℕ) → Contains (arguments_of p.grammar rule alternative) argument → FitsSpan p (on_span argument from to) → nat_abs (token_value p.grammar argument (letters_between p.word from to)) ≤ greatest_score
+value_low p admissible bounded rule alternative (Rule other) from to stands fits = omega arith
+value_low p admissible bounded rule alternative (Literal text) from to stands fits = omega arith
+value_low p admissible bounded rule alternative (Letter class) from to stands fits =
+    let limits = admissible.limits in
+    let low = bounded admissible.least admissible.greatest admissible.ranks admissible.checked limits.letters limits.scores.0 limits.scores.1 rule alternative (Letter class) from to stands fits.0 fits.1 in
+    omega (arith, low, limits.scores.2)
+value_low p admissible bounded rule alternative (Run class least most) from to stands fits =
+    let limits = admissible.limits in
+    let low = bounded admissible.least admissible.greatest admissible.ranks admissible.checked limits.letters limits.scores.0 limits.scores.1 rule alternative (Run class least most) from to stands fits.0 fits.1 in
+    omega (arith, low, limits.scores.2)

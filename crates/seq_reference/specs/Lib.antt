@@ -1,8 +1,5 @@
 pub mod Choices
 pub mod Choosing
-pub mod Known
-pub mod KnownFields
-pub mod Listing
-pub mod ListingFields
-pub mod Scores
+pub mod Filling
 pub mod SolvedFields
+pub mod Sweeping

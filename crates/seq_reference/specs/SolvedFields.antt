@@ -2,11 +2,12 @@
 use Rattle.std.specs.Prelude.{◌≡◌, ◌↔◌}
 use Rattle.adp_model.specs.declared.cell.Cell.{Cell}
 use Rattle.adp_model.specs.Demand.{IsDemanded, IsDemandedCount}
+use Rattle.split_lines.specs.Entries.{HasEntry, IsMarked}
 use Rattle.seq_reference.specs.declared.solved.Solved.TheInside.{Inside}
-use Rattle.seq_reference.specs.Known.{Knows}
 
--- the scores of the demanded cells and of no other are known, and the number of these cells is told
+-- the demanded cells and no others are marked, their scores are entered, and the number of these cells is told
 pub record AreSolved (fields : Inside) : Type 0 where
-  pub same_problem : fields.scores.problem ≡ fields.problem.now
-  pub known : (cell : Cell) → Knows fields.scores cell ↔ IsDemanded fields.problem.now cell
-  pub counted : IsDemandedCount fields.problem.now fields.cells
+  pub same_problem : fields.scores.problem ≡ fields.lines
+  pub marked : (cell : Cell) → IsMarked fields.marks cell ↔ IsDemanded fields.lines cell
+  pub scored : (cell : Cell) → IsDemanded fields.lines cell → HasEntry fields.scores cell
+  pub counted : IsDemandedCount fields.lines fields.cells

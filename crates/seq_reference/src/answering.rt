@@ -5,16 +5,16 @@ ghost use Rattle.adp_model.specs.PosedProblem.{IsSpan};
 ghost use Rattle.adp_model.specs.Scores.{IsBetter};
 ghost use Rattle.adp_model.specs.Answers.{IsAnswer};
 ghost use Rattle.adp_model.specs.Demand.{IsDemandedChild};
-ghost use Rattle.seq_reference.specs.Known.{Knows};
+ghost use Rattle.split_lines.specs.Entries.{HasEntry};
 ghost use Rattle.seq_reference.specs.Choosing.{Improves};
 
 use crate::choices::{first_choice, next_choice};
-use crate::known_scores::KnownScores;
 use crate::parts::goal;
 use crate::values::split_score;
 use adp_model::laws::bellman::bellman;
 use adp_model::laws::order::answer_is_unique;
 use adp_model::{Answer, Cell, Choice, Goal, Problem};
+use split_lines::{Lines, Table};
 
 /// Whether the first score is better.
 fn is_better(goal: Goal, first: i64, second: i64) -> bool
@@ -49,11 +49,17 @@ fn improved(goal: Goal, answer: Answer, score: i64, choice: Choice) -> Answer
 }
 
 /// The answer of a cell, by the scores of its demanded children: the first of the best of its splits. Takes no memory.
-pub fn cell_answer(problem: &Problem, scores: &KnownScores, cell: Cell) -> Answer
+pub fn cell_answer(
+    problem: &Problem,
+    lines: &Lines<'_>,
+    scores: &Table<'_, i64>,
+    cell: Cell,
+) -> Answer
     requires rule { cell.rule < length problem.now.grammar.rules }
     requires in_word { IsSpan problem.now.word cell.from cell.to }
+    requires lines { lines.now ≡ problem.now }
     requires same_problem { scores.now.problem ≡ problem.now }
-    requires scored { (child : Cell) → IsDemandedChild problem.now cell child → Knows scores.now child }
+    requires scored { (child : Cell) → IsDemandedChild problem.now cell child → HasEntry scores.now child }
     ensures { IsAnswer problem.now cell result }
 {
     problem.admissible();
@@ -63,7 +69,7 @@ pub fn cell_answer(problem: &Problem, scores: &KnownScores, cell: Cell) -> Answe
     let mut best = Answer::NoCandidate;
     let mut split = first_choice(problem, cell);
     while let Some(choice) = split {
-        if let Some(score) = split_score(problem, scores, cell, choice) {
+        if let Some(score) = split_score(problem, lines, scores, cell, choice) {
             best = improved(goal, best, score, choice);
         }
         split = next_choice(problem, cell, choice);

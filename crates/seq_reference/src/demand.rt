@@ -1,118 +1,108 @@
-ghost use Rattle.std.specs.Prelude.{◌≡◌, ◌<◌, IfOk, length};
-ghost use Rattle.std.specs.List.{Contains};
+ghost use Rattle.std.specs.Prelude.{◌≡◌, ◌↔◌, ◌+◌, ◌<◌, ◌≤◌, ℕ, IfOk, Some, true, length};
 ghost use Rattle.adp_model.specs.declared.cell.Cell.{Cell};
-ghost use Rattle.adp_model.specs.PosedProblem.{axiom_cell};
-ghost use Rattle.adp_model.specs.Sizes.{IsWithinSizes};
-ghost use Rattle.adp_model.specs.Splits.{IsViable};
-ghost use Rattle.adp_model.specs.Demand.{IsDemanded, IsDemandedChild, IsDemandedCount};
-ghost use Rattle.seq_reference.specs.Listing.{AreEach, AreExactly, IsChildBy, IsExtended, AreClosed};
+ghost use Rattle.adp_model.specs.Cells.{IsCounted};
+ghost use Rattle.adp_model.specs.Demand.{IsDemanded};
+ghost use Rattle.split_lines.specs.Entries.{IsMarked, in_row};
+ghost use Rattle.seq_reference.specs.Sweeping.{AreRanked, AreSwept, IsBeforeEnd, IsBeforeStart};
 
-use crate::cell_set::CellSet;
-use crate::choices::{first_choice, next_choice};
-use crate::parts::arguments;
-use adp_model::laws::demand::demanded_cells_are_counted;
-use adp_model::{Arg, Cell, Choice, Problem};
+use crate::rank_order::rules_by_rank;
+use adp_model::Cell;
+use adp_model::laws::demand::{demanded_cells_are_counted, demanded_children_are_below};
+use split_lines::{Lines, Table, mark_children};
 use std::alloc::{AllocError, Global};
 
-/// Adds the cells of a split's rule arguments.
-fn insert_arguments(
-    problem: &Problem,
-    cell: Cell,
-    choice: Choice,
-    found: &mut CellSet,
-) -> Result<(), AllocError>
-    requires rule { cell.rule < length problem.now.grammar.rules }
-    requires demanded { IsDemanded problem.now cell }
-    requires split { IsViable problem.now cell choice.alt choice.cuts }
-    requires same_problem { found.old.problem ≡ problem.now }
-    ensures same_problem { IfOk result (λ _. found.new.problem ≡ problem.now) }
-    ensures more { IfOk result (λ _. IsExtended (IsDemanded problem.now) found.old.cells found.new.cells) }
-    ensures all { IfOk result
-        (λ _. (child : Cell) → IsChildBy problem.now cell choice child → Contains found.new.cells child) }
+/// A place that is behind each end before `below` of a counted cell which begins at `from`; 0 where there is none.
+fn behind_ends(marks: &Table<'_, bool>, rules: &[u32], from: u16, below: u16) -> u16
+    requires { AreRanked marks.now.problem rules.now }
+    ensures within { result ≤ below }
+    ensures behind { (cell : Cell) → IsCounted marks.now.problem.grammar (length marks.now.problem.word) cell
+        → cell.from ≡ from → cell.to < below → cell.to < result }
 {
-    problem.admissible();
-    demanded_cells_are_counted();
-    let arguments = arguments(problem, cell.rule, choice.alt);
-    let [first, second, third] = choice.cuts;
-    let bounds = [cell.from, first, second, third, cell.to];
-    for (i, argument) in arguments.iter().enumerate() {
-        if let Arg::Rule(rule) = argument {
-            found.insert(Cell {
-                rule: *rule,
-                from: bounds[i],
-                to: bounds[i + 1],
-            })?;
+    let mut behind = 0;
+    for rule in rules {
+        let ends = marks.ends(*rule, from);
+        let last = ends.end.min(below);
+        if ends.start < last {
+            behind = last.max(behind);
         }
     }
-    Ok(())
+    behind
 }
 
-/// Adds the demanded children of a demanded cell.
-fn insert_children(problem: &Problem, cell: Cell, found: &mut CellSet) -> Result<(), AllocError>
-    requires demanded { IsDemanded problem.now cell }
-    requires same_problem { found.old.problem ≡ problem.now }
-    ensures same_problem { IfOk result (λ _. found.new.problem ≡ problem.now) }
-    ensures more { IfOk result (λ _. IsExtended (IsDemanded problem.now) found.old.cells found.new.cells) }
-    ensures all { IfOk result
-        (λ _. (child : Cell) → IsDemandedChild problem.now cell child → Contains found.new.cells child) }
+/// Settles the marked cells of a span, by falling ranks.
+fn settle_span(lines: &Lines<'_>, rules: &[u32], from: u16, to: u16, marks: &mut Table<'_, bool>)
+    requires ranked { AreRanked lines.now rules.now }
+    requires swept { AreSwept lines.now marks.old (IsBeforeEnd from (to + 1)) }
+    ensures { AreSwept lines.now marks.new (IsBeforeEnd from to) }
 {
-    problem.admissible();
+    lines.problem().admissible();
     demanded_cells_are_counted();
-    let mut split = first_choice(problem, cell);
-    while let Some(choice) = split {
-        insert_arguments(problem, cell, choice, found)?;
-        split = next_choice(problem, cell, choice);
-    }
-    Ok(())
-}
-
-/// Adds the demanded children of each cell of the set, also of those that are added on the way.
-fn insert_descendants(problem: &Problem, found: &mut CellSet) -> Result<(), AllocError>
-    requires demanded { AreEach (IsDemanded problem.now) found.old.cells }
-    requires same_problem { found.old.problem ≡ problem.now }
-    ensures same_problem { IfOk result (λ _. found.new.problem ≡ problem.now) }
-    ensures more { IfOk result (λ _. IsExtended (IsDemanded problem.now) found.old.cells found.new.cells) }
-    ensures closed { IfOk result (λ _. AreClosed problem.now (length found.new.cells) found.new.cells) }
-{
-    for next in 0..problem.cells as usize {
-        let Some(cell) = found.get(next) else {
-            return Ok(());
+    demanded_children_are_below();
+    for number in (0..rules.len()).rev() {
+        let cell = Cell {
+            rule: rules[number],
+            from,
+            to,
         };
-        insert_children(problem, cell, found)?;
+        if marks.is_marked(cell) {
+            marks.mark(cell);
+            mark_children(lines, cell, marks);
+        }
     }
-    found.few();
-    Ok(())
 }
 
-/// The set that has the axiom's cell, where that is demanded.
-fn first_cells<'a>(alloc: Global, problem: &'a Problem<'a>) -> Result<CellSet<'a>, AllocError>
-    ensures same_problem { IfOk result (λ found. found.problem ≡ problem.now) }
-    ensures demanded { IfOk result (λ found. AreEach (IsDemanded problem.now) found.cells) }
-    ensures begun { IfOk result
-        (λ found. IsWithinSizes problem.now.grammar problem.now.grammar.axiom (length problem.now.word)
-        → Contains found.cells (axiom_cell problem.now)) }
+/// Settles the marked cells that begin at `from`, by falling ends.
+fn settle_start(lines: &Lines<'_>, rules: &[u32], from: u16, marks: &mut Table<'_, bool>)
+    requires ranked { AreRanked lines.now rules.now }
+    requires swept { AreSwept lines.now marks.old (IsBeforeStart from) }
+    ensures { AreSwept lines.now marks.new (IsBeforeStart (from + 1)) }
 {
+    let problem = lines.problem();
     problem.admissible();
     demanded_cells_are_counted();
-    let mut found = CellSet::new(alloc, problem)?;
+    let positions = problem.word.bytes().len() as u16 + 1;
+    let mut behind = behind_ends(marks, rules, from, positions);
+    while behind > 0 {
+        settle_span(lines, rules, from, behind - 1, marks);
+        behind = behind_ends(marks, rules, from, behind - 1);
+    }
+}
+
+/// Marks the axiom's cell alone, where that is demanded.
+fn first_marks<'a>(alloc: Global, lines: &Lines<'a>) -> Result<Table<'a, bool>, AllocError>
+    ensures { IfOk result (λ marks. AreSwept lines.now marks (IsBeforeStart 0)) }
+{
+    let problem = lines.problem();
+    problem.admissible();
+    demanded_cells_are_counted();
+    let mut marks = Table::new(alloc, problem, false)?;
+    marks.cells();
     let root = Cell {
         rule: problem.grammar.axiom,
         from: 0,
         to: problem.word.bytes().len() as u16,
     };
-    if !found.counts(root) {
-        return Ok(found);
+    if !marks.counts(root) {
+        return Ok(marks);
     }
-    found.insert(root)?;
-    Ok(found)
+    marks.mark(root);
+    Ok(marks)
 }
 
-/// The demanded cells, each once.
-pub fn demanded_cells<'a>(alloc: Global, problem: &'a Problem<'a>) -> Result<Vec<Cell>, AllocError>
-    ensures exactly { IfOk result (λ cells. AreExactly (IsDemanded problem.now) cells.items) }
-    ensures counted { IfOk result (λ cells. IsDemandedCount problem.now (length cells.items)) }
+/// Marks of the demanded cells: each is marked in its row, and no other cell is marked at all. Fails for want of memory
+/// alone. Its time is in proportion to the counted cells, times rules, and to the places of the demanded cells' lines.
+pub fn demanded_marks<'a>(alloc: Global, lines: &Lines<'a>) -> Result<Table<'a, bool>, AllocError>
+    ensures problem { IfOk result (λ marks. marks.problem ≡ lines.now) }
+    ensures marked { IfOk result (λ marks. (cell : Cell) → IsMarked marks cell ↔ IsDemanded lines.now cell) }
+    ensures rows { IfOk result (λ marks. (cell : Cell) → (in_row marks cell ≡ Some true) ↔ IsDemanded lines.now cell) }
 {
-    let mut found = first_cells(alloc, problem)?;
-    insert_descendants(problem, &mut found)?;
-    Ok(found.into_cells())
+    let problem = lines.problem();
+    problem.admissible();
+    demanded_cells_are_counted();
+    let rules = rules_by_rank(alloc, problem)?;
+    let mut marks = first_marks(alloc, lines)?;
+    for from in 0..problem.word.bytes().len() as u16 + 1 {
+        settle_start(lines, &rules, from, &mut marks);
+    }
+    Ok(marks)
 }

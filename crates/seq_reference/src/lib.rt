@@ -1,22 +1,17 @@
-//! The answers of a problem's demanded cells, on one thread: one sweep finds the demanded cells from the axiom's cell
-//! on, and one sweep answers them by length and rank.
+//! The answers of a problem's demanded cells, on one thread: one sweep marks the demanded cells from the axiom's cell
+//! on, one sweep fills in their scores, children first, and the answer of a cell is found among its splits when it is
+//! asked for.
 #![tactic(auto)]
 
 mod answering;
-mod cell_set;
 mod choices;
 mod demand;
 mod filling;
-mod known_scores;
-mod order;
 mod parts;
-mod score;
+mod rank_order;
 mod solved;
 mod solving;
-mod tokens;
 mod values;
 
-pub use answering::cell_answer;
-pub use known_scores::KnownScores;
 pub use solved::Solved;
 pub use solving::solve;

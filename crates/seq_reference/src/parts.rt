@@ -1,19 +1,7 @@
 ghost use Rattle.std.specs.Prelude.{◌≡◌, ◌<◌, length};
-ghost use Rattle.adp_model.specs.PosedProblem.{IsSpan};
-ghost use Rattle.adp_model.specs.Parts.{letters_of, alternatives_of, arguments_of, algebra_of, term_of};
-ghost use Rattle.adp_model.specs.Tokens.{letters_between};
+ghost use Rattle.adp_model.specs.Parts.{alternatives_of, arguments_of, algebra_of, term_of};
 
 use adp_model::{Algebra, Alt, Arg, Goal, Linear, Problem};
-
-/// The letters of a class, each with its weight.
-pub fn class_letters<'a>(problem: &'a Problem, class: u32) -> &'a [(u8, i64)]
-    requires { class < length problem.now.grammar.classes }
-    ensures { result.now ≡ letters_of problem.now.grammar class }
-{
-    problem.grammar.classes.as_slice()[class as usize]
-        .letters
-        .as_slice()
-}
 
 /// The alternatives of a rule.
 pub fn alternatives<'a>(problem: &'a Problem, rule: u32) -> &'a [Alt]
@@ -59,12 +47,4 @@ pub fn term<'a>(problem: &'a Problem, rule: u32, alternative: u8) -> &'a Linear
     problem.admissible();
     let sign = alternatives(problem, rule)[alternative as usize].sign;
     &algebra(problem).terms.as_slice()[sign as usize]
-}
-
-/// The letters of a span of the word.
-pub fn letters<'a>(problem: &'a Problem, from: u16, to: u16) -> &'a [u8]
-    requires { IsSpan problem.now.word from to }
-    ensures { result.now ≡ letters_between problem.now.word from to }
-{
-    &problem.word.bytes()[from as usize..to as usize]
 }

@@ -2,18 +2,20 @@ ghost use Rattle.std.specs.Prelude.{◌≡◌, ◌↔◌, IfSome, IsSome, length
 ghost use Rattle.adp_model.specs.declared.cell.Cell.{Cell};
 ghost use Rattle.adp_model.specs.Answers.{IsAnswer};
 ghost use Rattle.adp_model.specs.Demand.{IsDemanded, IsDemandedCount};
-ghost use Rattle.seq_reference.specs.Known.{Knows};
+ghost use Rattle.split_lines.specs.Entries.{HasEntry, IsMarked};
 
 use crate::answering::cell_answer;
-use crate::known_scores::KnownScores;
-use adp_model::{Answer, Answers, Cell, Problem};
+use adp_model::laws::demand::demanded_cells_are_counted;
+use adp_model::{Answer, Answers, Cell};
+use split_lines::{Lines, Table};
 use std::marker::Model;
 
 /// The answers of a problem's demanded cells. Contracts see it as the problem.
 #[derive(Drop)]
 pub struct Solved<'a> {
-    problem: &'a Problem<'a>,
-    scores: KnownScores<'a>,
+    lines: Lines<'a>,
+    marks: Table<'a, bool>,
+    scores: Table<'a, i64>,
     cells: u64,
 }
 
@@ -24,21 +26,28 @@ impl<'a> Model for Solved<'a> {
 
     ghost use Rattle.seq_reference.specs.SolvedFields.{AreSolved};
 
-    ghost view = { λ solved. solved.problem.now };
+    ghost view = { λ solved. solved.lines };
 
     ghost invariant = { AreSolved };
 }
 
 impl<'a> Solved<'a> {
-    /// The solution with these scores of the demanded cells, and their number.
-    pub(crate) fn new(problem: &'a Problem<'a>, scores: KnownScores<'a>, cells: u64) -> Solved<'a>
-        requires same_problem { scores.problem ≡ problem.now }
-        requires known { (cell : Cell) → Knows scores cell ↔ IsDemanded problem.now cell }
-        requires counted { IsDemandedCount problem.now cells }
-        ensures { result ≡ problem.now }
+    /// The solution with these marks and scores of the demanded cells, and their number.
+    pub(crate) fn new(
+        lines: Lines<'a>,
+        marks: Table<'a, bool>,
+        scores: Table<'a, i64>,
+        cells: u64,
+    ) -> Solved<'a>
+        requires same_problem { scores.problem ≡ lines }
+        requires marked { (cell : Cell) → IsMarked marks cell ↔ IsDemanded lines cell }
+        requires scored { (cell : Cell) → IsDemanded lines cell → HasEntry scores cell }
+        requires counted { IsDemandedCount lines cells }
+        ensures { result ≡ lines.entry }
     {
         Solved {
-            problem,
+            lines,
+            marks,
             scores,
             cells,
         }
@@ -61,8 +70,11 @@ impl<'a> Answers for Solved<'a> {
         ensures demanded { IsDemanded self.now cell → IsSome result }
         ensures only { IsSome result → IsDemanded self.now cell }
     {
-        if self.scores.knows(cell) {
-            Some(cell_answer(self.problem, &self.scores, cell))
+        let problem = self.lines.problem();
+        problem.admissible();
+        demanded_cells_are_counted();
+        if self.marks.is_marked(cell) {
+            Some(cell_answer(problem, &self.lines, &self.scores, cell))
         } else {
             None
         }

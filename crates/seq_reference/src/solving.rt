@@ -1,19 +1,20 @@
 ghost use Rattle.std.specs.Prelude.{◌≡◌, IfOk};
 
-use crate::demand::demanded_cells;
+use crate::demand::demanded_marks;
 use crate::filling::filled_scores;
-use crate::order::sort_by_height;
 use crate::solved::Solved;
 use adp_model::Problem;
+use split_lines::Lines;
 use std::alloc::{AllocError, Global};
 
-/// The answers of the problem's demanded cells. Fails for want of memory alone. Its time is in proportion to the viable
-/// splits of these cells, but for sorting them by length and rank.
+/// The answers of the problem's demanded cells. Fails for want of memory alone. Its time is in proportion to the
+/// counted cells, times rules, and to the places of the demanded cells' lines.
 pub fn solve<'a>(alloc: Global, problem: &'a Problem<'a>) -> Result<Solved<'a>, AllocError>
     ensures { IfOk result (λ solved. solved ≡ problem.now) }
 {
-    let mut cells = demanded_cells(alloc, problem)?;
-    sort_by_height(problem, &mut cells);
-    let scores = filled_scores(alloc, problem, &cells)?;
-    Ok(Solved::new(problem, scores, cells.len() as u64))
+    let lines = Lines::new(alloc, problem)?;
+    let marks = demanded_marks(alloc, &lines)?;
+    let scores = filled_scores(alloc, &lines, &marks)?;
+    let cells = marks.count();
+    Ok(Solved::new(lines, marks, scores, cells))
 }

@@ -109,7 +109,8 @@ fn push_children(
     choice: Choice,
 ) -> Result<(), AllocError>
     requires { choice.alt < length (alternatives_of problem.now.grammar cell.rule) }
-    ensures { OnOk result (open.new.items ≡ open.old.items ++ stacked (placed problem.now cell choice.alt choice.cuts)) }
+    ensures { OnOk result (open.new.items ≡ open.old.items
+        ++ stacked (placed problem.now cell choice.alt choice.cuts)) }
 {
     let [first, second, third] = choice.cuts;
     let ends = [first, second, third, cell.to];
@@ -142,7 +143,8 @@ fn push_cells(
 
 // Puts the argument's cell on the stack, where it is a rule.
 fn push_cell(open: &mut Vec<Cell>, argument: &Arg, from: u16, to: u16) -> Result<(), AllocError>
-    ensures { OnOk result (open.new.items ≡ open.old.items ++ cell_of (record { argument = argument.now; from = from; to = to })) }
+    ensures { OnOk result (open.new.items ≡ open.old.items
+        ++ cell_of (record { argument = argument.now; from = from; to = to })) }
 {
     if let Arg::Rule(rule) = argument {
         let rule = *rule;

@@ -32,8 +32,8 @@ pub record AreLengths (p : PosedProblem) (arguments : List Arg) (most least grea
   pub least_kept : least ≤ length arguments * (most + 1)
   pub greatest_kept : greatest ≤ length arguments * most
 
--- the argument may end at each place of the range, and the range has each place where it may end and the others may have
--- the letters from there to the last
+-- the argument may end at each place of the range, and the range has each place where it may end and the others may
+-- have the letters from there to the last
 pub record ArePlaces (p : PosedProblem) (argument : Arg) (later : List Arg) (from last : ℕ) (places : Range ℕ)
     : Type 0 where
   pub fit : (to : ℕ) → places.start ≤ to → to < places.end → FitsSpan p (on_span argument from to)

@@ -21,7 +21,8 @@ pub fn rules_have_one_bound()
         → IsChecked grammar algebra least greatest ranks → (bound : ℕ → ℕ → ℕ) × AreScoreBounds grammar algebra bound }
     ensures one_score { (grammar : Grammar) (algebra : ℕ) (least : List ℕ) (greatest : List (Option ℕ)) (ranks : List ℕ)
         → IsChecked grammar algebra least greatest ranks → (bound other : ℕ → ℕ → ℕ)
-        → AreScoreBounds grammar algebra bound → AreScoreBounds grammar algebra other → (rule len : ℕ) → bound rule len ≡ other rule len }
+        → AreScoreBounds grammar algebra bound → AreScoreBounds grammar algebra other → (rule len : ℕ)
+        → bound rule len ≡ other rule len }
     ensures nodes { (grammar : Grammar) (algebra : ℕ) (least : List ℕ) (greatest : List (Option ℕ)) (ranks : List ℕ)
         → IsChecked grammar algebra least greatest ranks → (nodes : ℕ → ℕ → ℕ) × AreNodeBounds grammar nodes }
     ensures one_node { (grammar : Grammar) (algebra : ℕ) (least : List ℕ) (greatest : List (Option ℕ)) (ranks : List ℕ)

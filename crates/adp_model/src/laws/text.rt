@@ -39,5 +39,6 @@ pub fn dots_are_tokens()
 
 /// A text that begins with the spelling of quoted letters has these letters as its first token.
 pub fn quoted_texts_are_tokens()
-    ensures { (letters text : List ℕ) → tokens_of (quoted letters ++ text) ≡ before_tokens (Quoted letters) (tokens_of text) }
+    ensures { (letters text : List ℕ)
+        → tokens_of (quoted letters ++ text) ≡ before_tokens (Quoted letters) (tokens_of text) }
 {}

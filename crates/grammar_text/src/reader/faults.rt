@@ -69,7 +69,8 @@ pub(crate) fn own_words(
     }
 }
 
-/// The tests of the declaration at this place, whose words are names and numbers, that look at its letters and at other lines.
+/// The tests of the declaration at this place, whose words are names and numbers, that look at its letters and at other
+/// lines.
 pub(crate) fn form_tests(
     alloc: Global,
     names: &Names<'_>,

@@ -7,8 +7,8 @@ ghost use Rattle.grammar_text.specs.LineKinds.{AreLineTests};
 
 use adp_model::TextFault;
 
-/// What stands wrong at a line, by the numbers of the kinds. Where a name is wrong, what follows it says nothing, and so
-/// where a number is.
+/// What stands wrong at a line, by the numbers of the kinds. Where a name is wrong, what follows it says nothing, and
+/// so where a number is.
 #[derive(Clone, Copy, Debug, PartialEq, Eq)]
 pub(crate) struct LineTests {
     pub(crate) other_first_line: bool,

@@ -132,7 +132,8 @@ pub(crate) fn tests_alone(text: &Gathered<'_>, index: usize) -> LineTests
     requires inside { index ≤ length text.now.lines.items }
     requires few { length text.now.lines.items ≤ 2 ^ 31 }
     requires says { says_in text.now.header.sorts.items ≡ length text.now.header.declared.items }
-    ensures { AreTestsAlone (text_seen text.now) (map declaration_seen text.now.header.declared.items) (index + 1) result }
+    ensures { AreTestsAlone (text_seen text.now) (map declaration_seen text.now.header.declared.items)
+        (index + 1) result }
 {
     let ends_header = is_words_line(text, index);
     LineTests {

@@ -63,7 +63,8 @@ fn push_let(out: &mut Vec<u8>, sign: &Sign, term: &Linear) -> Result<(), AllocEr
 
 /// A variable for each kind: `x1, x2` and so on.
 fn push_variables(out: &mut Vec<u8>, kinds: &[Kind]) -> Result<(), AllocError>
-    ensures { OnOk result (out.new.items ≡ out.old.items ++ separated (λ name. name) (codes ", ") (variables 1 kinds.now)) }
+    ensures { OnOk result (out.new.items ≡ out.old.items
+        ++ separated (λ name. name) (codes ", ") (variables 1 kinds.now)) }
 {
     for index in 0..kinds.len() {
         let before = if index == 0 { "x" } else { ", x" };

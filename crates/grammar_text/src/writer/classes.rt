@@ -42,7 +42,8 @@ fn push_runs(out: &mut Vec<u8>, letters: &[(u8, i64)]) -> Result<(), AllocError>
 /// How many letters from the front on have the weight of the first.
 fn run_length(letters: &[(u8, i64)]) -> usize
     requires { 0 < length letters.now }
-    ensures { let weight = (slice_index_or letters.now 0 (0, pos 0)).1 in result ≡ prefix_len (λ entry. int_eq entry.1 weight) letters.now }
+    ensures { let weight = (slice_index_or letters.now 0 (0, pos 0)).1
+        in result ≡ prefix_len (λ entry. int_eq entry.1 weight) letters.now }
 {
     let weight = letters[0].1;
     letters.iter().take_while(|entry| entry.1 == weight).count()
@@ -51,7 +52,8 @@ fn run_length(letters: &[(u8, i64)]) -> usize
 /// ` "ab" 5`: the letters of a run, and the weight that they share.
 fn push_run(out: &mut Vec<u8>, run: &[(u8, i64)]) -> Result<(), AllocError>
     requires { 0 < length run.now }
-    ensures { OnOk result (out.new.items ≡ out.old.items ++ run_text (map (λ entry. entry.0) run.now, (slice_index_or run.now 0 (0, pos 0)).1)) }
+    ensures { OnOk result (out.new.items ≡ out.old.items
+        ++ run_text (map (λ entry. entry.0) run.now, (slice_index_or run.now 0 (0, pos 0)).1)) }
 {
     out.extend_from_slice(b" \"")?;
     for (letter, _) in run {

@@ -20,7 +20,8 @@ pub(crate) fn push_rules(out: &mut Vec<u8>, grammar: &Grammar) -> Result<(), All
 }
 
 pub(crate) fn push_axiom(out: &mut Vec<u8>, grammar: &Grammar) -> Result<(), AllocError>
-    ensures { OnOk result (out.new.items ≡ out.old.items ++ line (codes "grammar " ++ rule_name grammar.now grammar.now.axiom)) }
+    ensures { OnOk result (out.new.items ≡ out.old.items
+        ++ line (codes "grammar " ++ rule_name grammar.now grammar.now.axiom)) }
 {
     out.extend_from_slice(b"grammar ")?;
     out.extend_from_slice(rule_name(grammar, grammar.axiom))?;
@@ -42,7 +43,8 @@ fn push_alternatives(
     grammar: &Grammar,
     alternatives: &[Alt],
 ) -> Result<(), AllocError>
-    ensures { OnOk result (out.new.items ≡ out.old.items ++ separated (alternative_text grammar.now) (codes " | ") alternatives.now) }
+    ensures { OnOk result (out.new.items ≡ out.old.items
+        ++ separated (alternative_text grammar.now) (codes " | ") alternatives.now) }
 {
     if let Some((first, others)) = alternatives.split_first() {
         push_alternative(out, grammar, first)?;
@@ -68,7 +70,8 @@ fn push_alternative(
 }
 
 fn push_arguments(out: &mut Vec<u8>, grammar: &Grammar, arguments: &[Arg]) -> Result<(), AllocError>
-    ensures { OnOk result (out.new.items ≡ out.old.items ++ separated (argument_text grammar.now) (codes ", ") arguments.now) }
+    ensures { OnOk result (out.new.items ≡ out.old.items
+        ++ separated (argument_text grammar.now) (codes ", ") arguments.now) }
 {
     if let Some((first, others)) = arguments.split_first() {
         push_argument(out, grammar, first)?;
@@ -101,7 +104,8 @@ fn push_argument(out: &mut Vec<u8>, grammar: &Grammar, argument: &Arg) -> Result
 
 /// ` LOW..HIGH]`, or ` LOW..]` where there is no upper bound.
 fn push_bounds(out: &mut Vec<u8>, low: u32, high: Option<u32>) -> Result<(), AllocError>
-    ensures { OnOk result (out.new.items ≡ out.old.items ++ (codes " " ++ decimal low ++ codes ".." ++ high_text high ++ codes "]")) }
+    ensures { OnOk result (out.new.items ≡ out.old.items
+        ++ (codes " " ++ decimal low ++ codes ".." ++ high_text high ++ codes "]")) }
 {
     out.extend_from_slice(b" ")?;
     push_decimal(out, u64::from(low))?;

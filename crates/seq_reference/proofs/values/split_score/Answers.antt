@@ -1,4 +1,4 @@
-use Rattle.std.proofs.Common.{◌≡◌, ◌<◌, ◌≤◌, ℕ, ℤ, Option, List, length, take, get_or, nat_abs, map, FitsSigned, w64, rules, sym, ap, subst, ◌∙◌, arith}
+use Rattle.std.proofs.Common.{◌≡◌, ◌+◌, ◌<◌, ◌≤◌, ℕ, ℤ, Option, List, length, take, get_or, nat_abs, map, FitsSigned, w64, rules, sym, ap, subst, ◌∙◌, arith}
 use Rattle.std.specs.List.{Contains}
 use Rattle.std.proofs.lemmas.Int.{to_z-of_z}
 use Rattle.std.proofs.lemmas.List.{length-set, length-take-le}
@@ -7,7 +7,7 @@ use Rattle.adp_model.specs.declared.grammar.Linear.{Linear}
 use Rattle.adp_model.specs.Parts.{arguments_of, term_of}
 use Rattle.adp_model.specs.Terms.{term_value, magnitude}
 use Rattle.adp_model.specs.Bellman.{HasBestScore}
-use Rattle.adp_model.specs.FirstSplit.{AreArgumentValues, IsScoredSplit}
+use Rattle.adp_model.specs.FirstSplit.{IsValue, AreArgumentValues, IsScoredSplit}
 use Rattle.adp_model.specs.declared.cell.Cell.{Cell}
 use Rattle.adp_model.specs.declared.cell.Choice.{Choice}
 use Rattle.adp_model.specs.PosedProblem.{PosedProblem, IsSpan}
@@ -16,12 +16,14 @@ use Rattle.adp_model.specs.Derivation.{Derives}
 use Rattle.adp_model.specs.Scores.{root_magnitude}
 use Rattle.adp_model.specs.Checks.{IsChecked}
 use Rattle.adp_model.specs.Bounds.{IsScoreBound}
-use Rattle.adp_model.specs.ProblemFields.{IsAdmissible, most_letters}
-use Rattle.adp_model.specs.Splits.{placed, IsViable}
-use Rattle.seq_reference.specs.Known.{Knows}
+use Rattle.adp_model.specs.ProblemFields.{IsAdmissible, most_letters, greatest_score}
+use Rattle.adp_model.specs.Splits.{placed, FitsSpan, IsViable}
+use Rattle.adp_model.specs.Tokens.{letters_between, token_value}
+use Rattle.split_lines.specs.Entries.{HasEntry}
 use Rattle.seq_reference.proofs.Formed.{Fits, fits}
 use Rattle.seq_reference.proofs.Rooted.{split_magnitude}
-use Rattle.seq_reference.proofs.Spans.{at_rule, fits_at, child_at, values_more, unscored_at, values_all, bound_low}
+use Rattle.seq_reference.proofs.Placing.{on_span}
+use Rattle.seq_reference.proofs.Spans.{bounds_of, at_rule, fits_at, child_at, values_more, unscored_at, values_all, value_low}
 use Rattle.seq_reference.proofs.values.split_score.Goals as goal
 use Rattle.seq_reference.proofs.values.split_score.Goals.{After-arguments-arguments, After-index-arguments-i}
 
@@ -41,28 +43,35 @@ pub argument_value-requires-clause-fits : goal.argument_value-requires-clause-fi
 argument_value-requires-clause-fits c =
     let at = (goal.at.argument_value-requires-clause-fits c).After-index-arguments-i in
     let few = (parts (goal.at.argument_value-requires-clause-fits c).After-arguments-arguments).few in
-    fits_at c.args.problem.now c.args.cell c.args.choice c.requires.split few c.loop-i.i c.index-arguments-i.result (here at) (read at)
+    let bounds = bounds_of c.args.cell c.args.choice in
+    let F : PosedProblem → Type 0 = λ p. FitsSpan p (on_span c.index-arguments-i.result (get_or bounds c.loop-i.i 0) (get_or bounds (c.loop-i.i + 1) 0)) in
+    subst F (sym c.requires.lines) (fits_at c.args.problem.now c.args.cell c.args.choice c.requires.split few c.loop-i.i c.index-arguments-i.result (here at) (read at))
 
 pub argument_value-requires-clause-low : goal.argument_value-requires-clause-low
 argument_value-requires-clause-low c =
     let at = (goal.at.argument_value-requires-clause-low c).After-index-arguments-i in
     let few = (parts (goal.at.argument_value-requires-clause-low c).After-arguments-arguments).few in
-    let fitting = fits_at c.args.problem.now c.args.cell c.args.choice c.requires.split few c.loop-i.i c.index-arguments-i.result (here at) (read at) in
-    let stands : Contains (arguments_of c.args.problem.now.grammar c.args.cell.rule c.args.choice.alt) c.index-arguments-i.result = (c.loop-i.i, here at, sym (read at)) in
-    bound_low c.args.problem.now c.admissible.ensures c.args.cell.rule c.args.choice.alt c.index-arguments-i.result _ _ stands fitting
-
-pub argument_value-requires-clause-scored : goal.argument_value-requires-clause-scored
-argument_value-requires-clause-scored c =
-    let at = (goal.at.argument_value-requires-clause-scored c).After-index-arguments-i in
-    let few = (parts (goal.at.argument_value-requires-clause-scored c).After-arguments-arguments).few in
-    at_rule (Knows c.args.scores.now) c.index-arguments-i.result _ _ (λ rule e. c.requires.scored _ (child_at c.args.problem.now c.args.cell c.args.choice c.requires.split few c.loop-i.i c.index-arguments-i.result (here at) (read at) rule e))
+    let bounds = bounds_of c.args.cell c.args.choice in
+    let argument = c.index-arguments-i.result in
+    let from = get_or bounds c.loop-i.i 0 in
+    let to = get_or bounds (c.loop-i.i + 1) 0 in
+    let fitting = fits_at c.args.problem.now c.args.cell c.args.choice c.requires.split few c.loop-i.i argument (here at) (read at) in
+    let stands : Contains (arguments_of c.args.problem.now.grammar c.args.cell.rule c.args.choice.alt) argument = (c.loop-i.i, here at, sym (read at)) in
+    let L : PosedProblem → Type 0 = λ p. nat_abs (token_value p.grammar argument (letters_between p.word from to)) ≤ greatest_score in
+    subst L (sym c.requires.lines) (value_low c.args.problem.now c.admissible.ensures (c.words_keep_their_score_bound.ensures.token c.args.problem.now) c.args.cell.rule c.args.choice.alt argument from to stands fitting)
 
 pub returns-in_err-values : goal.returns-in_err-values
 returns-in_err-values c =
     let at = (goal.at.returns-in_err-values c).After-index-arguments-i in
     let few = (parts (goal.at.returns-in_err-values c).After-arguments-arguments).few in
     let p = c.args.problem.now in
-    let none = unscored_at p c.args.cell c.args.choice c.requires.split few (HasBestScore p) c.loop-i.i c.index-arguments-i.result (here at) (read at) c.in_err-values.ensures in
+    let bounds = bounds_of c.args.cell c.args.choice in
+    let argument = c.index-arguments-i.result in
+    let from = get_or bounds c.loop-i.i 0 in
+    let to = get_or bounds (c.loop-i.i + 1) 0 in
+    let there = at_rule (HasEntry c.args.scores.now) argument from to (λ rule e. c.requires.scored _ (child_at p c.args.cell c.args.choice c.requires.split few c.loop-i.i argument (here at) (read at) rule e)) in
+    let N : PosedProblem → Type 0 = λ q. (value : ℤ) → IsValue q (HasBestScore q) (on_span argument from to) value → ⊥ in
+    let none = unscored_at p c.args.cell c.args.choice c.requires.split few (HasBestScore p) c.loop-i.i argument (here at) (read at) (subst N c.requires.lines (c.in_err-values.ensures there)) in
     rw c.from_residual.ensures none
 
 pub loop-i-preserved : goal.loop-i-preserved
@@ -70,11 +79,17 @@ loop-i-preserved c =
     let at = (goal.at.loop-i-preserved c).After-index-arguments-i in
     let few = (parts (goal.at.loop-i-preserved c).After-arguments-arguments).few in
     let p = c.args.problem.now in
+    let bounds = bounds_of c.args.cell c.args.choice in
+    let argument = c.index-arguments-i.result in
+    let from = get_or bounds c.loop-i.i 0 in
+    let to = get_or bounds (c.loop-i.i + 1) 0 in
+    let there = at_rule (HasEntry c.args.scores.now) argument from to (λ rule e. c.requires.scored _ (child_at p c.args.cell c.args.choice c.requires.split few c.loop-i.i argument (here at) (read at) rule e)) in
     let fits : FitsSigned w64 c.in_ok-values.field-0 = search rules in
     let room : c.loop-i.i < length c.loop-i.values = omega (arith, here at, few, c.loop-i.invariant.four) in
+    let V : PosedProblem → Type 0 = λ q. IsValue q (HasBestScore q) (on_span argument from to) c.in_ok-values.field-0 in
     record {
       four = simp length-set c.loop-i.invariant.four;
-      are = simp to_z-of_z (values_more p c.args.cell c.args.choice c.requires.split few (HasBestScore p) c.loop-i.i c.index-arguments-i.result c.loop-i.values c.in_ok-values.field-0 (here at) (read at) room c.loop-i.invariant.are c.in_ok-values.ensures);
+      are = simp to_z-of_z (values_more p c.args.cell c.args.choice c.requires.split few (HasBestScore p) c.loop-i.i argument c.loop-i.values c.in_ok-values.field-0 (here at) (read at) room c.loop-i.invariant.are (subst V c.requires.lines (c.in_ok-values.ensures there)));
     }
 
 -- what is known behind the loop

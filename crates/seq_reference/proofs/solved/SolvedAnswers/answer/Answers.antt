@@ -1,7 +1,18 @@
-use Rattle.adp_model.specs.Demand.{Child}
+use Rattle.std.proofs.Common.{sym, subst, ◌∙◌}
+use Rattle.adp_model.specs.declared.cell.Cell.{Cell}
+use Rattle.adp_model.specs.PosedProblem.{PosedProblem}
+use Rattle.adp_model.specs.Demand.{Child, IsDemanded, IsDemandedChild}
+use Rattle.split_lines.specs.Entries.{HasEntry}
 use Rattle.seq_reference.proofs.solved.SolvedAnswers.answer.Goals as goal
 
 pub cell_answer-requires-clause-scored : goal.cell_answer-requires-clause-scored
-cell_answer-requires-clause-scored c = λ child is_child.
-    let demanded = (c.self.invariant.known c.args.cell).0 (c.knows.ensures.0 c.if-knows.true) in
-    (c.self.invariant.known child).1 (Child c.args.cell child demanded is_child)
+cell_answer-requires-clause-scored c =
+    let S : PosedProblem → Type 0 = λ p. (child : Cell) → IsDemandedChild p c.args.cell child → HasEntry c.self.inside.scores child in
+    let demanded = (c.self.invariant.marked c.args.cell).0 (c.is_marked.ensures.0 c.if-is_marked.true) in
+    subst S (sym c.problem-problem.ensures) (λ child is. c.self.invariant.scored child (Child c.args.cell child demanded is))
+
+pub returns-else-is_marked-clause-demanded : goal.returns-else-is_marked-clause-demanded
+returns-else-is_marked-clause-demanded c = λ demanded.
+    let D : PosedProblem → Type 0 = λ p. IsDemanded p c.args.cell in
+    let marked = (c.self.invariant.marked c.args.cell).1 (subst D (sym c.self.view_is) demanded) in
+    sym c.if-is_marked.false ∙ c.is_marked.ensures.1 marked

@@ -1,0 +1,100 @@
+use Rattle.std.proofs.Common.{◌+◌, get_or, refl, sym, subst, ℤ, arith}
+use Rattle.std.specs.Prelude.{MatchOption}
+use Rattle.adp_model.specs.declared.cell.Answer.TheVariants.{NoCandidate}
+use Rattle.adp_model.specs.declared.cell.Cell.{Cell}
+use Rattle.adp_model.specs.PosedProblem.{PosedProblem}
+use Rattle.adp_model.specs.Answers.{IsAnswer}
+use Rattle.adp_model.specs.Bellman.{HasBestScore}
+use Rattle.adp_model.specs.Demand.{IsDemandedChild, IsBelow, IsDemanded, Child}
+use Rattle.split_lines.specs.Entries.{Table}
+use Rattle.seq_reference.specs.Filling.{AreFilled, IsFilledBefore, IsFilledBeforeRule}
+use Rattle.seq_reference.proofs.Sweeps.{Counted, visited}
+use Rattle.seq_reference.proofs.Fills.{filled_fewer, filled_past, filled_kept, fill_cases, child_before, none_filled, all_filled}
+use Rattle.seq_reference.proofs.filling.fill_span.Goals as goal
+use Rattle.seq_reference.proofs.filling.fill_span.Goals.{After-demanded_children_are_below, then-is_marked, else-is_marked}
+
+counted : (c : After-demanded_children_are_below) → (cell : Cell) → IsDemanded c.args.lines.now cell → Counted c.args.lines.now cell
+counted c =
+    let q = c.problem.result.now in
+    let D : PosedProblem → Type 0 = λ p. (cell : Cell) → IsDemanded p cell → Counted p cell in
+    subst D c.problem.ensures (c.demanded_cells_are_counted.ensures q c.admissible.ensures.checked.well_formed)
+
+below : (c : After-demanded_children_are_below) → (cell child : Cell) → IsDemandedChild c.args.lines.now cell child → IsBelow c.admissible.ensures.ranks child cell
+below c =
+    let q = c.problem.result.now in
+    let it = c.admissible.ensures in
+    let B : PosedProblem → Type 0 = λ p. (cell child : Cell) → IsDemandedChild p cell child → IsBelow it.ranks child cell in
+    subst B c.problem.ensures (c.demanded_children_are_below.ensures q it.least it.greatest it.ranks it.checked)
+
+pub loop-rule-init : goal.loop-rule-init
+loop-rule-init c =
+    let p = c.args.lines.now in
+    let before = (goal.at.loop-rule-init c).After-demanded_children_are_below in
+    filled_fewer p (counted before) c.args.scores.now (IsFilledBefore c.args.from c.args.to) (IsFilledBeforeRule c.args.rules.now c.args.from c.args.to 0)
+    (λ cell _. none_filled p c.args.rules.now c.args.from c.args.to cell) c.requires.filled
+
+pub cell_score-score-requires-clause-rule : goal.cell_score-score-requires-clause-rule
+cell_score-score-requires-clause-rule c =
+    let before = (goal.at.cell_score-score-requires-clause-rule c).After-demanded_children_are_below in
+    let cell = visited c.args.lines.now c.args.rules.now c.args.from c.args.to (get_or c.args.rules.now c.loop-rule.rule-index 0) in
+    (counted before cell ((c.requires.marked cell).0 (c.if-is_marked.ensures.0 refl))).rule
+
+pub cell_score-score-requires-clause-in_word : goal.cell_score-score-requires-clause-in_word
+cell_score-score-requires-clause-in_word c =
+    let before = (goal.at.cell_score-score-requires-clause-in_word c).After-demanded_children_are_below in
+    let cell = visited c.args.lines.now c.args.rules.now c.args.from c.args.to (get_or c.args.rules.now c.loop-rule.rule-index 0) in
+    let is = counted before cell ((c.requires.marked cell).0 (c.if-is_marked.ensures.0 refl)) in
+    record { in_order = is.in_order; in_word = is.in_word }
+
+pub cell_score-score-requires-clause-scored : goal.cell_score-score-requires-clause-scored
+cell_score-score-requires-clause-scored c = λ child is.
+    let p = c.args.lines.now in
+    let rules = c.args.rules.now in
+    let number = c.loop-rule.rule-index in
+    let before = (goal.at.cell_score-score-requires-clause-scored c).After-demanded_children_are_below in
+    let cell = visited c.args.lines.now c.args.rules.now c.args.from c.args.to (get_or c.args.rules.now c.loop-rule.rule-index 0) in
+    let demanded = Child cell child ((c.requires.marked cell).0 (c.if-is_marked.ensures.0 refl)) is in
+    c.loop-rule.invariant.entries child demanded
+    (child_before p rules c.args.from c.args.to number (get_or rules number 0) refl c.loop-rule-test.true c.requires.ranked c.admissible.ensures.ranks (below before) child (counted before child demanded) is)
+
+pub keep-requires-clause-counted : goal.keep-requires-clause-counted
+keep-requires-clause-counted c =
+    let before = (goal.at.keep-requires-clause-counted c).After-demanded_children_are_below in
+    let cell = visited c.args.lines.now c.args.rules.now c.args.from c.args.to (get_or c.args.rules.now c.loop-rule.rule-index 0) in
+    let C : PosedProblem → Type 0 = λ q. Counted q cell in
+    subst C (sym c.loop-rule.invariant.problem) (counted before cell ((c.requires.marked cell).0 (c.if-is_marked.ensures.0 refl)))
+
+pub keep-requires-clause-right : goal.keep-requires-clause-right
+keep-requires-clause-right c =
+    let cell = visited c.args.lines.now c.args.rules.now c.args.from c.args.to (get_or c.args.rules.now c.loop-rule.rule-index 0) in
+    let R : PosedProblem → Type 0 = λ q. MatchOption c.cell_score-score.result (IsAnswer q cell NoCandidate) (HasBestScore q cell) in
+    subst R (sym c.loop-rule.invariant.problem) c.cell_score-score.ensures
+
+pub loop-rule-preserved : goal.loop-rule-preserved
+loop-rule-preserved c =
+    let p = c.args.lines.now in
+    let rules = c.args.rules.now in
+    let from = c.args.from in
+    let to = c.args.to in
+    let number = c.loop-rule.rule-index in
+    let before = (goal.at.loop-rule-preserved c).After-demanded_children_are_below in
+    let rule = get_or rules number 0 in
+    let cell = visited p rules from to rule in
+    let F : Table ℤ → Type 0 = λ scores. AreFilled p scores (IsFilledBeforeRule rules from to (number + 1)) in
+    elim c.if-is_marked.branch [
+      | then-is_marked w ↦
+          subst F (sym w.scores-is)
+          (filled_kept p (counted before) cell c.loop-rule.scores w.keep.new.self (IsFilledBeforeRule rules from to number) (IsFilledBeforeRule rules from to (number + 1))
+          c.loop-rule.invariant w.keep.ensures.problem w.keep.ensures.kept w.keep.ensures.others (fill_cases p rules from to number rule refl))
+      | else-is_marked w ↦
+          subst F (sym w.scores-is)
+          (filled_past p (counted before) cell c.loop-rule.scores (IsFilledBeforeRule rules from to number) (IsFilledBeforeRule rules from to (number + 1))
+          c.loop-rule.invariant (λ demanded. let yes = c.is_marked.ensures.1 ((c.requires.marked cell).1 demanded) in let no = w.if-is_marked.false in absurd cc) (fill_cases p rules from to number rule refl))
+    ]
+
+pub returns : goal.returns
+returns c =
+    let p = c.args.lines.now in
+    let before = (goal.at.returns c).After-demanded_children_are_below in
+    filled_fewer p (counted before) c.loop-rule.scores (IsFilledBeforeRule c.args.rules.now c.args.from c.args.to c.loop-rule.rule-index) (IsFilledBefore c.args.from (c.args.to + 1))
+    (all_filled p c.args.rules.now c.args.from c.args.to c.requires.ranked c.loop-rule.rule-index (omega (arith, c.loop-rule-test.false))) c.loop-rule.invariant

@@ -1,0 +1,26 @@
+-- Lists of arguments and their first one; what arguments cover.
+use Rattle.std.proofs.Common.{◌≡◌, ℕ, suc, ◌-◌, ◌<◌, ◌≤◌, List, [], ◌∷◌, length, take, drop, get_or, sym, ap, ◌∙◌, arith}
+use Rattle.std.proofs.lemmas.List.{take_all}
+use Rattle.adp_model.specs.declared.grammar.Arg.{Arg}
+use Rattle.adp_model.specs.PosedProblem.{PosedProblem}
+use Rattle.yield_sizes.specs.Placing.{Cover}
+
+-- a list that has an item is that item and the rest, as a slice is taken
+pub split_at_first : {X : Type 0} (all : List X) (first : X) → 0 < length all → first ≡ get_or all 0 first → all ≡ first ∷ take (length all - 1) (drop 1 all)
+split_at_first [] first l is = absurd (omega arith)
+split_at_first (one ∷ rest) first l is =
+    let fewer : suc (length rest) - 1 ≡ length rest = omega arith in
+    ap (λ x. x ∷ rest) (sym is) ∙ ap (λ xs. first ∷ xs) (sym (take_all (suc (length rest) - 1) rest (omega arith)))
+
+pub rest_of : {X : Type 0} (all : List X) (first : X) (later : List X) → all ≡ first ∷ later → take (length all - 1) (drop 1 all) ≡ later
+rest_of all first later e =
+    let fewer : suc (length later) - 1 ≡ length later = omega arith in
+    ap (λ xs. take (length xs - 1) (drop 1 xs)) e ∙ take_all (suc (length later) - 1) later (omega arith)
+
+-- what arguments cover goes forward
+pub cover_forward : (p : PosedProblem) (arguments : List Arg) (from to : ℕ) → Cover p arguments from to → from ≤ to
+cover_forward p [] from to h = omega arith
+cover_forward p (argument ∷ arguments) from to h =
+    let first = h.1.0.in_order in
+    let others = cover_forward p arguments h.0 to h.2 in
+    omega arith

@@ -1,0 +1,11 @@
+use Rattle.std.proofs.Common.{◌≡◌, ℕ, ◌+◌, ◌≤◌, pos, get_or, length}
+use Rattle.split_lines.proofs.ClassFacts.{IsSumOf}
+use Rattle.split_lines.proofs.classes.sums.Given as goal
+
+-- the sums so far
+abbrev pub invariant-loop-letter : goal.invariant-loop-letter
+invariant-loop-letter l = record {
+  each : length l.sums.items ≡ l.letter-index + 1;
+  now : IsSumOf l.class l.word l.letter-index l.sum;
+  told : (place : ℕ) → place ≤ l.letter-index → IsSumOf l.class l.word place (get_or l.sums.items place (pos 0));
+}

@@ -1,0 +1,131 @@
+use Rattle.std.proofs.Common.{◌≡◌, ◌↔◌, ℕ, ◌+◌, ◌-◌, ◌<◌, Bool, IsTrue, List, ◌∷◌, length, take, drop, refl, sym, ap, subst, inl, inr, ◌∙◌, arith, rules}
+use Rattle.std.specs.Prelude.{IfSome}
+use Rattle.std.specs.List.{AllByRecursion}
+use Rattle.adp_model.specs.declared.grammar.Arg.{Arg}
+use Rattle.adp_model.specs.declared.cell.Cell.{Cell}
+use Rattle.adp_model.specs.PosedProblem.{PosedProblem}
+use Rattle.adp_model.specs.Cells.{IsCounted}
+use Rattle.adp_model.specs.WellFormed.{IsKnown}
+use Rattle.yield_sizes.specs.Placing.{Cover}
+use Rattle.split_lines.specs.Laid.{Demands}
+use Rattle.split_lines.specs.Lines.{IsLine}
+use Rattle.split_lines.specs.Entries.{Table, AreMarkedToo}
+use Rattle.split_lines.proofs.Lists.{split_at_first}
+use Rattle.split_lines.proofs.LineDemands.{CoversBelow, DemandsBelow, line_now, line_later, marked_none, marked_some, covers_none, all_covered, all_marked}
+use Rattle.split_lines.proofs.marking.+mark_arguments.Goals as goal
+use Rattle.split_lines.proofs.marking.+mark_arguments.Goals.{then-mark_arguments, else-mark_arguments}
+
+pub mark_line-requires-clause-line : goal.mark_line-requires-clause-line
+mark_line-requires-clause-line t c =
+    line_now c.args.lines.now c.args.arguments.now c.args.line c.line_here.result c.args.ahead c.in-Some.line c.line_here.ensures c.in-Some.is c.requires.line
+
+pub mark_arguments-requires : goal.mark_arguments-requires
+mark_arguments-requires t c =
+    let p = c.args.lines.now in
+    let all = c.args.arguments.now in
+    let end = c.loop-end.end in
+    let to = c.args.to in
+    let argument = c.index-arguments-0.result in
+    let others : List Arg = take (length all - 1) (drop 1 all) in
+    let some : 0 < length all = search rules in
+    let split : all ≡ argument ∷ others = split_at_first all argument some c.index-arguments-0.is in
+    let places = c.places-ends.ensures argument others split in
+    let fits = places.fit end c.loop-end.auto.end c.loop-end-test.true in
+    let L : List Arg → Type 0 = λ xs. IfSome c.args.line (λ line. IsLine p (drop c.args.ahead xs) line) in
+    let N : ℕ → Type 0 = λ n. IfSome c.args.line (λ line. IsLine p (drop n others) line) in
+    let K : List Arg → Type 0 = λ xs. AllByRecursion (IsKnown p.grammar) xs in
+    let known : K (argument ∷ others) = subst K split c.requires.known in
+    let same_length : length all ≡ length others + 1 = ap length split ∙ omega arith in
+    let D : List Arg → Type 0 = λ xs. (cell : Cell) → Demands p xs c.args.from to cell → IsCounted p.grammar (length p.word) cell in
+    let counted = subst D split c.requires.counted in (
+      omega (arith, same_length, c.decreases),
+      (
+        subst N (sym c.saturating_sub.ensures) (line_later p argument others c.args.line c.line_here.result c.args.ahead c.line_here.ensures c.in_default.is (subst L split c.requires.line)),
+        (
+          known.1,
+          (
+            omega (arith, same_length, c.requires.few),
+            (
+              record { in_order = omega (arith, places.up_to_last, c.loop-end-test.true); in_word = c.requires.span.in_word },
+              (
+                c.loop-end.invariant.marked.problem ∙ c.requires.same_problem,
+                λ cell demands. counted cell (end, fits, inr demands),
+              ),
+            ),
+          ),
+        ),
+      ),
+    )
+
+pub mark_argument-requires : goal.mark_argument-requires
+mark_argument-requires t c =
+    λ cell is.
+    let p = c.args.lines.now in
+    let all = c.args.arguments.now in
+    let end = c.loop-end.end in
+    let argument = c.index-arguments-0.result in
+    let others : List Arg = take (length all - 1) (drop 1 all) in
+    let some : 0 < length all = search rules in
+    let split : all ≡ argument ∷ others = split_at_first all argument some c.index-arguments-0.is in
+    let fits = (c.places-ends.ensures argument others split).fit end c.loop-end.auto.end c.loop-end-test.true in
+    let D : List Arg → Type 0 = λ xs. (it : Cell) → Demands p xs c.args.from c.args.to it → IsCounted p.grammar (length p.word) it in
+    let counted = subst D split c.requires.counted in
+    let C : PosedProblem → Type 0 = λ q. IsCounted q.grammar (length q.word) cell in
+    let same = c.mark_arguments.ensures.marked.problem ∙ c.loop-end.invariant.marked.problem ∙ c.requires.same_problem in
+    subst C (sym same) (counted cell (end, fits, inl (is, c.if-mark_arguments.ensures.laid.0 refl)))
+
+pub loop-end-preserved : goal.loop-end-preserved
+loop-end-preserved t c =
+    let p = c.args.lines.now in
+    let all = c.args.arguments.now in
+    let from = c.args.from in
+    let to = c.args.to in
+    let low = c.places-ends.result.start in
+    let end = c.loop-end.end in
+    let argument = c.index-arguments-0.result in
+    let others : List Arg = take (length all - 1) (drop 1 all) in
+    let some : 0 < length all = search rules in
+    let split : all ≡ argument ∷ others = split_at_first all argument some c.index-arguments-0.is in
+    let fits = (c.places-ends.ensures argument others split).fit end c.loop-end.auto.end c.loop-end-test.true in
+    let above = c.loop-end.auto.end in
+    let was = c.loop-end.invariant in
+    let M : Table Bool → Type 0 = λ marks. AreMarkedToo c.args.marks.now marks (DemandsBelow p argument others from to low (end + 1)) in
+    let S : Bool → Type 0 = λ is_laid. IsTrue is_laid ↔ CoversBelow p argument others from to low (end + 1) in
+    elim c.if-mark_arguments.branch [
+      | then-mark_arguments w ↦
+          let cover : Cover p others end to = w.if-mark_arguments.ensures.laid.0 refl in
+          record {
+            laid = subst S (sym w.is_laid-is) (λ _. (end, above, omega arith, fits, cover), λ _. refl);
+            marked = subst M (sym w.marks-is) (marked_some p argument others from to low end fits above c.args.marks.now c.loop-end.marks c.mark_arguments.new.marks was.marked c.mark_arguments.ensures.marked w.mark_argument.new.marks cover w.mark_argument.ensures);
+          }
+      | else-mark_arguments w ↦
+          let none : Cover p others end to → ⊥ = λ cover. let yes = w.if-mark_arguments.ensures.laid.1 cover in absurd cc in
+          record {
+            laid = subst S (sym w.is_laid-is) (covers_none p argument others from to low end c.loop-end.is_laid was.laid none);
+            marked = subst M (sym w.marks-is) (marked_none p argument others from to low end fits above c.args.marks.now c.loop-end.marks c.mark_arguments.new.marks was.marked c.mark_arguments.ensures.marked none);
+          }
+    ]
+
+pub returns-clause-laid : goal.returns-clause-laid
+returns-clause-laid t c =
+    let p = c.args.lines.now in
+    let all = c.args.arguments.now in
+    let argument = c.index-arguments-0.result in
+    let others : List Arg = take (length all - 1) (drop 1 all) in
+    let some : 0 < length all = search rules in
+    let split : all ≡ argument ∷ others = split_at_first all argument some c.index-arguments-0.is in
+    let places = c.places-ends.ensures argument others split in
+    let T : List Arg → Type 0 = λ xs. IsTrue c.loop-end.is_laid ↔ Cover p xs c.args.from c.args.to in
+    subst T (sym split) (all_covered p argument others c.args.from c.args.to c.places-ends.result c.loop-end.end places (omega arith) c.loop-end.is_laid c.loop-end.invariant.laid)
+
+pub returns-clause-marked : goal.returns-clause-marked
+returns-clause-marked t c =
+    let p = c.args.lines.now in
+    let all = c.args.arguments.now in
+    let argument = c.index-arguments-0.result in
+    let others : List Arg = take (length all - 1) (drop 1 all) in
+    let some : 0 < length all = search rules in
+    let split : all ≡ argument ∷ others = split_at_first all argument some c.index-arguments-0.is in
+    let places = c.places-ends.ensures argument others split in
+    let T : List Arg → Type 0 = λ xs. AreMarkedToo c.args.marks.now c.loop-end.marks (Demands p xs c.args.from c.args.to) in
+    subst T (sym split) (all_marked p argument others c.args.from c.args.to c.places-ends.result c.loop-end.end places (omega arith) c.args.marks.now c.loop-end.marks c.loop-end.invariant.marked)

@@ -1,0 +1,85 @@
+use Rattle.std.proofs.Common.{◌≡◌, ℕ, ◌+◌, ◌<◌, ◌≤◌, Vec, Global, List, [], ◌∷◌, ◌++◌, length, get_or, ap, sym, subst, ◌∙◌, arith}
+use Rattle.std.proofs.lemmas.Bool.{false≢true}
+use Rattle.std.proofs.lemmas.List.{length_push}
+use Rattle.adp_model.specs.declared.grammar.Arg.{Arg}
+use Rattle.adp_model.specs.PosedProblem.{PosedProblem}
+use Rattle.yield_sizes.specs.Placing.{Cover}
+use Rattle.split_lines.specs.Matching.{HaveLetters, AreMatchPlaces, AreCounts}
+use Rattle.split_lines.proofs.Matched.{no_counts, one_count_more, one_place_more, no_places, places_below, one_match_more, no_match_there}
+use Rattle.split_lines.proofs.Tokens.{cover_within}
+use Rattle.split_lines.proofs.matches.Matches.new.Goals as goal
+use Rattle.split_lines.proofs.matches.Matches.new.Goals.{then-end-len+then-covers+in_ok-push-2, else-end-len, else-end-len-via-then-end-len+else-covers, else-end-len-via-else-end-len}
+
+pub loop-place-init : goal.loop-place-init
+loop-place-init c =
+    let p = c.args.tables.now in
+    let places_are = c.new-places.ensures.items in
+    let before_are = c.in_ok-before.ensures.items in
+    let M : List ℕ → Type 0 = AreMatchPlaces p c.args.tokens.now c.fixed_letters-width.result 0 in
+    let C : List ℕ → List ℕ → Type 0 = AreCounts in
+    record {
+      places = subst M (sym {A = List ℕ} places_are) (no_places p c.args.tokens.now c.fixed_letters-width.result);
+      each = ap length before_are;
+      before = subst (λ places. C places c.in_ok-before.before.items) (sym {A = List ℕ} places_are) (subst (C []) (sym {A = List ℕ} before_are) no_counts);
+      few = omega (arith, ap length places_are);
+    }
+
+-- the counts with one more
+counted : (places before new : List ℕ) (count : ℕ) (past : ℕ) → AreCounts places before → length before ≡ past → ((number : ℕ) → number < length places → get_or places number 0 < past) → count ≡ length places → new ≡ before ++ count ∷ [] → AreCounts places new
+counted places before new count past counts each below count_is new_is =
+    let P : List ℕ → Type 0 = AreCounts places in
+    let longer = one_count_more places before counts (λ number l. omega (arith, each, below number l)) in
+    subst P (sym (new_is ∙ ap (λ n. before ++ n ∷ []) count_is)) longer
+
+-- the invariant, where these are the places and the counts now
+step : (p : PosedProblem) (tokens : List Arg) (width place : ℕ) (made items numbers : List ℕ) → items ≡ made → AreMatchPlaces p tokens width (place + 1) made → length numbers ≡ place + 1 → AreCounts made numbers → length made ≤ place + 1
+    → record { places : AreMatchPlaces p tokens width (place + 1) items; each : length numbers ≡ place + 1; before : AreCounts items numbers; few : length items ≤ place + 1 }
+step p tokens width place made items numbers are matched as_many counts short =
+    let M : List ℕ → Type 0 = AreMatchPlaces p tokens width (place + 1) in
+    let C : List ℕ → Type 0 = λ it. AreCounts it numbers in
+    record { places = subst M (sym are) matched; each = as_many; before = subst C (sym are) counts; few = omega (arith, short, ap length are) }
+
+pub loop-place-preserved : goal.loop-place-preserved
+loop-place-preserved c =
+    let p = c.args.tables.now in
+    let tokens = c.args.tokens.now in
+    let width = c.fixed_letters-width.result in
+    let place = c.loop-place.place in
+    let places = c.loop-place.places.items in
+    let kept = c.loop-place.invariant in
+    let len_is : length c.letters-len.result.now ≡ length p.word = ap length c.letters-len.ensures.word ∙ ap (λ (p : PosedProblem). length p.word) c.problem-problem.ensures in
+    let before = counted places c.loop-place.before.items c.push.new.self.items c.len.result place kept.before kept.each (λ number. places_below p tokens width place places kept.places number 0) (omega (arith, c.len.ensures)) c.in_ok-push.ensures.items in
+    let each : length c.push.new.self.items ≡ place + 1 = omega (arith, c.in_ok-push.ensures.len, kept.each) in
+    elim c.if-end-len.branch [
+      | then-end-len+then-covers+in_ok-push-2 w ↦
+          let items_are : c.if-end-len.places.items ≡ places ++ place ∷ [] = ap (λ (v : Vec ℕ Global). v.items) w.places-is ∙ w.in_ok-push-2.ensures.items in
+          let cover : Cover p tokens place (place + width) = w.covers.ensures.0 w.if-covers.true in
+          step p tokens width place (places ++ place ∷ []) c.if-end-len.places.items c.push.new.self.items items_are (one_match_more p tokens width place places kept.places cover) each (one_place_more places c.push.new.self.items place before (omega (arith, each))) (omega (arith, length_push places place, kept.few))
+      | else-end-len w ↦
+          let items_are : c.if-end-len.places.items ≡ places = ap (λ (v : Vec ℕ Global). v.items) w.places-is in
+          let none : Cover p tokens place (place + width) → ⊥ =
+          elim w.else-end-len.branch [
+            | else-end-len-via-then-end-len+else-covers w' ↦ λ cover. false≢true (sym w'.if-covers.false ∙ w'.covers.ensures.1 cover)
+            | else-end-len-via-else-end-len w' ↦ λ cover. let within = cover_within p tokens place (place + width) (omega (arith, len_is)) cover in absurd (omega (arith, within, w'.if-end-len.false, len_is))
+          ] in
+          step p tokens width place places c.if-end-len.places.items c.push.new.self.items items_are (no_match_there p tokens width place places kept.places none) each before (omega (arith, kept.few))
+    ]
+
+pub returns : goal.returns
+returns c =
+    let p = c.args.tables.now in
+    let tokens = c.args.tokens.now in
+    let width = c.fixed_letters-width.result in
+    let place = c.loop-place.place in
+    let places = c.loop-place.places.items in
+    let kept = c.loop-place.invariant in
+    let len_is : length c.letters-len.result.now ≡ length p.word = ap length c.letters-len.ensures.word ∙ ap (λ (p : PosedProblem). length p.word) c.problem-problem.ensures in
+    let past : place ≡ length p.word + 1 = omega (arith, len_is) in
+    let H : PosedProblem → Type 0 = λ p. HaveLetters p tokens width in
+    let M : ℕ → Type 0 = λ past. AreMatchPlaces p tokens width past places in
+    record {
+      letters = subst H c.problem-problem.ensures c.fixed_letters-width.ensures.letters;
+      places = subst M past kept.places;
+      each = omega (arith, c.in_ok-push-3.ensures.len, kept.each, past);
+      before = counted places c.loop-place.before.items c.push-2.new.self.items c.len-2.result place kept.before kept.each (λ number. places_below p tokens width place places kept.places number 0) (omega (arith, c.len-2.ensures)) c.in_ok-push-3.ensures.items;
+    }

@@ -1,0 +1,12 @@
+pub mod Begins
+pub mod ClassFields
+pub mod Classes
+pub mod Entries
+pub mod Laid
+pub mod Layout
+pub mod Lines
+pub mod LinesFields
+pub mod Matching
+pub mod Rows
+pub mod Spans
+pub mod Totals

@@ -1,0 +1,37 @@
+-- Where tokens of fixed length match.
+use Rattle.std.specs.Prelude.{◌≡◌, ◌↔◌, ℕ, ◌+◌, ◌<◌, ◌≤◌, List, length, slice_index}
+use Rattle.std.specs.List.{AllAdjacentBelow, Contains}
+use Rattle.adp_model.specs.declared.grammar.Arg.{Arg}
+use Rattle.adp_model.specs.declared.grammar.Arg.TheVariants.{Rule, Literal, Letter, Run}
+use Rattle.adp_model.specs.PosedProblem.{PosedProblem}
+use Rattle.yield_sizes.specs.Placing.{Cover}
+use Rattle.split_lines.specs.declared.matches.Matches.{Matches}
+
+-- how many letters a token of fixed length has
+abbrev pub fixed_length : Arg → ℕ
+fixed_length (Rule rule) = 0
+fixed_length (Literal text) = length text
+fixed_length (Letter class) = 1
+fixed_length (Run class low high) = 0
+
+-- wherever the tokens match, they have so many letters
+abbrev pub HaveLetters : PosedProblem → List Arg → ℕ → Type 0
+HaveLetters p tokens letters = (from to : ℕ) → Cover p tokens from to → to ≡ from + letters
+
+-- the places of the word before `past` at which the tokens match, in order
+pub record AreMatchPlaces (p : PosedProblem) (tokens : List Arg) (letters past : ℕ) (places : List ℕ) : Type 0 where
+  pub exact : (place : ℕ) → Contains places place ↔ ((place < past) × Cover p tokens place (place + letters))
+  pub rising : AllAdjacentBelow (λ (a b : ℕ). a < b) places (length places)
+
+-- how many of the places come before 0, before 1 and so on
+pub record AreCounts (places before : List ℕ) : Type 0 where
+  pub few : (place : ℕ) → place < length before → slice_index before place ≤ length places
+  pub told : (place number : ℕ) → place < length before → number < length places
+      → (slice_index places number < place) ↔ (number < slice_index before place)
+
+-- how many letters the tokens have, where they match, and how many of these places come before each place
+pub record AreMatches (p : PosedProblem) (tokens : List Arg) (matches : Matches) : Type 0 where
+  pub letters : HaveLetters p tokens matches.letters
+  pub places : AreMatchPlaces p tokens matches.letters (length p.word + 1) matches.places.items
+  pub each : length matches.before.items ≡ length p.word + 2
+  pub before : AreCounts matches.places.items matches.before.items

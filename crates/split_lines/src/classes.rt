@@ -1,0 +1,140 @@
+//! What the letters of a word tell of its problem's classes.
+
+ghost use Rattle.std.specs.Prelude.{◌≡◌, ◌<◌, ◌≤◌, IfOk, length};
+ghost use Rattle.adp_model.specs.Parts.{letters_of};
+ghost use Rattle.adp_model.specs.Tokens.{weight_of};
+ghost use Rattle.split_lines.specs.Classes.{IsAhead, IsBehind, AreSums, IsTable};
+
+use crate::parts::{class_letters, letters};
+use adp_model::Problem;
+use std::alloc::{AllocError, Global};
+use std::marker::Model;
+
+/// For a class and a word: how far letters of the class go on from each place, from where they go on up to each place,
+/// and what the letters before each place weigh.
+#[derive(Drop)]
+pub struct ClassTable {
+    /// For each place the last one up to which all letters are in the class.
+    pub ahead: Vec<u16>,
+    /// For each place the first one from which on all letters up to there are in the class.
+    pub behind: Vec<u16>,
+    /// For each place the weights of the letters before it, added up; letters that the class lacks weigh nothing.
+    pub sums: Vec<i128>,
+}
+
+/// The weight of a letter, where the class has it.
+fn weight_of(class: &[(u8, i64)], letter: u8) -> Option<i64>
+    ensures { result ≡ weight_of class.now letter }
+{
+    for (other, weight) in class {
+        if *other == letter {
+            return Some(*weight);
+        }
+    }
+    None
+}
+
+/// For each place the first one from which on all letters up to there are in the class.
+fn behind(alloc: Global, class: &[(u8, i64)], word: &[u8]) -> Result<Vec<u16>, AllocError>
+    requires { length word.now ≤ 4000 }
+    ensures { IfOk result (λ behind. IsBehind class.now word.now behind.items) }
+{
+    let mut behind = Vec::with_capacity(alloc, word.len() + 1)?;
+    let mut first = 0;
+    behind.push(first)?;
+    for (place, letter) in word.iter().enumerate() {
+        if weight_of(class, *letter).is_none() {
+            first = place as u16 + 1;
+        }
+        behind.push(first)?;
+    }
+    Ok(behind)
+}
+
+/// For each place the last one up to which all letters are in the class.
+fn ahead(alloc: Global, class: &[(u8, i64)], word: &[u8]) -> Result<Vec<u16>, AllocError>
+    requires { length word.now ≤ 4000 }
+    ensures { IfOk result (λ ahead. IsAhead class.now word.now ahead.items) }
+{
+    let len = word.len();
+    let mut ahead = vec![in alloc; len as u16; len + 1]?;
+    for place in (0..len).rev() {
+        let last = match weight_of(class, word[place]) {
+            Some(_) => ahead[place + 1],
+            None => place as u16,
+        };
+        ahead[place] = last;
+    }
+    Ok(ahead)
+}
+
+/// For each place the weights of the letters before it, added up.
+fn sums(alloc: Global, class: &[(u8, i64)], word: &[u8]) -> Result<Vec<i128>, AllocError>
+    requires { length word.now ≤ 4000 }
+    ensures { IfOk result (λ sums. AreSums class.now word.now sums.items) }
+{
+    let mut sums = Vec::with_capacity(alloc, word.len() + 1)?;
+    let mut sum = 0;
+    sums.push(sum)?;
+    for letter in word {
+        if let Some(weight) = weight_of(class, *letter) {
+            sum += i128::from(weight);
+        }
+        sums.push(sum)?;
+    }
+    Ok(sums)
+}
+
+/// The tables of a problem's classes. Contracts see them as the problem.
+#[derive(Drop)]
+pub struct ClassTables<'a> {
+    problem: &'a Problem<'a>,
+    tables: Vec<ClassTable>,
+}
+
+impl<'a> Model for ClassTables<'a> {
+    ghost use Rattle.adp_model.specs.PosedProblem.{PosedProblem};
+
+    ghost Value = { PosedProblem };
+
+    ghost use Rattle.split_lines.specs.ClassFields.{AreAllTables};
+
+    ghost view = { λ tables. tables.problem.now };
+
+    ghost invariant = { AreAllTables };
+}
+
+impl<'a> ClassTables<'a> {
+    /// The tables of all classes. Fails for want of memory alone.
+    pub fn new(alloc: Global, problem: &'a Problem<'a>) -> Result<ClassTables<'a>, AllocError>
+        ensures { IfOk result (λ tables. tables ≡ problem.now) }
+    {
+        let word = letters(problem);
+        let classes = problem.grammar.classes.as_slice();
+        let mut tables = Vec::with_capacity(alloc, classes.len())?;
+        for class in classes {
+            let class = class.letters.as_slice();
+            tables.push(ClassTable {
+                ahead: ahead(alloc, class, word)?,
+                behind: behind(alloc, class, word)?,
+                sums: sums(alloc, class, word)?,
+            })?;
+        }
+        Ok(ClassTables { problem, tables })
+    }
+
+    /// The problem.
+    pub fn problem(&self) -> &'a Problem<'a>
+        ensures { result.now ≡ self.now }
+    {
+        self.problem
+    }
+
+    /// The table of a class.
+    pub fn table(&self, class: u32) -> &ClassTable
+        requires { class < length self.now.grammar.classes }
+        ensures { IsTable (letters_of self.now.grammar class) self.now.word result.now }
+    {
+        &self.tables[class as usize]
+    }
+}

@@ -1,0 +1,152 @@
+//! The best score of a cell from those of its demanded children.
+
+ghost use Rattle.std.specs.Prelude.{◌≡◌, ◌<◌, IfSome, MatchOption, length, drop};
+ghost use Rattle.adp_model.specs.declared.cell.Answer.TheVariants.{NoCandidate};
+ghost use Rattle.adp_model.specs.declared.cell.Cell.{Cell};
+ghost use Rattle.adp_model.specs.PosedProblem.{IsSpan};
+ghost use Rattle.adp_model.specs.Parts.{algebra_of, alternatives_of};
+ghost use Rattle.adp_model.specs.Answers.{IsAnswer};
+ghost use Rattle.adp_model.specs.Bellman.{HasBestScore};
+ghost use Rattle.adp_model.specs.Demand.{IsDemandedChild};
+ghost use Rattle.split_lines.specs.Laid.{Demands};
+ghost use Rattle.split_lines.specs.Lines.{IsLine};
+ghost use Rattle.split_lines.specs.Entries.{HasEntry};
+ghost use Rattle.split_lines.specs.Totals.{AreLow, AreWeighted, HasTotal, HasTurnedScore, IsGreatestOf, turned};
+
+use crate::along::greatest_along;
+use crate::argument_values::argument_value;
+use crate::lines::{Line, Lines, line_here};
+use crate::numbers::{greater, turned, turned_factors};
+use crate::parts::{alternatives, arguments, goal, term};
+use crate::table::Table;
+use adp_model::laws::bellman::bellman;
+use adp_model::laws::bounds::{bounds_are_sound, words_keep_their_score_bound};
+use adp_model::laws::order::answer_is_unique;
+use adp_model::laws::well_formed::arguments_are_few_and_known;
+use adp_model::{Arg, Cell, Goal};
+
+/// What the totals of an alternative's arguments are found from.
+#[derive(Clone, Copy)]
+struct Known<'s, 'a> {
+    lines: &'s Lines<'a>,
+    scores: &'s Table<'a, i64>,
+    line: Option<Line<'s>>,
+}
+
+/// The greatest total of arguments that are laid from `from` to `to`. If they have a line, `ahead` of them come before
+/// it.
+fn greatest_total(
+    known: Known<'_, '_>,
+    ahead: u8,
+    arguments: &[Arg],
+    factors: &[i64],
+    from: u16,
+    to: u16,
+) -> Option<i64>
+    requires same_problem { known.scores.now.problem ≡ known.lines.now }
+    requires line { IfSome known.line (λ line. IsLine known.lines.now (drop ahead arguments.now) line) }
+    requires weighted { AreWeighted known.lines.now arguments.now factors.now }
+    requires span { IsSpan known.lines.now.word from to }
+    requires scored { (cell : Cell) → Demands known.lines.now arguments.now from to cell
+        → HasEntry known.scores.now cell }
+    requires low { AreLow known.lines.now arguments.now factors.now from to }
+    ensures { IsGreatestOf (HasTotal known.entry.lines.now (HasBestScore known.entry.lines.now)
+        arguments.now factors.now from to) result }
+{
+    let Known {
+        lines,
+        scores,
+        line,
+    } = known;
+    if let Some(line) = line_here(line, ahead) {
+        return greatest_along(lines, scores, line, arguments, factors, from, to);
+    }
+    let (Some((argument, others)), Some((factor, factors))) = (
+        arguments.split_first(),
+        factors.split_first(),
+    ) else {
+        return if from == to { Some(0) } else { None };
+    };
+    lines.problem().admissible();
+    bounds_are_sound();
+    answer_is_unique();
+    let places = lines.places(arguments, from, to);
+    let mut greatest = None;
+    for end in places.start..places.end {
+        let Some(value) = argument_value(lines, scores, argument, from, end) else {
+            continue;
+        };
+        let Some(rest) = greatest_total(known, ahead.saturating_sub(1), others, factors, end, to)
+        else {
+            continue;
+        };
+        greatest = greater(greatest, Some(factor * value + rest));
+    }
+    greatest
+}
+
+/// The best score that an alternative gives a cell, turned; `None` where it gives none.
+fn alternative_score(
+    lines: &Lines<'_>,
+    scores: &Table<'_, i64>,
+    cell: Cell,
+    alt: u8,
+    goal: Goal,
+) -> Option<i64>
+    requires same_problem { scores.now.problem ≡ lines.now }
+    requires goal { goal ≡ (algebra_of lines.now).goal }
+    requires rule { cell.rule < length lines.now.grammar.rules }
+    requires in_word { IsSpan lines.now.word cell.from cell.to }
+    requires alternative { alt < length (alternatives_of lines.now.grammar cell.rule) }
+    requires scored { (child : Cell) → IsDemandedChild lines.now cell child → HasEntry scores.now child }
+    ensures { IsGreatestOf (HasTurnedScore lines.now cell alt) result }
+{
+    let problem = lines.problem();
+    problem.admissible();
+    bounds_are_sound();
+    words_keep_their_score_bound();
+    answer_is_unique();
+    arguments_are_few_and_known();
+    let arguments = arguments(problem, cell.rule, alt);
+    let term = term(problem, cell.rule, alt);
+    let factors = turned_factors(goal, term.factors.as_slice());
+    let factors = &factors[..arguments.len()];
+    let line = lines.line(cell.rule, alt);
+    let ahead = line.map_or(0, |line| line.first);
+    let known = Known {
+        lines,
+        scores,
+        line,
+    };
+    let Some(total) = greatest_total(known, ahead, arguments, factors, cell.from, cell.to) else {
+        return None;
+    };
+    Some(turned(goal, term.constant) + total)
+}
+
+/// The best score of a cell, by the scores of its demanded children; `None` where it has no candidate. Takes no memory.
+pub fn cell_score(lines: &Lines<'_>, scores: &Table<'_, i64>, cell: Cell) -> Option<i64>
+    requires same_problem { scores.now.problem ≡ lines.now }
+    requires rule { cell.rule < length lines.now.grammar.rules }
+    requires in_word { IsSpan lines.now.word cell.from cell.to }
+    requires scored { (child : Cell) → IsDemandedChild lines.now cell child → HasEntry scores.now child }
+    ensures { MatchOption result (IsAnswer lines.now cell NoCandidate) (HasBestScore lines.now cell) }
+{
+    let problem = lines.problem();
+    problem.admissible();
+    bellman();
+    bounds_are_sound();
+    arguments_are_few_and_known();
+    let goal = goal(problem);
+    let mut greatest = None;
+    for number in 0..alternatives(problem, cell.rule).len() {
+        greatest = greater(
+            greatest,
+            alternative_score(lines, scores, cell, number as u8, goal),
+        );
+    }
+    let Some(total) = greatest else {
+        return None;
+    };
+    Some(turned(goal, total))
+}

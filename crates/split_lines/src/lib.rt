@@ -1,0 +1,26 @@
+//! The splits of a cell, line by line: a line is the splits of an alternative that differ in the last boundary between
+//! two arguments of open length. What the cells of arguments are worth stands in rows, by starts, and in columns, by
+//! ends, so that both arguments of a line are read forwards. Marks tell which cells are demanded.
+#![tactic(auto)]
+
+mod along;
+mod argument_values;
+mod classes;
+mod filling;
+mod grid;
+mod layout;
+mod lines;
+mod marking;
+mod matches;
+mod numbers;
+mod parts;
+mod spans;
+mod table;
+
+pub use argument_values::argument_value;
+pub use filling::cell_score;
+pub use grid::{Block, Grid};
+pub use layout::Side;
+pub use lines::{Boundary, Line, Lines};
+pub use marking::mark_children;
+pub use table::{NO_CANDIDATE, Table};

@@ -1,0 +1,356 @@
+//! What is worked out of a problem once, for all its cells.
+
+ghost use Rattle.std.specs.Prelude.{◌≡◌, ℕ, ◌+◌, ◌-◌, ◌<◌, ◌≤◌, ◌↔◌, IfOk, IfSome, IsTrue, MatchOption, None, List, ◌∷◌, drop, length, ◌==◌, if◌then◌else◌};
+ghost use Rattle.std.specs.Bool.{OnTrue};
+ghost use Rattle.std.specs.List.{All, AllByRecursion};
+ghost use Rattle.adp_model.specs.declared.grammar.Arg.{Arg as Argument};
+ghost use Rattle.adp_model.specs.Parts.{alternatives_of, arguments_of, letters_of};
+ghost use Rattle.adp_model.specs.PosedProblem.{IsSpan};
+ghost use Rattle.adp_model.specs.Tokens.{letters_between, total_weight};
+ghost use Rattle.adp_model.specs.WellFormed.{IsKnown};
+ghost use Rattle.yield_sizes.specs.Placing.{ArePlaces};
+ghost use Rattle.split_lines.specs.Laid.{IsFixed, AreBoundaries};
+ghost use Rattle.split_lines.specs.Classes.{AreSums};
+ghost use Rattle.split_lines.specs.Lines.{IsLine, IsLastOpen, HasLine, LeavesPlace, parts_by};
+ghost use Rattle.split_lines.specs.LinesFields.{AreMiddles, HasAllOf, IsNumberOf, IsKeptOrNone, AreKept};
+
+use crate::classes::ClassTables;
+use crate::matches::{Matches, covers, fixed_letters};
+use crate::spans;
+use adp_model::laws::well_formed::arguments_are_few_and_known;
+use adp_model::{Alt, Arg, Problem};
+use std::alloc::{AllocError, Global};
+use std::marker::Model;
+use std::ops::Range;
+
+/// How many of the kept lists are compared with tokens before these get a list of their own.
+const MOST_COMPARED: usize = 64;
+
+/// The line of an alternative: which of its arguments are the last two of open length, and where the tokens between
+/// them match.
+#[derive(Clone, Copy)]
+pub struct Line<'l> {
+    /// The number of the first of the two.
+    pub first: u8,
+    /// How many tokens stand between the two.
+    pub between: u8,
+    /// How many letters the tokens behind the second one have.
+    pub(crate) tail: u16,
+    /// Where the tokens between the two match.
+    pub(crate) middle: &'l Matches,
+}
+
+/// The boundary of a line on a span: the places at which it may stand, how many letters lie between it and the second
+/// argument, and where that one ends. Where the line can't have the span, there is no place.
+#[derive(Clone, Copy)]
+pub struct Boundary<'l> {
+    pub places: &'l [u16],
+    pub letters: u16,
+    pub last: u16,
+}
+
+/// Tokens of fixed length, and where they match.
+#[derive(Drop)]
+pub struct Middle<'a> {
+    pub tokens: &'a [Arg],
+    pub matches: Matches,
+}
+
+/// A line as it is kept: with the number of the list of its middle.
+#[derive(Clone, Copy)]
+pub struct KeptLine {
+    pub first: u8,
+    pub between: u8,
+    pub tail: u16,
+    pub middle: usize,
+}
+
+/// Whether the argument is a token of fixed length.
+fn is_fixed(argument: &Arg) -> bool
+    ensures { IsTrue result ↔ IsFixed argument.now }
+{
+    match argument {
+        Arg::Literal(_) | Arg::Letter(_) => true,
+        Arg::Rule(_) | Arg::Run { .. } => false,
+    }
+}
+
+/// The number of the last argument of open length.
+fn last_open(arguments: &[Arg]) -> Option<usize>
+    ensures { MatchOption result (AllByRecursion IsFixed arguments.now) (IsLastOpen arguments.now) }
+{
+    for number in (0..arguments.len()).rev() {
+        if !is_fixed(&arguments[number]) {
+            return Some(number);
+        }
+    }
+    None
+}
+
+/// The number of the first argument of the line, and how many tokens stand between it and the second one.
+fn line_of(arguments: &[Arg]) -> Option<(usize, usize)>
+    ensures { MatchOption result ((first between : ℕ) → HasLine (drop first arguments.now) between → ⊥)
+        (λ line. HasLine (drop line.0 arguments.now) line.1) }
+{
+    let second = last_open(arguments)?;
+    let first = last_open(&arguments[..second])?;
+    Some((first, second - first - 1))
+}
+
+/// Whether the tokens are the same. Tokens of open length never are.
+fn is_same(first: &Arg, second: &Arg) -> bool
+    ensures { OnTrue result (first.now ≡ second.now) }
+{
+    match (first, second) {
+        (Arg::Literal(text), Arg::Literal(other)) => text.bytes() == other.bytes(),
+        (Arg::Letter(class), Arg::Letter(other)) => class == other,
+        _ => false,
+    }
+}
+
+/// The same of lists of tokens.
+fn are_same(tokens: &[Arg], others: &[Arg]) -> bool
+    ensures { OnTrue result (tokens.now ≡ others.now) }
+{
+    if tokens.is_empty() || others.is_empty() {
+        return tokens.len() == others.len();
+    }
+    is_same(&tokens[0], &others[0]) && are_same(&tokens[1..], &others[1..])
+}
+
+/// The number of the list of these tokens, which is put at the end, unless it is found among the first ones.
+fn number_of<'a>(
+    alloc: Global,
+    tables: &ClassTables<'_>,
+    tokens: &'a [Arg],
+    middles: &mut Vec<Middle<'a>>,
+) -> Result<usize, AllocError>
+    requires known { AllByRecursion (IsKnown tables.now.grammar) tokens.now }
+    requires fixed { AllByRecursion IsFixed tokens.now }
+    requires middles { AreMiddles tables.now middles.old.items }
+    ensures middles { IfOk result (λ _. AreMiddles tables.now middles.new.items) }
+    ensures kept { IfOk result (λ _. HasAllOf middles.old.items middles.new.items) }
+    ensures number { IfOk result (IsNumberOf middles.new.items tokens.now) }
+{
+    for number in 0..middles.len().min(MOST_COMPARED) {
+        if are_same(middles[number].tokens, tokens) {
+            return Ok(number);
+        }
+    }
+    let matches = Matches::new(alloc, tables, tokens)?;
+    let number = middles.len();
+    middles.push(Middle { tokens, matches })?;
+    Ok(number)
+}
+
+/// The line of these arguments, as it is kept.
+fn kept_line<'a>(
+    alloc: Global,
+    tables: &ClassTables<'_>,
+    arguments: &'a [Arg],
+    middles: &mut Vec<Middle<'a>>,
+) -> Result<Option<KeptLine>, AllocError>
+    requires known { AllByRecursion (IsKnown tables.now.grammar) arguments.now }
+    requires few { length arguments.now ≤ 4 }
+    requires middles { AreMiddles tables.now middles.old.items }
+    ensures middles { IfOk result (λ _. AreMiddles tables.now middles.new.items) }
+    ensures kept { IfOk result (λ _. HasAllOf middles.old.items middles.new.items) }
+    ensures line { IfOk result (IsKeptOrNone tables.now middles.new.items arguments.now) }
+{
+    let Some((first, between)) = line_of(arguments) else {
+        return Ok(None);
+    };
+    let second = first + between + 1;
+    let middle = number_of(alloc, tables, &arguments[first + 1..second], middles)?;
+    let tail = fixed_letters(tables.problem(), &arguments[second + 1..]);
+    Ok(Some(KeptLine {
+        first: first as u8,
+        between: between as u8,
+        tail: tail as u16,
+        middle,
+    }))
+}
+
+/// The lines of the alternatives of a rule.
+fn kept_lines<'a>(
+    alloc: Global,
+    tables: &ClassTables<'_>,
+    alternatives: &'a [Alt],
+    middles: &mut Vec<Middle<'a>>,
+) -> Result<Vec<Option<KeptLine>>, AllocError>
+    requires known { All (λ alternative. AllByRecursion (IsKnown tables.now.grammar) alternative.args)
+        alternatives.now }
+    requires few { All (λ alternative. length alternative.args ≤ 4) alternatives.now }
+    requires middles { AreMiddles tables.now middles.old.items }
+    ensures middles { IfOk result (λ _. AreMiddles tables.now middles.new.items) }
+    ensures kept { IfOk result (λ _. HasAllOf middles.old.items middles.new.items) }
+    ensures lines { IfOk result
+        (λ lines. AreKept tables.now middles.new.items alternatives.now (length alternatives.now) lines.items) }
+{
+    let mut lines = Vec::with_capacity(alloc, alternatives.len())?;
+    for alternative in alternatives {
+        let line = kept_line(alloc, tables, alternative.args.as_slice(), middles)?;
+        lines.push(line)?;
+    }
+    Ok(lines)
+}
+
+/// The line, where none of the arguments comes before it.
+pub fn line_here<'l>(line: Option<Line<'l>>, ahead: u8) -> Option<Line<'l>>
+    ensures { result ≡ (if ahead == 0 then line.entry else None) }
+{
+    if ahead == 0 { line } else { None }
+}
+
+/// What is worked out of a problem once, for all its cells. Contracts see it as the problem.
+#[derive(Drop)]
+pub struct Lines<'a> {
+    tables: ClassTables<'a>,
+    middles: Vec<Middle<'a>>,
+    /// For each rule, for each of its alternatives.
+    lines: Vec<Vec<Option<KeptLine>>>,
+}
+
+impl<'a> Model for Lines<'a> {
+    ghost use Rattle.adp_model.specs.PosedProblem.{PosedProblem};
+
+    ghost Value = { PosedProblem };
+
+    ghost use Rattle.split_lines.specs.LinesFields.{AreLines};
+
+    ghost view = { λ lines. lines.tables };
+
+    ghost invariant = { AreLines };
+}
+
+impl<'a> Lines<'a> {
+    /// Works it out, in time for each alternative, and for each letter of the word once for each class and once for
+    /// each list of tokens. Memory is 20 bytes for each class and letter, and two to four for each list and letter.
+    pub fn new(alloc: Global, problem: &'a Problem<'a>) -> Result<Lines<'a>, AllocError>
+        ensures { IfOk result (λ lines. lines ≡ problem.now) }
+    {
+        arguments_are_few_and_known();
+        problem.admissible();
+        let tables = ClassTables::new(alloc, problem)?;
+        let mut middles = Vec::new(alloc);
+        let rules = problem.grammar.rules.as_slice();
+        let mut lines = Vec::with_capacity(alloc, rules.len())?;
+        for rule in rules {
+            let kept = kept_lines(alloc, &tables, rule.alts.as_slice(), &mut middles)?;
+            lines.push(kept)?;
+        }
+        Ok(Lines {
+            tables,
+            middles,
+            lines,
+        })
+    }
+
+    /// The problem. Takes no memory.
+    pub fn problem(&self) -> &'a Problem<'a>
+        ensures { result.now ≡ self.now }
+    {
+        self.tables.problem()
+    }
+
+    /// The line of an alternative; `None` where fewer than two of its arguments are of open length. Takes constant time
+    /// and no memory.
+    pub fn line(&self, rule: u32, alt: u8) -> Option<Line<'_>>
+        requires { alt < length (alternatives_of self.now.grammar rule) }
+        ensures { MatchOption result
+            ((first between : ℕ) → HasLine (drop first (arguments_of self.now.grammar rule alt)) between → ⊥)
+            (λ line. IsLine self.now (drop line.first (arguments_of self.now.grammar rule alt)) line) }
+    {
+        let kept = self.lines[rule as usize][alt as usize]?;
+        Some(Line {
+            first: kept.first,
+            between: kept.between,
+            tail: kept.tail,
+            middle: &self.middles[kept.middle].matches,
+        })
+    }
+
+    /// The places at which the boundary of a line may stand, as far as the arguments on both sides of it and the tokens
+    /// behind tell: from where on, and before which.
+    fn range(&self, line: Line<'_>, arguments: &[Arg], from: usize, to: usize) -> Range<usize>
+        requires line { IsLine self.now arguments.now line }
+        requires known { AllByRecursion (IsKnown self.now.grammar) arguments.now }
+        requires span { IsSpan self.now.word from to }
+        requires short { to ≤ 4000 }
+        ensures exact { (place : ℕ) → ((result.start ≤ place) × (place < result.end))
+            ↔ LeavesPlace self.now (parts_by arguments.now line.entry.between)
+            from to line.entry.middle.now.letters (to - line.entry.tail) place }
+        ensures in_order { result.start ≤ result.end }
+        ensures in_word { result.end ≤ length self.now.word + 1 }
+    {
+        let second = line.between as usize + 1;
+        let letters = line.middle.letters as usize;
+        let last = to.saturating_sub(line.tail as usize);
+        if last < from || !covers(&self.tables, &arguments[second + 1..], last, to) {
+            return from..from;
+        }
+        let ends = spans::ends(&self.tables, &arguments[0], from, last);
+        let starts = spans::starts(&self.tables, &arguments[second], from, last);
+        let start = ends.start.max(starts.start.saturating_sub(letters));
+        let end = ends.end.min(starts.end.saturating_sub(letters));
+        start.min(end)..end
+    }
+
+    /// The boundary of the line of these arguments, the first of which is the first one of the line. Takes constant
+    /// time, but for literals behind the second one, and no memory.
+    pub fn boundary<'l>(
+        &self,
+        line: Line<'l>,
+        arguments: &[Arg],
+        from: u16,
+        to: u16,
+    ) -> Boundary<'l>
+        requires line { IsLine self.now arguments.now line }
+        requires known { AllByRecursion (IsKnown self.now.grammar) arguments.now }
+        requires span { IsSpan self.now.word from to }
+        ensures { AreBoundaries self.now (parts_by arguments.now line.entry.between) from to
+            result.letters result.last result.places.now }
+    {
+        self.problem().admissible();
+        let range = self.range(line, arguments, from as usize, to as usize);
+        Boundary {
+            places: line.middle.between(range.start as u16, range.end as u16),
+            letters: line.middle.letters,
+            last: to.saturating_sub(line.tail),
+        }
+    }
+
+    /// Where the first of the arguments may end, as far as the lengths of the others leave a way up to `last`. Takes
+    /// constant time, but for the letters of a literal, and no memory.
+    pub fn places(&self, arguments: &[Arg], from: u16, last: u16) -> Range<u16>
+        requires known { AllByRecursion (IsKnown self.now.grammar) arguments.now }
+        requires some { 0 < length arguments.now }
+        requires few { length arguments.now ≤ 4 }
+        requires span { IsSpan self.now.word from last }
+        ensures { (first : Argument) (later : List Argument) → arguments.now ≡ first ∷ later
+            → ArePlaces self.now first later from last result }
+    {
+        self.problem().admissible();
+        let places = spans::places(&self.tables, arguments, from as usize, last as usize);
+        places.start as u16..places.end as u16
+    }
+
+    /// What the letters of a class before each place of the word weigh; letters that the class lacks weigh nothing.
+    /// Takes constant time and no memory.
+    pub fn sums(&self, class: u32) -> &[i128]
+        requires { class < length self.now.grammar.classes }
+        ensures { AreSums (letters_of self.now.grammar class) self.now.word result.now }
+    {
+        &self.tables.table(class).sums
+    }
+
+    /// What the letters of a span weigh in a class. Takes constant time and no memory.
+    pub fn weight(&self, class: u32, from: u16, to: u16) -> i128
+        requires class { class < length self.now.grammar.classes }
+        requires span { IsSpan self.now.word from to }
+        ensures { result ≡ total_weight (letters_of self.now.grammar class) (letters_between self.now.word from to) }
+    {
+        let sums = self.sums(class);
+        sums[to as usize] - sums[from as usize]
+    }
+}

@@ -1,0 +1,116 @@
+//! Where tokens of fixed length match.
+
+ghost use Rattle.std.specs.Prelude.{◌≡◌, ◌↔◌, ℕ, ◌+◌, ◌<◌, ◌≤◌, IfOk, IsTrue, length};
+ghost use Rattle.std.specs.List.{AllAdjacentBelow, AllByRecursion, Contains};
+ghost use Rattle.adp_model.specs.PosedProblem.{IsSpan};
+ghost use Rattle.adp_model.specs.WellFormed.{IsKnown};
+ghost use Rattle.yield_sizes.specs.Placing.{Cover};
+ghost use Rattle.split_lines.specs.Laid.{IsFixed};
+ghost use Rattle.split_lines.specs.Matching.{fixed_length, HaveLetters, AreCounts, AreMatches};
+
+use crate::classes::ClassTables;
+use crate::parts::letters;
+use crate::spans::ends;
+use adp_model::{Arg, Problem};
+use std::alloc::{AllocError, Global};
+
+/// The places of a word at which some tokens of fixed length (literals and letters) match one behind the other, in
+/// order, and for each place how many of them come before it.
+#[derive(Drop)]
+pub struct Matches {
+    /// How many letters the tokens have, or one more than the word has, where they have more than that.
+    pub letters: u16,
+    pub places: Vec<u16>,
+    pub before: Vec<u16>,
+}
+
+/// How many letters a token of fixed length has.
+pub fn fixed_length(token: &Arg) -> usize
+    ensures { result ≡ fixed_length token.now }
+{
+    match token {
+        Arg::Literal(text) => text.bytes().len(),
+        Arg::Letter(_) => 1,
+        Arg::Rule(_) | Arg::Run { .. } => 0,
+    }
+}
+
+/// How many letters tokens of fixed length have, or one more than the word has, where they have more than that.
+pub fn fixed_letters(problem: &Problem<'_>, tokens: &[Arg]) -> usize
+    requires { AllByRecursion IsFixed tokens.now }
+    ensures letters { HaveLetters problem.now tokens.now result }
+    ensures within { result ≤ length problem.now.word + 1 }
+    ensures short { result ≤ 4001 }
+{
+    if tokens.is_empty() {
+        return 0;
+    }
+    let most = letters(problem).len() + 1;
+    let first = fixed_length(&tokens[0]).min(most);
+    most.min(first + fixed_letters(problem, &tokens[1..]))
+}
+
+/// Whether tokens of fixed length match the letters from `from` to `to`.
+pub fn covers(tables: &ClassTables<'_>, tokens: &[Arg], from: usize, to: usize) -> bool
+    requires known { AllByRecursion (IsKnown tables.now.grammar) tokens.now }
+    requires fixed { AllByRecursion IsFixed tokens.now }
+    requires span { IsSpan tables.now.word from to }
+    requires short { to ≤ 4000 }
+    ensures { IsTrue result ↔ Cover tables.now tokens.now from to }
+{
+    if tokens.is_empty() {
+        return from == to;
+    }
+    let ends = ends(tables, &tokens[0], from, to);
+    if ends.start >= ends.end {
+        return false;
+    }
+    covers(tables, &tokens[1..], ends.start, to)
+}
+
+impl Matches {
+    /// Where the tokens match. Memory is two bytes for each place of the word, and two more where they match.
+    pub fn new(
+        alloc: Global,
+        tables: &ClassTables<'_>,
+        tokens: &[Arg],
+    ) -> Result<Matches, AllocError>
+        requires known { AllByRecursion (IsKnown tables.now.grammar) tokens.now }
+        requires fixed { AllByRecursion IsFixed tokens.now }
+        ensures { IfOk result (AreMatches tables.now tokens.now) }
+    {
+        let problem = tables.problem();
+        let len = letters(problem).len();
+        let width = fixed_letters(problem, tokens);
+        let mut places = Vec::new(alloc);
+        let mut before = Vec::with_capacity(alloc, len + 2)?;
+        for place in 0..len + 1 {
+            before.push(places.len() as u16)?;
+            let end = place + width;
+            if end <= len && covers(tables, tokens, place, end) {
+                places.push(place as u16)?;
+            }
+        }
+        before.push(places.len() as u16)?;
+        Ok(Matches {
+            letters: width as u16,
+            places,
+            before,
+        })
+    }
+
+    /// Those of the places that lie from `first` on and before `past`. Takes constant time and no memory.
+    pub fn between(&self, first: u16, past: u16) -> &[u16]
+        requires in_order { first ≤ past }
+        requires within { past < length self.now.before.items }
+        requires counts { AreCounts self.now.places.items self.now.before.items }
+        requires rising { AllAdjacentBelow (λ (a b : ℕ). a < b) self.now.places.items (length self.now.places.items) }
+        ensures exact { (place : ℕ) → Contains result.now place
+            ↔ (Contains self.now.places.items place × (first ≤ place) × (place < past)) }
+        ensures rising { AllAdjacentBelow (λ (a b : ℕ). a < b) result.now (length result.now) }
+    {
+        let start = self.before[first as usize] as usize;
+        let end = self.before[past as usize] as usize;
+        &self.places[start..end]
+    }
+}
