@@ -1,5 +1,3 @@
-pub mod PairsTrees
-pub mod PairsDemand
 pub mod CellLists
 pub mod Places
 pub mod MarkedCells

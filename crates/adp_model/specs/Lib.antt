@@ -30,7 +30,6 @@ pub mod GrammarFaults
 pub mod LimitFaults
 pub mod Command
 pub mod Verdict
-pub mod Examples
 pub mod TermText
 pub mod LineTokens
 pub mod JobLines
@@ -39,4 +38,3 @@ pub mod Declarations
 pub mod DeclaredNames
 pub mod TextFaults
 pub mod JobText
-pub mod TextExamples

@@ -12,8 +12,6 @@ mod output;
 mod problem;
 mod sequence;
 mod text;
-pub mod text_vectors;
-pub mod vectors;
 mod well_formed;
 
 pub use answers::Answers;

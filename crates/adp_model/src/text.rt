@@ -47,5 +47,9 @@ pub fn is_printable_byte(byte: u8) -> bool
 pub fn is_printable(bytes: &[u8]) -> bool
     ensures { result ≡ list_all is_printable_byte bytes.now }
 {
-    bytes.iter().all(|byte| is_printable_byte(*byte))
+    let mut printable = true;
+    for byte in bytes {
+        printable &= is_printable_byte(*byte);
+    }
+    printable
 }

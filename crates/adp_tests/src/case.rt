@@ -28,6 +28,24 @@ pub(crate) struct Outcome {
     pub(crate) difference: String,
 }
 
+impl Outcome {
+    /// That each line of a file of cases is one that means something, where none of them is stray.
+    pub(crate) fn of_stray_lines(alloc: Global, stray: u32) -> Result<Outcome, AllocError> {
+        let mut difference = String::new(alloc);
+        if stray > 0 {
+            push_difference(
+                &mut difference,
+                "the number of stray lines",
+                &format!(in alloc; "{stray}")?,
+            )?;
+        }
+        Ok(Outcome {
+            name: String::from_str(alloc, "each line of the file means something")?,
+            difference,
+        })
+    }
+}
+
 impl Case {
     /// A case without words and bytes, which gives nothing and ends with status 0.
     pub(crate) fn new(alloc: Global, name: &str) -> Result<Case, AllocError> {

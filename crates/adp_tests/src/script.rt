@@ -24,6 +24,7 @@ pub(crate) fn outcomes(alloc: Global, text: &str) -> Result<Vec<Outcome>, AllocE
     let mut outcomes = Vec::new(alloc);
     let mut blocks: Vec<Block> = Vec::new(alloc);
     let mut open = Open::Nothing;
+    let mut stray = 0u32;
     for line in text.lines() {
         let (word, rest) = line.split_once(' ').unwrap_or((line, ""));
         match word {
@@ -45,25 +46,30 @@ pub(crate) fn outcomes(alloc: Global, text: &str) -> Result<Vec<Outcome>, AllocE
                     Open::Case(case) => outcomes.push(case.outcome(alloc)?)?,
                 }
             }
-            _ => read_line(alloc, &mut open, &blocks, word, rest)?,
+            _ => {
+                if !read_line(alloc, &mut open, &blocks, word, rest)? {
+                    stray = stray.saturating_add(1);
+                }
+            }
         }
     }
+    outcomes.push(Outcome::of_stray_lines(alloc, stray)?)?;
     Ok(outcomes)
 }
 
-// A line of a case or a block.
+// Reads a line of a case or a block, and says whether it is one.
 fn read_line(
     alloc: Global,
     open: &mut Open,
     blocks: &[Block],
     word: &str,
     rest: &str,
-) -> Result<(), AllocError> {
+) -> Result<bool, AllocError> {
     match open {
-        Open::Nothing => Ok(()),
+        Open::Nothing => Ok(false),
         Open::Block(block) => match word.strip_prefix('|') {
             Some(form) => push_form(alloc, &mut block.bytes, blocks, form, rest),
-            None => Ok(()),
+            None => Ok(false),
         },
         Open::Case(case) => read_case_line(alloc, case, blocks, word, rest),
     }
@@ -75,7 +81,7 @@ fn read_case_line(
     blocks: &[Block],
     word: &str,
     rest: &str,
-) -> Result<(), AllocError> {
+) -> Result<bool, AllocError> {
     if let Some(form) = word.strip_prefix('|') {
         return push_form(alloc, &mut case.input, blocks, form, rest);
     }
@@ -85,18 +91,23 @@ fn read_case_line(
     if let Some(form) = word.strip_prefix('!') {
         return push_form(alloc, &mut case.error, blocks, form, rest);
     }
-    let number = rest.parse::<u32>().unwrap_or(0);
+    if word == "words" {
+        push_words(alloc, &mut case.words, rest)?;
+        return Ok(true);
+    }
+    let Ok(number) = rest.parse::<u32>() else {
+        return Ok(false);
+    };
     match word {
-        "words" => push_words(alloc, &mut case.words, rest)?,
         "status" => case.status = u8::try_from(number).unwrap_or(255),
         "read" => case.read_piece = number as usize,
         "read-fails" => case.failing_reads.push(u64::from(number))?,
         "write" => case.write_piece = number as usize,
         "write-fails" => case.failing_writes.push(u64::from(number))?,
         "room" => case.room = number as usize,
-        _ => {}
+        _ => return Ok(false),
     }
-    Ok(())
+    Ok(true)
 }
 
 // The words of a command, with one space between two.
@@ -107,28 +118,28 @@ fn push_words(alloc: Global, words: &mut Vec<String>, rest: &str) -> Result<(), 
     Ok(())
 }
 
-// Appends what a line spells: a text with its end, or in another form.
+// Appends what a line spells: a text with its end, or in another form. Says whether there is such a form.
 fn push_form(
     alloc: Global,
     out: &mut Vec<u8>,
     blocks: &[Block],
     form: &str,
     rest: &str,
-) -> Result<(), AllocError> {
+) -> Result<bool, AllocError> {
     let (count, text) = counted(rest);
     match form {
         "" => {
             push_text(out, rest.as_bytes())?;
             out.push(b'\n')?;
-            Ok(())
         }
-        "+" => push_text(out, rest.as_bytes()),
-        "*" => push_times(out, count, text.as_bytes(), alloc),
-        "@" => push_numbered(out, 0, count, text.as_bytes(), alloc),
-        "@1" => push_numbered(out, 1, count, text.as_bytes(), alloc),
-        "$" => push_block(out, blocks, rest),
-        _ => Ok(()),
+        "+" => push_text(out, rest.as_bytes())?,
+        "*" => push_times(out, count, text.as_bytes(), alloc)?,
+        "@" => push_numbered(out, 0, count, text.as_bytes(), alloc)?,
+        "@1" => push_numbered(out, 1, count, text.as_bytes(), alloc)?,
+        "$" => return push_block(out, blocks, rest),
+        _ => return Ok(false),
     }
+    Ok(true)
 }
 
 // A number and the text behind it.
@@ -139,11 +150,13 @@ fn counted(rest: &str) -> (u32, &str) {
     }
 }
 
-fn push_block(out: &mut Vec<u8>, blocks: &[Block], name: &str) -> Result<(), AllocError> {
+// Appends the bytes of the block of this name. Says whether there is one.
+fn push_block(out: &mut Vec<u8>, blocks: &[Block], name: &str) -> Result<bool, AllocError> {
     for block in blocks {
         if block.name.as_str() == name {
             out.extend_from_slice(&block.bytes)?;
+            return Ok(true);
         }
     }
-    Ok(())
+    Ok(false)
 }

@@ -1,6 +1,6 @@
 use crate::jobs::{DOUBLING, FEWEST, LENGTH, LINE, PAIRS, PIECES, TWO_LETTERS, job};
 use adp_model::{Job, LimitFault, Text};
-use grammar_check::{AdmitError, CheckError, Checked, admit, check, node_bound, score_bound};
+use grammar_check::{AdmitError, Checked, admit, check, node_bound, score_bound};
 use std::alloc::Global;
 use std::process::Abort;
 use std::test::Fail;
@@ -138,19 +138,5 @@ fn bounds_and_limits_of_costly_pieces(rt: HostRuntime) -> Result<(), Fail> {
         };
         assert!(rt; found == want);
     }
-    Ok(())
-}
-
-#[test]
-fn an_unknown_algebra_is_refused(rt: HostRuntime) -> Result<(), Fail> {
-    let alloc = rt.alloc();
-    let name = Text::new(Vec::from_slice(alloc, b"zip")?);
-    let job = job(alloc, PAIRS)?;
-    let kind = match check(alloc, job.grammar, &name) {
-        Err(CheckError::Fault(fault)) => fault.kind,
-        Err(CheckError::Memory) => return Err(Fail::new("out of memory")),
-        Ok(_checked) => 0,
-    };
-    assert_eq!(rt; kind, 1);
     Ok(())
 }

@@ -1,10 +1,8 @@
-ghost use Rattle.std.specs.Prelude.{◌≡◌, ◌≤◌, ◌^◌, length, IfOk};
+ghost use Rattle.std.specs.Prelude.{◌≤◌, ◌^◌, length};
 ghost use Rattle.adp_model.specs.Printable.{IsPrintable};
 
-use adp_model::{Kind, Linear, Sequence, Text};
-use algebra_terms::{
-    TermError, Token, TokenKind, eval, is_term, line_tokens, monotone, read_term, strict,
-};
+use adp_model::Text;
+use algebra_terms::{TermError, Token, TokenKind, is_term, line_tokens, read_term};
 use std::alloc::{AllocError, Global};
 use std::test::Fail;
 
@@ -12,13 +10,6 @@ fn text(alloc: Global, bytes: &[u8]) -> Result<Text, AllocError>
     requires { IsPrintable bytes.now }
 {
     Ok(Text::new(Vec::from_slice(alloc, bytes)?))
-}
-
-fn term(alloc: Global, constant: i64, factors: &[i64]) -> Result<Linear, AllocError>
-    ensures { IfOk result (λ term. (term.constant ≡ constant) × (term.factors ≡ factors.now)) }
-{
-    let factors = Sequence::new(Vec::from_slice(alloc, factors)?);
-    Ok(Linear { constant, factors })
 }
 
 // The constant and the first two factors, where the variables are `x`, `y` and `x` again, whose factor is 0.
@@ -75,19 +66,5 @@ fn lines_have_tokens(rt: HostRuntime) -> Result<(), Fail> {
         assert_eq!(rt; *token, Token { kind, from, to });
     }
     assert!(rt; !is_term(line, &found));
-    Ok(())
-}
-
-#[test]
-fn terms_are_evaluated_and_judged(rt: HostRuntime) -> Result<(), Fail> {
-    let put = term(rt.alloc(), 1, &[-3, 1])?;
-    let inner = eval(&put, &[-2, 0]);
-    assert_eq!(rt; inner, 7);
-    assert_eq!(rt; eval(&put, &[5, 7]), -7);
-    let kinds = [Kind::Token, Kind::Score];
-    assert!(rt; monotone(&put, &kinds));
-    assert!(rt; strict(&put, &kinds));
-    let scores = [Kind::Score, Kind::Score];
-    assert!(rt; !monotone(&put, &scores));
     Ok(())
 }

@@ -1,15 +1,25 @@
 -- The greatest over all ways to spread spare letters over parts, one part at a time.
-use Rattle.std.proofs.Common.{◌≡◌, ℕ, suc, ◌+◌, ◌-◌, ◌^◌, ◌<◌, ◌≤◌, min, max, List, length, drop, nat_cmp, sym, ap, ap₂, ◌∙◌, arith}
+use Rattle.std.proofs.Common.{◌≡◌, ℕ, suc, ◌+◌, ◌-◌, ◌*◌, ◌^◌, ◌<◌, ◌≤◌, min, max, List, length, drop, nat_cmp, sym, ap, ap₂, subst, ◌∙◌, arith}
 use Rattle.std.specs.Ordering.{ord_max}
 use Rattle.std.proofs.lemmas.List.{drop_more}
 use Rattle.adp_model.specs.LimitFaults.{told}
 use Rattle.grammar_check.specs.declared.part.Part.{Part}
-use Rattle.grammar_check.specs.declared.part.Worth.TheVariants.{OfLetters}
-use Rattle.grammar_check.specs.Plans.{worth_of, greatest_from, rooms, spread, part_at}
+use Rattle.grammar_check.specs.declared.part.Worth.{Worth}
+use Rattle.grammar_check.specs.declared.part.Worth.TheVariants.{OfRule, OfLetters}
+use Rattle.grammar_check.specs.declared.table.Table.{Table}
+use Rattle.grammar_check.specs.Tables.{entry}
+use Rattle.grammar_check.specs.Plans.{ReadsRight, worth_of, greatest_from, rooms, spread, part_at}
 use Rattle.grammar_check.proofs.CutNumbers.{told-sum, told-max}
 
 pub ord_max-numbers : (a b : ℕ) → ord_max nat_cmp a b ≡ max a b
 ord_max-numbers a b = grind arith
+
+-- the bound of a rule that is counted once is what it adds
+pub once_read : (bound : ℕ → ℕ → ℕ) (table : Table) (worth : Worth) (rule factor len number : ℕ) → worth ≡ OfRule rule factor → factor ≡ 1 → ReadsRight bound table worth len → number ≡ entry table rule len → number ≡ told (worth_of bound worth len)
+once_read bound table worth rule factor len number is once reads number_is =
+    let right : entry table rule len ≡ told (bound rule len) = subst (λ w. ReadsRight bound table w len) is reads in
+    let same : bound rule len ≡ factor * bound rule len = subst (λ f. bound rule len ≡ f * bound rule len) (sym once) (omega arith) in
+    subst (λ w. number ≡ told (worth_of bound w len)) (sym is) (number_is ∙ right ∙ ap told same)
 
 -- what a part adds with so many letters more than its least length, and the parts behind it with the others
 abbrev pub added_by : (ℕ → ℕ → ℕ) → Part → List Part → ℕ → ℕ → ℕ

@@ -1,11 +1,11 @@
-ghost use Rattle.std.specs.Prelude.{◌≡◌, ℕ, ◌+◌, ◌-◌, ◌^◌, ◌<◌, ◌≤◌, min, length, drop, vec_len, IfOk};
+ghost use Rattle.std.specs.Prelude.{◌≡◌, ℕ, ◌+◌, ◌-◌, ◌^◌, ◌<◌, ◌≤◌, min, length, drop, slice_index, vec_len, IfOk};
 ghost use Rattle.std.specs.List.{All};
 ghost use Rattle.adp_model.specs.LimitFaults.{told};
-ghost use Rattle.grammar_check.specs.Plans.{IsReadable, ReadsRight, lows, rooms, spread, part_at};
+ghost use Rattle.grammar_check.specs.Plans.{IsReadable, ReadsRight, lows, rooms, spread, part_at, worth_of};
 ghost use Rattle.grammar_check.specs.Tables.{entry};
 
 use crate::cut::cut_sum;
-use crate::part::Part;
+use crate::part::{Part, Worth};
 use crate::table::Table;
 use std::alloc::{AllocError, Global};
 
@@ -78,6 +78,9 @@ impl Alternative {
             → result ≡ told (spread bound (drop place self.now.parts.items) spare) }
     {
         let part = self.parts[place];
+        if let Worth::OfRule { rule, factor: 1 } = part.worth {
+            return self.best_of_rule(place, spare, rest_room, bounds.row(rule as usize));
+        }
         let first = spare.saturating_sub(rest_room);
         let last = spare.min(part.room);
         let mut best = 0;
@@ -85,6 +88,31 @@ impl Alternative {
             let here = part.worth.at(bounds, part.low + more);
             let rest = self.spreads.get(place + 1, spare - more);
             best = best.max(cut_sum(here, rest));
+        }
+        best
+    }
+
+    /// The same, where the first of these parts is a rule whose bound is counted once, and these are the rule's bounds.
+    fn best_of_rule(&self, place: usize, spare: usize, rest_room: usize, own: &[u64]) -> u64
+        requires place { place < vec_len self.now.parts }
+        requires column { spare < self.now.spreads.width }
+        requires within { (part_at self.now.parts.items place).low + spare < length own.now }
+        requires rest_room { rest_room ≡ min (rooms (drop (place + 1) self.now.parts.items)) (2 ^ 64 - 1) }
+        ensures { (bound : ℕ → ℕ → ℕ)
+            → ((more : ℕ) → more ≤ spare → slice_index own.now ((part_at self.now.parts.items place).low + more)
+            ≡ told (worth_of bound (part_at self.now.parts.items place).worth
+            ((part_at self.now.parts.items place).low + more)))
+            → ((column : ℕ) → column ≤ spare → entry self.now.spreads (place + 1) column
+            ≡ told (spread bound (drop (place + 1) self.now.parts.items) column))
+            → result ≡ told (spread bound (drop place self.now.parts.items) spare) }
+    {
+        let part = self.parts[place];
+        let first = spare.saturating_sub(rest_room);
+        let last = spare.min(part.room);
+        let others = self.spreads.row(place + 1);
+        let mut best = 0;
+        for more in first..last + 1 {
+            best = best.max(cut_sum(own[part.low + more], others[spare - more]));
         }
         best
     }

@@ -1,4 +1,4 @@
-ghost use Rattle.std.specs.Prelude.{◌≡◌, ◌≢◌, ℕ, ◌+◌, ◌*◌, ◌^◌, ◌<◌, vec_len, slice_index, IfOk};
+ghost use Rattle.std.specs.Prelude.{◌≡◌, ◌≢◌, ℕ, ◌+◌, ◌*◌, ◌^◌, ◌<◌, length, vec_len, slice_index, IfOk};
 
 use std::alloc::{AllocError, Global};
 
@@ -36,6 +36,17 @@ impl Table {
         ensures { result ≡ entry self.now row column }
     {
         self.values[row * self.width + column]
+    }
+
+    /// The numbers of a row, by column.
+    pub fn row(&self, row: usize) -> &[u64]
+        requires { row < self.now.rows }
+        ensures width { length result.now ≡ self.now.width }
+        ensures entries { (column : ℕ) → column < self.now.width
+            → slice_index result.now column ≡ entry self.now row column }
+    {
+        let start = row * self.width;
+        &self.values[start..start + self.width]
     }
 
     /// Writes the number of a row and a column.

@@ -1,13 +1,14 @@
 -- The first line of a text, and the lines behind it.
-use Rattle.std.proofs.Common.{◌≡◌, ℕ, suc, ◌+◌, ◌<◌, ◌==◌, List, [], ◌∷◌, Bool, true, false, not, cond, ltb, Option, Some, None, unwrap_or, length, take, drop, ◌≢◌, drop_of_length-le, refl, ap, sym, ◌∙◌, arith}
+use Rattle.std.proofs.Common.{◌≡◌, ℕ, suc, ◌+◌, ◌<◌, ◌==◌, List, [], ◌∷◌, Bool, true, false, not, Option, Some, None, unwrap_or, length, take, drop, get_or, ◌≢◌, drop_of_length-le, refl, ap, sym, ◌∙◌, arith}
 use Rattle.std.specs.List.{slice_split, position_or_len}
 use Rattle.std.specs.Char.{is_newline}
 use Rattle.std.specs.Str.Lines.{strip_carriage_return, lines_of_parts}
 use Rattle.std.proofs.lemmas.List.Splits.{slice_split_first}
-use Rattle.std.proofs.lemmas.List.Sums.{prefix_len-le-length}
-use Rattle.std.proofs.lemmas.Bool.{ltb-false}
+use Rattle.std.proofs.lemmas.List.Sums.{prefix_len-le-length, position_or_len_is}
+use Rattle.std.proofs.lemmas.Bool.{false_from_ne_true}
 use Rattle.std.proofs.lemmas.Bool.Decides.{nat_tests}
 use Rattle.std.proofs.Math.Dec.{eqb-suc-zero}
+use Rattle.memchr.specs.Find.{IsFirstByte, is_byte}
 use Rattle.adp_model.specs.JobLines.{job_lines}
 
 front_first : (line : List ℕ) (rest : List (List ℕ)) (first : List ℕ) (others : List (List ℕ)) → rest ≡ first ∷ others → lines_of_parts (line ∷ rest) ≡ strip_carriage_return line ∷ lines_of_parts rest
@@ -56,14 +57,16 @@ first_of_one [] h end = absurd (omega arith)
 first_of_one (byte ∷ text) h end = ap lines_of_parts (no_split (byte ∷ text) end) ∙ one_part (byte ∷ text) (some_bytes (length text))
 
 -- the place of the first newline, or the length
-pub found_end : (text : List ℕ) (found : Option ℕ)
-    → found ≡ cond (ltb (position_or_len is_newline text) (length text)) (Some (position_or_len is_newline text)) None
+pub found_end : (text : List ℕ) (found : Option ℕ) → IsFirstByte (is_byte 10) text found
     → unwrap_or found (length text) ≡ position_or_len is_newline text
-found_end text found h = step (ltb (position_or_len is_newline text) (length text)) refl
-  where
-    step : (inside : Bool) → ltb (position_or_len is_newline text) (length text) ≡ inside → unwrap_or found (length text) ≡ position_or_len is_newline text
-    step true e = rw (h, e) refl
-    step false e = rw (h, e) (omega (arith, prefix_len-le-length (λ (byte : ℕ). not (is_newline byte)) text, ltb-false _ _ e))
+found_end text None none =
+    sym (position_or_len_is is_newline text (length text) 0 (omega arith)
+    (λ place below. false_from_ne_true (is_newline (get_or text place 0)) (none place (omega arith) below))
+    (λ within. absurd (omega (arith, within))))
+found_end text (Some place) (first, ends) =
+    sym (position_or_len_is is_newline text place 0 (omega (arith, first.high))
+    (λ other below. false_from_ne_true (is_newline (get_or text other 0)) (first.before other (omega arith) below))
+    (λ _. ends))
 
 -- a text that is one line
 pub whole_line : (text : List ℕ) (end : ℕ) → false ≡ (length text == 0) → end ≡ position_or_len is_newline text → end ≡ length text

@@ -9,7 +9,7 @@ use Rattle.adp_model.specs.Parts.{arguments_of}
 use Rattle.adp_model.specs.Preference.{LexicographicallyLess}
 use Rattle.adp_model.specs.Splits.{place, ends_by, FitsSpan, IsViable}
 use Rattle.adp_model.specs.Walk.{rank_of, IsVisitedBefore, IsFirstVisited, IsNextVisited, IsLastVisited}
-use Rattle.seq_reference.specs.Choices.{IsFirstCuts, IsNextCuts, IsLastCuts}
+use Rattle.seq_reference.specs.Cuts.{IsFirstCuts, IsNextCuts, IsLastCuts}
 
 -- the position lies in the cell
 abbrev pub InCell : Cell → ℕ → Type 0

@@ -1,7 +1,6 @@
 pub mod Orders
 pub mod Formed
 pub mod Cuts
-pub mod Nexts
 pub mod Placing
 pub mod Spans
 pub mod Firsts

@@ -1,5 +1,4 @@
-pub mod Choices
-pub mod Choosing
+pub mod Cuts
 pub mod Filling
 pub mod SolvedFields
 pub mod Sweeping

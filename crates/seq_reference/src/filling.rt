@@ -1,15 +1,15 @@
-ghost use Rattle.std.specs.Prelude.{◌≡◌, ◌↔◌, ◌+◌, ◌<◌, ◌≤◌, IfOk, length};
+ghost use Rattle.std.specs.Prelude.{◌≡◌, ◌↔◌, ◌+◌, ◌<◌, ◌≤◌, IfOk, Some, length, true};
 ghost use Rattle.adp_model.specs.declared.cell.Cell.{Cell};
 ghost use Rattle.adp_model.specs.Cells.{IsCounted};
 ghost use Rattle.adp_model.specs.Demand.{IsDemanded};
-ghost use Rattle.split_lines.specs.Entries.{HasEntry, IsMarked};
+ghost use Rattle.split_lines.specs.Entries.{HasEntry, in_row};
 ghost use Rattle.seq_reference.specs.Sweeping.{AreRanked};
 ghost use Rattle.seq_reference.specs.Filling.{AreFilled, IsFilledBefore, IsFromStart};
 
 use crate::rank_order::rules_by_rank;
 use adp_model::Cell;
 use adp_model::laws::demand::{demanded_cells_are_counted, demanded_children_are_below};
-use split_lines::{Lines, NO_CANDIDATE, Table, cell_score};
+use split_lines::{Lines, Scores, Table, cell_score};
 use std::alloc::{AllocError, Global};
 
 /// A place from `least` on and no later than `past`, before which no counted cell ends that begins at `from` and ends
@@ -40,10 +40,10 @@ fn fill_span(
     marks: &Table<'_, bool>,
     from: u16,
     to: u16,
-    scores: &mut Table<'_, i64>,
+    scores: &mut Scores<'_>,
 )
     requires ranked { AreRanked lines.now rules.now }
-    requires marked { (cell : Cell) → IsMarked marks.now cell ↔ IsDemanded lines.now cell }
+    requires marked { (cell : Cell) → (in_row marks.now cell ≡ Some true) ↔ IsDemanded lines.now cell }
     requires filled { AreFilled lines.now scores.old (IsFilledBefore from to) }
     ensures { AreFilled lines.now scores.new (IsFilledBefore from (to + 1)) }
 {
@@ -56,7 +56,7 @@ fn fill_span(
             from,
             to,
         };
-        if marks.is_marked(cell) {
+        if marks.is_marked_in_row(cell) {
             let score = cell_score(lines, scores, cell);
             scores.keep(cell, score);
         }
@@ -69,11 +69,11 @@ fn fill_start(
     rules: &[u32],
     marks: &Table<'_, bool>,
     from: u16,
-    scores: &mut Table<'_, i64>,
+    scores: &mut Scores<'_>,
 )
     requires ranked { AreRanked lines.now rules.now }
     requires same_problem { marks.now.problem ≡ lines.now }
-    requires marked { (cell : Cell) → IsMarked marks.now cell ↔ IsDemanded lines.now cell }
+    requires marked { (cell : Cell) → (in_row marks.now cell ≡ Some true) ↔ IsDemanded lines.now cell }
     requires filled { AreFilled lines.now scores.old (IsFromStart (from + 1)) }
     ensures { AreFilled lines.now scores.new (IsFromStart from) }
 {
@@ -88,15 +88,15 @@ fn fill_start(
     }
 }
 
-/// The scores of the demanded cells, which are the marked ones. Fails for want of memory alone. Its time is in
+/// The scores of the demanded cells, which are marked in their rows. Fails for want of memory alone. Its time is in
 /// proportion to the counted cells, times rules, and to the places of the demanded cells' lines.
 pub fn filled_scores<'a>(
     alloc: Global,
     lines: &Lines<'a>,
     marks: &Table<'a, bool>,
-) -> Result<Table<'a, i64>, AllocError>
+) -> Result<Scores<'a>, AllocError>
     requires same_problem { marks.now.problem ≡ lines.now }
-    requires marked { (cell : Cell) → IsMarked marks.now cell ↔ IsDemanded lines.now cell }
+    requires marked { (cell : Cell) → (in_row marks.now cell ≡ Some true) ↔ IsDemanded lines.now cell }
     ensures problem { IfOk result (λ scores. scores.problem ≡ lines.now) }
     ensures scored { IfOk result (λ scores. (cell : Cell) → IsDemanded lines.now cell → HasEntry scores cell) }
 {
@@ -104,7 +104,7 @@ pub fn filled_scores<'a>(
     problem.admissible();
     demanded_cells_are_counted();
     let rules = rules_by_rank(alloc, problem)?;
-    let mut scores = Table::new(alloc, problem, NO_CANDIDATE)?;
+    let mut scores = Scores::new(alloc, problem)?;
     for from in (0..problem.word.bytes().len() as u16 + 1).rev() {
         fill_start(lines, &rules, marks, from, &mut scores);
     }

@@ -4,7 +4,6 @@
 #![tactic(auto)]
 
 mod answering;
-mod choices;
 mod demand;
 mod filling;
 mod parts;
@@ -12,6 +11,7 @@ mod rank_order;
 mod solved;
 mod solving;
 mod values;
+mod viable_cuts;
 
 pub use solved::Solved;
 pub use solving::solve;

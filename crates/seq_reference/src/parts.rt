@@ -1,7 +1,7 @@
 ghost use Rattle.std.specs.Prelude.{◌≡◌, ◌<◌, length};
 ghost use Rattle.adp_model.specs.Parts.{alternatives_of, arguments_of, algebra_of, term_of};
 
-use adp_model::{Algebra, Alt, Arg, Goal, Linear, Problem};
+use adp_model::{Algebra, Alt, Arg, Linear, Problem};
 
 /// The alternatives of a rule.
 pub fn alternatives<'a>(problem: &'a Problem, rule: u32) -> &'a [Alt]
@@ -29,13 +29,6 @@ fn algebra<'a>(problem: &'a Problem) -> &'a Algebra
     ensures { result.now ≡ algebra_of problem.now }
 {
     &problem.grammar.algebras.as_slice()[problem.algebra as usize]
-}
-
-/// Which scores are better.
-pub fn goal(problem: &Problem) -> Goal
-    ensures { result ≡ (algebra_of problem.now).goal }
-{
-    algebra(problem).goal
 }
 
 /// The term of an alternative.

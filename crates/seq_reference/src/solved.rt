@@ -1,13 +1,13 @@
-ghost use Rattle.std.specs.Prelude.{◌≡◌, ◌↔◌, IfSome, IsSome, length};
+ghost use Rattle.std.specs.Prelude.{◌≡◌, ◌↔◌, IfSome, IsSome, Some, length, true};
 ghost use Rattle.adp_model.specs.declared.cell.Cell.{Cell};
 ghost use Rattle.adp_model.specs.Answers.{IsAnswer};
 ghost use Rattle.adp_model.specs.Demand.{IsDemanded, IsDemandedCount};
-ghost use Rattle.split_lines.specs.Entries.{HasEntry, IsMarked};
+ghost use Rattle.split_lines.specs.Entries.{HasEntry, in_row};
 
 use crate::answering::cell_answer;
 use adp_model::laws::demand::demanded_cells_are_counted;
 use adp_model::{Answer, Answers, Cell};
-use split_lines::{Lines, Table};
+use split_lines::{Lines, Scores, Table};
 use std::marker::Model;
 
 /// The answers of a problem's demanded cells. Contracts see it as the problem.
@@ -15,7 +15,7 @@ use std::marker::Model;
 pub struct Solved<'a> {
     lines: Lines<'a>,
     marks: Table<'a, bool>,
-    scores: Table<'a, i64>,
+    scores: Scores<'a>,
     cells: u64,
 }
 
@@ -32,15 +32,15 @@ impl<'a> Model for Solved<'a> {
 }
 
 impl<'a> Solved<'a> {
-    /// The solution with these marks and scores of the demanded cells, and their number.
+    /// The solution with these marks in rows and scores of the demanded cells, and their number.
     pub(crate) fn new(
         lines: Lines<'a>,
         marks: Table<'a, bool>,
-        scores: Table<'a, i64>,
+        scores: Scores<'a>,
         cells: u64,
     ) -> Solved<'a>
         requires same_problem { scores.problem ≡ lines }
-        requires marked { (cell : Cell) → IsMarked marks cell ↔ IsDemanded lines cell }
+        requires marked { (cell : Cell) → (in_row marks cell ≡ Some true) ↔ IsDemanded lines cell }
         requires scored { (cell : Cell) → IsDemanded lines cell → HasEntry scores cell }
         requires counted { IsDemandedCount lines cells }
         ensures { result ≡ lines.entry }
@@ -73,7 +73,7 @@ impl<'a> Answers for Solved<'a> {
         let problem = self.lines.problem();
         problem.admissible();
         demanded_cells_are_counted();
-        if self.marks.is_marked(cell) {
+        if self.marks.is_marked_in_row(cell) {
             Some(cell_answer(problem, &self.lines, &self.scores, cell))
         } else {
             None

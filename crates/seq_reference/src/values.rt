@@ -13,13 +13,13 @@ use adp_model::laws::derivation::derived_trees_span_their_cell;
 use adp_model::laws::well_formed::arguments_are_few_and_known;
 use adp_model::{Cell, Choice, Problem};
 use algebra_terms::eval;
-use split_lines::{Lines, Table, argument_value};
+use split_lines::{Lines, Scores, argument_value};
 
 /// The score of a split at the best scores of its arguments' cells; `None` where one of these has no candidate.
 pub fn split_score(
     problem: &Problem,
     lines: &Lines<'_>,
-    scores: &Table<'_, i64>,
+    scores: &Scores<'_>,
     cell: Cell,
     choice: Choice,
 ) -> Option<i64>

@@ -1,12 +1,15 @@
 -- How far letters of a class go on, and what the letters of a span weigh, letter by letter.
-use Rattle.std.proofs.Common.{◌≡◌, ◌↔◌, ℕ, suc, ◌+◌, ◌-◌, ◌*◌, ◌^◌, ◌<◌, ◌≤◌, ℤ, pos, ◌+ℤ◌, ◌-ℤ◌, nat_abs, true, false, Option, Some, None, List, [], ◌∷◌, ◌++◌, length, take, drop, get_or, refl, sym, ap, subst, ◌∙◌, inl, inr, arith, length-drop}
+use Rattle.std.proofs.Common.{◌≡◌, ◌↔◌, ℕ, suc, ◌+◌, ◌-◌, ◌*◌, ◌^◌, ◌<◌, ◌≤◌, min, ℤ, pos, ◌+ℤ◌, ◌-ℤ◌, nat_abs, true, false, Option, Some, None, List, [], ◌∷◌, ◌++◌, length, take, drop, get_or, refl, sym, ap, subst, ◌∙◌, inl, inr, arith, length-drop}
 use Rattle.std.specs.List.{AllByRecursion}
 use Rattle.std.specs.Option.{is_some}
 use Rattle.std.proofs.lemmas.Bool.{cases_lt, false≢true}
 use Rattle.std.proofs.lemmas.Int.{ints}
 use Rattle.std.proofs.lemmas.List.{take_more, get_or-drop, drop_more, take-take, take-append-drop, drop-take}
-use Rattle.adp_model.specs.PosedProblem.{IsSpan}
+use Rattle.adp_model.specs.PosedProblem.{PosedProblem, IsSpan}
+use Rattle.adp_model.specs.Parts.{letters_of}
 use Rattle.adp_model.specs.Tokens.{letters_between, IsIn, weight_of, total_weight}
+use Rattle.yield_sizes.specs.Placing.{IsClassEnd}
+use Rattle.split_lines.specs.Classes.{IsAhead}
 
 -- all letters of a span are in the class
 abbrev pub AllIn : List (ℕ × ℤ) → List ℕ → ℕ → ℕ → Type 0
@@ -151,3 +154,21 @@ total_same class word i l e =
 -- what the first so many letters weigh
 abbrev pub IsSumOf : List (ℕ × ℤ) → List ℕ → ℕ → ℤ → Type 0
 IsSumOf class word place sum = (sum ≡ total_weight class (take place word)) × (nat_abs sum ≤ 2 ^ 63 * place)
+
+-- letters of a class go on as far as is told, or up to the last place
+pub class_end_at : (p : PosedProblem) (class from last end : ℕ) (ahead : List ℕ) → IsSpan p.word from last → IsAhead (letters_of p.grammar class) p.word ahead → end ≡ min last (get_or ahead from 0) → IsClassEnd p class from last end
+class_end_at p class from last end ahead span are end_is =
+    let order = span.in_order in
+    let here : from ≤ get_or ahead from 0 = (are.told from from (record { in_order = omega arith; in_word = omega (arith, span.in_word) })).0 (none from) in
+    record {
+      after = omega arith;
+      within = omega arith;
+      exact = λ to long short.
+          let told = are.told from to (record { in_order = long; in_word = omega (arith, span.in_word) }) in (
+            λ all. let reached = told.0 all in omega arith,
+            λ before. told.1 (omega arith),
+          );
+    }
+  where
+    none : (from : ℕ) → AllByRecursion (IsIn (letters_of p.grammar class)) (letters_between p.word from from)
+    none from = rw (no_letters p.word from from (omega arith)) tt

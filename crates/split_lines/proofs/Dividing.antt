@@ -12,11 +12,6 @@ split_at_first (one ∷ rest) first l is =
     let fewer : suc (length rest) - 1 ≡ length rest = omega arith in
     ap (λ x. x ∷ rest) (sym is) ∙ ap (λ xs. first ∷ xs) (sym (take_all (suc (length rest) - 1) rest (omega arith)))
 
-pub rest_of : {X : Type 0} (all : List X) (first : X) (later : List X) → all ≡ first ∷ later → take (length all - 1) (drop 1 all) ≡ later
-rest_of all first later e =
-    let fewer : suc (length later) - 1 ≡ length later = omega arith in
-    ap (λ xs. take (length xs - 1) (drop 1 xs)) e ∙ take_all (suc (length later) - 1) later (omega arith)
-
 -- what arguments cover goes forward
 pub cover_forward : (p : PosedProblem) (arguments : List Arg) (from to : ℕ) → Cover p arguments from to → from ≤ to
 cover_forward p [] from to h = omega arith

@@ -6,8 +6,8 @@ pub mod CountedBlocks
 pub mod CountedFars
 pub mod CountedSpans
 pub mod Dividing
-pub mod EndPlaces
 pub mod FirstEnds
+pub mod FlagLists
 pub mod FixedTotals
 pub mod Formed
 pub mod FrontPlaces
@@ -15,7 +15,7 @@ pub mod Greatest
 pub mod Growing
 pub mod KeptLines
 pub mod KeptScores
-pub mod LengthSums
+pub mod LargestSums
 pub mod LineDemands
 pub mod LineFacts
 pub mod LinePlaces
@@ -23,11 +23,16 @@ pub mod LineTotals
 pub mod Lists
 pub mod MatchLists
 pub mod Matched
+pub mod NextMatches
+pub mod OneEnds
+pub mod PackedScores
+pub mod PlainTotals
 pub mod Scoring
 pub mod Splitting
 pub mod StartPlaces
 pub mod Tables
 pub mod Tokens
+pub mod Told
 pub mod Totalling
 pub mod Values
 pub mod WholeLines

@@ -27,7 +27,7 @@ module _ (p : PosedProblem) where
   cover_of_demands (argument ∷ arguments) from to cell (end, fits, inl (is, cover)) = (end, fits, cover)
   cover_of_demands (argument ∷ arguments) from to cell (end, fits, inr later) = (end, fits, cover_of_demands arguments end to cell later)
 
-  cover_parts : (front back : List Arg) (from to : ℕ) → Cover p (front ++ back) from to → (middle : ℕ) × Cover p front from middle × Cover p back middle to
+  pub cover_parts : (front back : List Arg) (from to : ℕ) → Cover p (front ++ back) from to → (middle : ℕ) × Cover p front from middle × Cover p back middle to
   cover_parts [] back from to cover = (from, refl, cover)
   cover_parts (argument ∷ front) back from to (end, fits, cover) =
       let parts = cover_parts front back end to cover in
@@ -37,7 +37,7 @@ module _ (p : PosedProblem) where
   cover_join [] back from middle to here cover = subst (λ at. Cover p back at to) (sym here) cover
   cover_join (argument ∷ front) back from middle to (end, fits, others) cover = (end, fits, cover_join front back end middle to others cover)
 
-  no_cell : (argument : Arg) (from to : ℕ) (cell : Cell) → IsFixed argument → IsCellOf argument from to cell → ⊥
+  pub no_cell : (argument : Arg) (from to : ℕ) (cell : Cell) → IsFixed argument → IsCellOf argument from to cell → ⊥
   no_cell (Rule rule) from to cell fixed is = fixed
   no_cell (Literal text) from to cell fixed is = let e = is.rule in absurd cc
   no_cell (Letter class) from to cell fixed is = let e = is.rule in absurd cc

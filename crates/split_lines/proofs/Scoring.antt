@@ -1,6 +1,7 @@
 -- The best score of a cell is the greatest of its splits' scores, turned.
 use Rattle.std.proofs.Common.{◌≡◌, ℕ, zero, suc, negsuc, ◌*◌, ◌<◌, ◌≤◌, ◌⊎◌, ℤ, pos, neg_ℤ, ◌+ℤ◌, ◌*ℤ◌, ◌≤ℤ◌, ◌<ℤ◌, nat_abs, Option, Some, None, List, [], ◌∷◌, length, map, refl, sym, ap, subst, ◌∙◌, inl, inr, arith}
-use Rattle.std.specs.Prelude.{MatchOption}
+use Rattle.std.specs.Prelude.{◌↔◌, Bool, true, false, MatchOption}
+use Rattle.std.proofs.lemmas.Bool.{false≢true}
 use Rattle.std.proofs.lemmas.Int.{ints}
 use Rattle.std.proofs.Math.IntN.{neg_ℤ-neg_ℤ, zero-*ℤ}
 use Rattle.adp_model.specs.declared.grammar.Goal.{Goal}
@@ -42,7 +43,7 @@ product_negated (pos (suc m)) (negsuc n) = neg_ℤ-neg_ℤ (pos (suc m * suc n))
 product_negated (negsuc m) (pos n) = neg_ℤ-neg_ℤ (pos (suc m * n))
 product_negated (negsuc m) (negsuc n) = refl
 
-turned_product : (goal : Goal) (a b : ℤ) → turned goal (a *ℤ b) ≡ (turned goal a *ℤ b)
+pub turned_product : (goal : Goal) (a b : ℤ) → turned goal (a *ℤ b) ≡ (turned goal a *ℤ b)
 turned_product Least a b = product_negated a b
 turned_product Greatest a b = refl
 
@@ -109,16 +110,23 @@ module _ (p : PosedProblem) (bellman : Bellman p) (cell : Cell) (span : IsSpan p
   abbrev Scored : ℤ → Choice → Type 0
   Scored = IsScoredSplit p (HasBestScore p) cell
 
-  scored_turned : (score : ℤ) (choice : Choice) → Scored score choice → HasScoreBefore p cell (length (alternatives_of p.grammar cell.rule)) (turned (algebra_of p).goal score)
-  scored_turned score choice split =
-      let in_range = split.viable.in_range in
-      (choice.alt, in_range, (split.values, values_of_split p (HasBestScore p) cell choice.alt choice.cuts split.values (some choice.alt in_range) (few choice.alt) split.viable split.are_values, ap (turned (algebra_of p).goal) split.scored))
+  scored_in : (score : ℤ) (choice : Choice) → Scored score choice → HasTurnedScore p cell choice.alt (turned (algebra_of p).goal score)
+  scored_in score choice split =
+      (split.values, values_of_split p (HasBestScore p) cell choice.alt choice.cuts split.values (some choice.alt split.viable.in_range) (few choice.alt) split.viable split.are_values, ap (turned (algebra_of p).goal) split.scored)
 
-  turned_scored : (number : ℤ) → HasScoreBefore p cell (length (alternatives_of p.grammar cell.rule)) number → (choice : Choice) × Scored (turned (algebra_of p).goal number) choice
-  turned_scored number (alternative, in_range, (values, have, is)) =
+  turned_in : (number : ℤ) (alternative : ℕ) → alternative < length (alternatives_of p.grammar cell.rule) → HasTurnedScore p cell alternative number → (cuts : List ℕ) × Scored (turned (algebra_of p).goal number) (record { alt = alternative; cuts = cuts })
+  turned_in number alternative in_range (values, have, is) =
       let split = split_of_values p (HasBestScore p) cell alternative values in_range (some alternative in_range) (few alternative) have in
       let score : turned (algebra_of p).goal number ≡ term_value (term_of p cell.rule alternative) values = ap (turned (algebra_of p).goal) is ∙ turned_twice (algebra_of p).goal (term_value (term_of p cell.rule alternative) values) in
-      (record { alt = alternative; cuts = split.0 }, record { viable = split.1; values = values; are_values = split.2; scored = score })
+      (split.0, record { viable = split.1; values = values; are_values = split.2; scored = score })
+
+  scored_turned : (score : ℤ) (choice : Choice) → Scored score choice → HasScoreBefore p cell (length (alternatives_of p.grammar cell.rule)) (turned (algebra_of p).goal score)
+  scored_turned score choice split = (choice.alt, split.viable.in_range, scored_in score choice split)
+
+  turned_scored : (number : ℤ) → HasScoreBefore p cell (length (alternatives_of p.grammar cell.rule)) number → (choice : Choice) × Scored (turned (algebra_of p).goal number) choice
+  turned_scored number (alternative, in_range, has) =
+      let split = turned_in number alternative in_range has in
+      (record { alt = alternative; cuts = split.0 }, split.1)
 
   no_score : (answer : Answer) → IsAnswer p cell answer → IsGreatestOf (HasScoreBefore p cell (length (alternatives_of p.grammar cell.rule))) None → IsAnswer p cell NoCandidate
   no_score NoCandidate is none = is
@@ -146,6 +154,30 @@ module _ (p : PosedProblem) (bellman : Bellman p) (cell : Cell) (span : IsSpan p
   score_found (Some greatest) result it is =
       let answer = bellman.answered cell span in
       subst (λ (found : Option ℤ). MatchOption found (IsAnswer p cell NoCandidate) (HasBestScore p cell)) (sym is) (best_score answer.0 greatest answer.1 it)
+
+  -- a number of an alternative that no split betters is the best score, where a split of the alternative has that
+  best_in : (best total : ℤ) (choice : Choice) → HasBestScore p cell best → choice.alt < length (alternatives_of p.grammar cell.rule) → IsGreatestOf (HasTurnedScore p cell choice.alt) (Some total) → Scored best choice → turned (algebra_of p).goal total ≡ best
+  best_in best total choice (preferred, is) in_range greatest split =
+      let goal = (algebra_of p).goal in
+      let first = bellman.only cell (Best best preferred) span is in
+      let given = turned_in total choice.alt in_range greatest.0 in
+      let l : turned goal best ≤ℤ turned goal (turned goal total) = subst (λ it. turned goal best ≤ℤ it) (sym (turned_twice goal total)) (greatest.1 (turned goal best) (scored_in best choice split)) in
+      sym (better_or_same goal best (turned goal total) (not_better goal best (turned goal total) l) (λ better. first.2 (turned goal total) (record { alt = choice.alt; cuts = given.0 }) tt given.1 (inl better)))
+
+  -- whether an alternative gives the best score
+  pub gives_best : (best : ℤ) (alternative : ℕ) (greatest : Option ℤ) (test : Bool) → HasBestScore p cell best → alternative < length (alternatives_of p.grammar cell.rule) → IsGreatestOf (HasTurnedScore p cell alternative) greatest
+      → MatchOption greatest (test ≡ false) (λ total. (test ≡ true) ↔ (turned (algebra_of p).goal total ≡ best)) → (test ≡ true) ↔ ((cuts : List ℕ) × Scored best (record { alt = alternative; cuts = cuts }))
+  gives_best best alternative None test is in_range none fails = (
+    λ holds. absurd (false≢true (sym fails ∙ holds)),
+    λ given. absurd (none (turned (algebra_of p).goal best) (scored_in best (record { alt = alternative; cuts = given.0 }) given.1)),
+  )
+  gives_best best alternative (Some total) test is in_range greatest told = (
+    λ holds.
+        let given = turned_in total alternative in_range greatest.0 in
+        let S : ℤ → Type 0 = λ score. Scored score (record { alt = alternative; cuts = given.0 }) in
+        (given.0, subst S (told.0 holds) given.1),
+    λ given. told.1 (best_in best total (record { alt = alternative; cuts = given.0 }) is in_range greatest given.1),
+  )
 
 -- a cell has one score at most, where it has one answer at most
 pub one_score : (p : PosedProblem) → ((cell : Cell) (a b : Answer) → IsAnswer p cell a → IsAnswer p cell b → a ≡ b) → (cell : Cell) (a b : ℤ) → HasBestScore p cell a → HasBestScore p cell b → a ≡ b

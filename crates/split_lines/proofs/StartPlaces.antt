@@ -1,5 +1,5 @@
 -- The places at which an argument may begin.
-use Rattle.std.proofs.Common.{◌≡◌, ℕ, ◌+◌, ◌-◌, ◌≤◌, ◌↔◌, max, Option, Some, IfSome, Bool, true, false, List, ◌++◌, length, take, drop, sym, ap, subst, ◌∙◌, arith, eqb}
+use Rattle.std.proofs.Common.{◌≡◌, ℕ, ◌+◌, ◌-◌, ◌≤◌, ◌↔◌, max, Option, Some, IfSome, Bool, true, false, List, ◌++◌, length, take, drop, sym, ap, subst, ◌∙◌, arith, eqb, length-take, length-drop}
 use Rattle.std.specs.List.{AllByRecursion, ends_with}
 use Rattle.std.proofs.lemmas.List.{length-take-le, drop-take, drop-drop, drop_at, take-append-drop}
 use Rattle.std.proofs.lemmas.Bool.{false≢true}
@@ -11,7 +11,11 @@ use Rattle.adp_model.specs.Parts.{letters_of}
 use Rattle.adp_model.specs.Sizes.{IsWithinSizes}
 use Rattle.adp_model.specs.Tokens.{letters_between, IsIn}
 use Rattle.split_lines.specs.Begins.{AreStarts}
-use Rattle.split_lines.proofs.EndPlaces.{length-letters_between}
+
+-- the letters of a span are as many as it is long
+pub length-letters_between : (word : List ℕ) (from to : ℕ) → IsSpan word from to → length (letters_between word from to) ≡ to - from
+length-letters_between word from to span =
+    simp (length-take, length-drop) (omega (arith, span.in_order, span.in_word))
 
 -- a number of letters from the first place on keeps a bound exactly where the place that they begin at does
 abbrev pub KeepsLeast : ℕ → ℕ → Option ℕ → ℕ → Type 0

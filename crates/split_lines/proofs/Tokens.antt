@@ -1,14 +1,13 @@
 -- Tokens of fixed length, and what they cover.
-use Rattle.std.proofs.Common.{◌≡◌, ◌↔◌, ℕ, min, ◌+◌, ◌<◌, ◌≤◌, Bool, true, List, [], ◌∷◌, length, ap, subst, arith}
+use Rattle.std.proofs.Common.{◌≡◌, ◌↔◌, ℕ, min, ◌+◌, ◌≤◌, Bool, true, List, [], ◌∷◌, length, ap, arith}
 use Rattle.adp_model.specs.declared.grammar.Arg.{Arg}
 use Rattle.adp_model.specs.declared.grammar.Arg.TheVariants.{Rule, Literal, Letter, Run}
 use Rattle.adp_model.specs.PosedProblem.{PosedProblem}
 use Rattle.adp_model.specs.Splits.{FitsSpan}
-use Rattle.yield_sizes.specs.Placing.{on_span, Cover, AreEnds}
+use Rattle.yield_sizes.specs.Placing.{on_span, Cover}
 use Rattle.split_lines.specs.Laid.{IsFixed}
 use Rattle.split_lines.specs.Matching.{fixed_length, HaveLetters}
-use Rattle.split_lines.proofs.EndPlaces.{length-letters_between}
-use Rattle.split_lines.proofs.Dividing.{cover_forward}
+use Rattle.split_lines.proofs.StartPlaces.{length-letters_between}
 
 -- a token of fixed length has its letters wherever it matches
 pub fixed_span : (p : PosedProblem) (token : Arg) (from cut : ℕ) → IsFixed token → FitsSpan p (on_span token from cut) → cut ≡ from + fixed_length token
@@ -42,22 +41,3 @@ no_letters_of_none p (token ∷ tokens) l from to h = absurd (omega arith)
 pub none_covers : (p : PosedProblem) (tokens : List Arg) (from to : ℕ) (test : Bool) → length tokens ≡ 0 → ((test ≡ true) ↔ (from ≡ to)) → (test ≡ true) ↔ Cover p tokens from to
 none_covers p [] from to test l same = same
 none_covers p (token ∷ tokens) from to test l same = absurd (omega arith)
-
--- a token that has no end leaves the tokens without a match
-pub no_end : (p : PosedProblem) (token : Arg) (later : List Arg) (from to start end : ℕ) → AreEnds p token from to (record { start = start; end = end }) → end ≤ start → Cover p (token ∷ later) from to → ⊥
-no_end p token later from to start end ends none h =
-    let before = cover_forward p later h.0 to h.2 in
-    let between = (ends.exact h.0 before).0 h.1 in
-    omega (arith, between.0, between.1)
-
--- where it has an end, the tokens match where the later ones do from there
-pub from_end : (p : PosedProblem) (token : Arg) (later : List Arg) (from to start end : ℕ) (test : Bool) → IsFixed token → AreEnds p token from to (record { start = start; end = end }) → start < end → ((test ≡ true) ↔ Cover p later start to) → (test ≡ true) ↔ Cover p (token ∷ later) from to
-from_end p token later from to start end test fixed ends some same =
-    let fits = (ends.exact start (omega (arith, ends.up_to_last))).1 (omega arith, some) in (
-      λ h. (start, fits, same.0 h),
-      λ h.
-          let one = fixed_span p token from start fixed fits in
-          let two = fixed_span p token from h.0 fixed h.1 in
-          let at : h.0 ≡ start = omega (arith, one, two) in
-          same.1 (subst (λ n. Cover p later n to) at h.2),
-    )

@@ -218,7 +218,7 @@ set_more old now Before After place value l before cases keeps here = record {
       ∙ before.others at (λ was. none (keeps at was));
 }
 
-set_like : {V : Type 0} (old new : List V) (Here There : ℕ → Type 0) (value : V) → ((at : ℕ) → There at → Here at) → ((at : ℕ) → Here at → There at) → AreSet old new Here value → AreSet old new There value
+pub set_like : {V : Type 0} (old new : List V) (Here There : ℕ → Type 0) (value : V) → ((at : ℕ) → There at → Here at) → ((at : ℕ) → Here at → There at) → AreSet old new Here value → AreSet old new There value
 set_like old new Here There value to from set_here = record {
   as_many = set_here.as_many;
   there = λ at is. set_here.there at (to at is);

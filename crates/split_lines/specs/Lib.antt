@@ -1,12 +1,17 @@
+pub mod ArgumentEntries
 pub mod Begins
 pub mod ClassFields
 pub mod Classes
 pub mod Entries
+pub mod Flags
 pub mod Laid
 pub mod Layout
 pub mod Lines
 pub mod LinesFields
 pub mod Matching
+pub mod Packing
 pub mod Rows
+pub mod ScoresFields
 pub mod Spans
+pub mod Sums
 pub mod Totals

@@ -1,5 +1,5 @@
 -- Where tokens of fixed length match.
-use Rattle.std.specs.Prelude.{◌≡◌, ◌↔◌, ℕ, ◌+◌, ◌<◌, ◌≤◌, List, length, slice_index}
+use Rattle.std.specs.Prelude.{◌≡◌, ◌↔◌, ℕ, ◌+◌, ◌<◌, ◌≤◌, Bool, true, Some, List, length, slice_get, slice_index}
 use Rattle.std.specs.List.{AllAdjacentBelow, Contains}
 use Rattle.adp_model.specs.declared.grammar.Arg.{Arg}
 use Rattle.adp_model.specs.declared.grammar.Arg.TheVariants.{Rule, Literal, Letter, Run}
@@ -29,9 +29,16 @@ pub record AreCounts (places before : List ℕ) : Type 0 where
   pub told : (place number : ℕ) → place < length before → number < length places
       → (slice_index places number < place) ↔ (number < slice_index before place)
 
--- how many letters the tokens have, where they match, and how many of these places come before each place
+-- there is a flag for each place of the word, and it is set where that is one of these
+pub record AreFlagsOf (count : ℕ) (places : List ℕ) (flags : List Bool) : Type 0 where
+  pub each : length flags ≡ count
+  pub told : (place : ℕ) → Contains places place ↔ (slice_get flags place ≡ Some true)
+
+-- how many letters the tokens have, where they match, how many of these places come before each place, and for each
+-- place whether it is one of these
 pub record AreMatches (p : PosedProblem) (tokens : List Arg) (matches : Matches) : Type 0 where
   pub letters : HaveLetters p tokens matches.letters
   pub places : AreMatchPlaces p tokens matches.letters (length p.word + 1) matches.places.items
   pub each : length matches.before.items ≡ length p.word + 2
   pub before : AreCounts matches.places.items matches.before.items
+  pub flags : AreFlagsOf (length p.word + 1) matches.places.items matches.flags.items

@@ -1,29 +1,30 @@
 //! The greatest total along a line.
 
-ghost use Rattle.std.specs.Prelude.{◌≡◌, ℕ, ◌-◌, ◌+◌, ◌<◌, ◌≤◌, ◌^◌, [], ◌∷◌, ◌++◌, IsSome, length, slice_get};
+ghost use Rattle.std.specs.Prelude.{◌≡◌, ℕ, ◌-◌, ◌+◌, ◌<◌, ◌≤◌, ◌^◌, [], ◌∷◌, ◌++◌, IsTrue, false, length};
 ghost use Rattle.std.specs.List.{AllByRecursion, Contains};
 ghost use Rattle.adp_model.specs.declared.cell.Cell.{Cell};
-ghost use Rattle.adp_model.specs.declared.grammar.Arg.TheVariants.{Rule};
 ghost use Rattle.adp_model.specs.PosedProblem.{IsSpan};
 ghost use Rattle.adp_model.specs.Splits.{AtRule};
 ghost use Rattle.adp_model.specs.Bellman.{HasBestScore};
 ghost use Rattle.yield_sizes.specs.Placing.{on_span, Cover};
+ghost use Rattle.split_lines.specs.Flags.{AreFlagged};
 ghost use Rattle.split_lines.specs.Laid.{IsFixed, Demands, AreBoundaries};
 ghost use Rattle.split_lines.specs.Lines.{HasLine, IsLine, parts_by};
-ghost use Rattle.split_lines.specs.Spans.{value_at};
+ghost use Rattle.split_lines.specs.ArgumentEntries.{AreProperNumbers, AreWorthless, IsPlain, entries_of};
 ghost use Rattle.split_lines.specs.Entries.{HasEntry};
 ghost use Rattle.split_lines.specs.Rows.{HasEntryAt};
 ghost use Rattle.split_lines.specs.Totals.{AreLow, AreWeighted, HasTotal, IsGreatestOf};
 
-use crate::argument_values::{Entries, token_value, value_among};
-use crate::grid::Grid;
+use crate::argument_values::{Entries, Numbers, token_value, value_among};
+use crate::layout::Side;
 use crate::lines::{Boundary, Line, Lines};
 use crate::matches::fixed_length;
-use crate::numbers::greater;
-use crate::table::Table;
-use adp_model::Arg;
+use crate::numbers::{greater, turned};
+use crate::scores::Scores;
+use crate::sums::{Places, greatest_long, greatest_medium, greatest_short};
 use adp_model::laws::bounds::bounds_are_sound;
 use adp_model::laws::order::answer_is_unique;
+use adp_model::{Arg, Goal};
 
 /// The arguments of a line with their factors: the two of open length, and the tokens between them and behind them.
 #[derive(Clone, Copy)]
@@ -81,30 +82,54 @@ fn fixed_total(lines: &Lines<'_>, tokens: &[Arg], factors: &[i64], from: u16, to
     factor * token_value(lines, token, from, end) + fixed_total(lines, tokens, factors, end, to)
 }
 
-/// The entries of an argument's cells with this near end, from one far end to another; none where it is a token.
-fn entries_between<'s>(
-    grid: &'s Grid<i64>,
-    argument: &Arg,
-    near: u16,
-    first: u16,
-    last: u16,
-) -> Entries<'s>
-    requires short { last + 1 < 2 ^ 16 }
-    requires there { (rule : ℕ) → argument.now ≡ Rule rule
-        → IsSome (value_at grid.now rule near first) × IsSome (value_at grid.now rule near last) }
-    ensures first { result.first ≡ first }
-    ensures values { (rule far : ℕ) → argument.now ≡ Rule rule → first ≤ far → far ≤ last
-        → slice_get result.scores.now (far - first) ≡ value_at grid.now rule near far }
+/// Whether the argument is a rule, and its factor times a score is the score, turned.
+fn is_plain(argument: &Arg, factor: i64, goal: Goal) -> bool
+    ensures { IsTrue result → IsPlain argument.now factor goal }
 {
-    let scores: &[i64] = match argument {
-        Arg::Rule(rule) => grid.between(*rule, near, first, last + 1),
-        _ => &[],
-    };
-    Entries { first, scores }
+    match argument {
+        Arg::Rule(_) => factor == turned(goal, 1),
+        _ => false,
+    }
 }
 
-/// The greatest total of the arguments of a line up to its second one of open length.
-fn greatest_front(
+/// Whether the tokens add nothing to a total, whatever letters they match.
+fn are_worthless(tokens: &[Arg], factors: &[i64]) -> bool
+    ensures { IsTrue result → AreWorthless tokens.now factors.now }
+{
+    let (Some((token, tokens)), Some((factor, factors))) = (
+        tokens.split_first(),
+        factors.split_first(),
+    ) else {
+        return true;
+    };
+    (*factor == 0 || matches!(token, Arg::Literal(_))) && are_worthless(tokens, factors)
+}
+
+/// The same, where tokens that do not weigh anything add nothing.
+fn between_total(
+    lines: &Lines<'_>,
+    tokens: &[Arg],
+    factors: &[i64],
+    weigh: bool,
+    from: u16,
+    to: u16,
+) -> i64
+    requires weighted { AreWeighted lines.now tokens.now factors.now }
+    requires fixed { AllByRecursion IsFixed tokens.now }
+    requires covers { Cover lines.now tokens.now from to }
+    requires low { AreLow lines.now tokens.now factors.now from to }
+    requires worthless { weigh ≡ false → AreWorthless tokens.now factors.now }
+    ensures { HasTotal lines.now (HasBestScore lines.now) tokens.now factors.now from to result }
+{
+    if weigh {
+        fixed_total(lines, tokens, factors, from, to)
+    } else {
+        0
+    }
+}
+
+/// The greatest total of the arguments of a line up to its second one of open length, place by place.
+fn greatest_valued(
     lines: &Lines<'_>,
     arguments: LineArguments<'_>,
     boundary: Boundary<'_>,
@@ -129,10 +154,12 @@ fn greatest_front(
         (arguments.first_factor ∷ (arguments.middle_factors.now ++ arguments.second_factor ∷ []))
         from boundary.last }
     requires row { (place : ℕ) → Contains boundary.places.now place
-        → AtRule (HasEntryAt lines.now row.scores.now row.first place) (on_span arguments.first.now from place) }
+        → AtRule (HasEntryAt lines.now (entries_of row) row.first place) (on_span arguments.first.now from place) }
     requires column { (place : ℕ) → Contains boundary.places.now place
-        → AtRule (HasEntryAt lines.now column.scores.now column.first (place + boundary.letters))
+        → AtRule (HasEntryAt lines.now (entries_of column) column.first (place + boundary.letters))
         (on_span arguments.second.now (place + boundary.letters) boundary.last) }
+    requires row_proper { AreProperNumbers row.numbers }
+    requires column_proper { AreProperNumbers column.numbers }
     ensures { IsGreatestOf (HasTotal lines.now (HasBestScore lines.now)
         (arguments.entry.first.now ∷ (arguments.entry.middle.now ++ arguments.entry.second.now ∷ []))
         (arguments.entry.first_factor ∷ (arguments.entry.middle_factors.now ++ arguments.entry.second_factor ∷ []))
@@ -141,6 +168,7 @@ fn greatest_front(
     lines.problem().admissible();
     bounds_are_sound();
     answer_is_unique();
+    let weigh = !are_worthless(arguments.middle, arguments.middle_factors);
     let mut greatest = None;
     for place in boundary.places {
         let behind = *place + boundary.letters;
@@ -157,10 +185,11 @@ fn greatest_front(
         ) else {
             continue;
         };
-        let between = fixed_total(
+        let between = between_total(
             lines,
             arguments.middle,
             arguments.middle_factors,
+            weigh,
             *place,
             behind,
         );
@@ -170,10 +199,76 @@ fn greatest_front(
     greatest
 }
 
+/// The greatest total of the arguments of a line up to its second one of open length.
+fn greatest_front(
+    lines: &Lines<'_>,
+    arguments: LineArguments<'_>,
+    boundary: Boundary<'_>,
+    from: u16,
+    row: Entries<'_>,
+    column: Entries<'_>,
+) -> Option<i64>
+    requires weighted { AreWeighted lines.now
+        (arguments.first.now ∷ (arguments.middle.now ++ arguments.second.now ∷ []))
+        (arguments.first_factor ∷ (arguments.middle_factors.now ++ arguments.second_factor ∷ [])) }
+    requires middle_each { length arguments.middle_factors.now ≡ length arguments.middle.now }
+    requires middle_fixed { AllByRecursion IsFixed arguments.middle.now }
+    requires boundary { AreBoundaries lines.now
+        (record {
+          first = arguments.first.now;
+          middle = arguments.middle.now;
+          second = arguments.second.now;
+          tail = [];
+        }) from boundary.last boundary.letters boundary.last boundary.places.now }
+    requires flags { AreFlagged boundary.places.now boundary.flags.now }
+    requires low { AreLow lines.now
+        (arguments.first.now ∷ (arguments.middle.now ++ arguments.second.now ∷ []))
+        (arguments.first_factor ∷ (arguments.middle_factors.now ++ arguments.second_factor ∷ []))
+        from boundary.last }
+    requires row { (place : ℕ) → Contains boundary.places.now place
+        → AtRule (HasEntryAt lines.now (entries_of row) row.first place) (on_span arguments.first.now from place) }
+    requires column { (place : ℕ) → Contains boundary.places.now place
+        → AtRule (HasEntryAt lines.now (entries_of column) column.first (place + boundary.letters))
+        (on_span arguments.second.now (place + boundary.letters) boundary.last) }
+    requires row_proper { AreProperNumbers row.numbers }
+    requires column_proper { AreProperNumbers column.numbers }
+    ensures { IsGreatestOf (HasTotal lines.now (HasBestScore lines.now)
+        (arguments.entry.first.now ∷ (arguments.entry.middle.now ++ arguments.entry.second.now ∷ []))
+        (arguments.entry.first_factor ∷ (arguments.entry.middle_factors.now ++ arguments.entry.second_factor ∷ []))
+        from boundary.entry.last) result }
+{
+    if is_plain(arguments.first, arguments.first_factor, row.goal)
+        && is_plain(arguments.second, arguments.second_factor, column.goal)
+        && are_worthless(arguments.middle, arguments.middle_factors)
+    {
+        lines.problem().admissible();
+        answer_is_unique();
+        let places = Places {
+            at: boundary.places,
+            letters: boundary.letters,
+            before: row.first,
+            behind: column.first,
+        };
+        match (row.numbers, column.numbers) {
+            (Numbers::Short(first), Numbers::Short(second)) => {
+                return greatest_short(first, second, places, boundary.flags);
+            }
+            (Numbers::Medium(first), Numbers::Medium(second)) => {
+                return greatest_medium(first, second, places);
+            }
+            (Numbers::Long(first), Numbers::Long(second)) => {
+                return greatest_long(first, second, places);
+            }
+            _ => {}
+        }
+    }
+    greatest_valued(lines, arguments, boundary, from, row, column)
+}
+
 /// The greatest total of arguments that begin with the first one of their line, laid from `from` to `to`.
 pub fn greatest_along(
     lines: &Lines<'_>,
-    scores: &Table<'_, i64>,
+    scores: &Scores<'_>,
     line: Line<'_>,
     arguments: &[Arg],
     factors: &[i64],
@@ -196,15 +291,16 @@ pub fn greatest_along(
         places,
         letters,
         last,
+        ..
     } = boundary;
     let arguments = line_arguments(arguments, factors, line.between as usize);
     if places.is_empty() {
         return None;
     }
     let (low, high) = (places[0], places[places.len() - 1]);
-    let row = entries_between(&scores.rows, arguments.first, from, low, high);
-    let column = entries_between(
-        &scores.columns,
+    let row = scores.entries(Side::Rows, arguments.first, from, low, high);
+    let column = scores.entries(
+        Side::Columns,
         arguments.second,
         last,
         low + letters,

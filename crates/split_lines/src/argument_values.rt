@@ -1,4 +1,4 @@
-ghost use Rattle.std.specs.Prelude.{◌≡◌, ◌≤◌, ℤ, nat_abs, MatchOption};
+ghost use Rattle.std.specs.Prelude.{◌≡◌, ◌-◌, ◌≤◌, ℤ, nat_abs, IsSome, MatchOption, Some, slice_get};
 ghost use Rattle.adp_model.specs.PosedProblem.{IsSpan};
 ghost use Rattle.adp_model.specs.Tokens.{letters_between, token_value};
 ghost use Rattle.adp_model.specs.Splits.{AtRule, FitsSpan};
@@ -7,28 +7,47 @@ ghost use Rattle.adp_model.specs.ProblemFields.{greatest_score};
 ghost use Rattle.adp_model.specs.Bellman.{HasBestScore};
 ghost use Rattle.adp_model.specs.FirstSplit.{IsValue};
 ghost use Rattle.yield_sizes.specs.Placing.{on_span};
-ghost use Rattle.split_lines.specs.Entries.{HasEntry, score_of_entry};
+ghost use Rattle.split_lines.specs.Entries.{HasEntry};
+ghost use Rattle.split_lines.specs.ArgumentEntries.{AreProperNumbers, entries_of};
 ghost use Rattle.split_lines.specs.Rows.{HasEntryAt};
 
 use crate::lines::Lines;
-use crate::table::{NO_CANDIDATE, Table};
-use adp_model::Arg;
+use crate::packing::{long_entry, medium_entry, score_of, short_entry};
+use crate::scores::Scores;
+use adp_model::{Arg, Cell, Goal};
 
-/// Entries side by side, for the places from `first` on.
+/// Numbers of one width side by side.
+#[derive(Clone, Copy)]
+pub enum Numbers<'s> {
+    Short(&'s [i16]),
+    Medium(&'s [i32]),
+    /// Turned, or the mark.
+    Long(&'s [i64]),
+    /// As entries.
+    Whole(&'s [i64]),
+}
+
+/// Entries side by side, for the places from `first` on, as the numbers that stand for them.
 #[derive(Clone, Copy)]
 pub struct Entries<'s> {
     pub first: u16,
-    pub scores: &'s [i64],
+    pub goal: Goal,
+    pub numbers: Numbers<'s>,
 }
 
-/// The score that an entry tells.
-fn score_of(entry: i64) -> Option<i64>
-    ensures { result ≡ score_of_entry entry }
+/// The entry for a place.
+fn entry_at(entries: Entries<'_>, place: u16) -> i64
+    requires from_first { entries.first ≤ place }
+    requires there { IsSome (slice_get (entries_of entries) (place - entries.first)) }
+    requires proper { AreProperNumbers entries.numbers }
+    ensures { slice_get (entries_of entries.entry) (place - entries.entry.first) ≡ Some result }
 {
-    if entry == NO_CANDIDATE {
-        None
-    } else {
-        Some(entry)
+    let number = (place - entries.first) as usize;
+    match entries.numbers {
+        Numbers::Short(numbers) => short_entry(entries.goal, numbers[number]),
+        Numbers::Medium(numbers) => medium_entry(entries.goal, numbers[number]),
+        Numbers::Long(numbers) => long_entry(entries.goal, numbers[number]),
+        Numbers::Whole(numbers) => numbers[number],
     }
 }
 
@@ -50,7 +69,7 @@ pub fn token_value(lines: &Lines<'_>, token: &Arg, from: u16, to: u16) -> i64
 /// letters are worth. It means nothing where the cell has no entry. Takes constant time and no memory.
 pub fn argument_value(
     lines: &Lines<'_>,
-    scores: &Table<'_, i64>,
+    scores: &Scores<'_>,
     argument: &Arg,
     from: u16,
     to: u16,
@@ -65,7 +84,11 @@ pub fn argument_value(
         (IsValue lines.now (HasBestScore lines.now) (on_span argument.now from to)) }
 {
     match argument {
-        Arg::Rule(rule) => score_of(scores.rows.get(*rule, from, to)?),
+        Arg::Rule(rule) => score_of(scores.entry(Cell {
+            rule: *rule,
+            from,
+            to,
+        })?),
         token => Some(token_value(lines, token, from, to)),
     }
 }
@@ -83,14 +106,15 @@ pub fn value_among(
     requires fits { FitsSpan lines.now (on_span argument.now from to) }
     requires low { nat_abs (token_value lines.now.grammar argument.now (letters_between lines.now.word from to))
         ≤ greatest_score }
-    requires there { AtRule (HasEntryAt lines.now entries.scores.now entries.first place)
+    requires there { AtRule (HasEntryAt lines.now (entries_of entries) entries.first place)
         (on_span argument.now from to) }
+    requires proper { AreProperNumbers entries.numbers }
     ensures { MatchOption result
         ((value : ℤ) → IsValue lines.now (HasBestScore lines.now) (on_span argument.now from to) value → ⊥)
         (IsValue lines.now (HasBestScore lines.now) (on_span argument.now from to)) }
 {
     match argument {
-        Arg::Rule(_) => score_of(entries.scores[(place - entries.first) as usize]),
+        Arg::Rule(_) => score_of(entry_at(entries, place)),
         token => Some(token_value(lines, token, from, to)),
     }
 }

@@ -9,6 +9,7 @@ use crate::parts::{class_letters, letters};
 use adp_model::Problem;
 use std::alloc::{AllocError, Global};
 use std::marker::Model;
+use yield_sizes::Matcher;
 
 /// For a class and a word: how far letters of the class go on from each place, from where they go on up to each place,
 /// and what the letters before each place weigh.
@@ -136,5 +137,18 @@ impl<'a> ClassTables<'a> {
         ensures { IsTable (letters_of self.now.grammar class) self.now.word result.now }
     {
         &self.tables[class as usize]
+    }
+}
+
+impl<'a> Matcher for ClassTables<'a> {
+    ghost posed = { λ tables. tables };
+
+    fn problem(&self) -> &Problem<'_> {
+        self.problem
+    }
+
+    /// Takes constant time.
+    fn class_end(&self, class: u32, from: usize, last: usize) -> usize {
+        last.min(self.table(class).ahead[from] as usize)
     }
 }

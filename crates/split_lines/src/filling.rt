@@ -1,12 +1,13 @@
 //! The best score of a cell from those of its demanded children.
 
-ghost use Rattle.std.specs.Prelude.{◌≡◌, ◌<◌, IfSome, MatchOption, length, drop};
+ghost use Rattle.std.specs.Prelude.{◌≡◌, ℕ, ◌<◌, ◌↔◌, IsTrue, IfSome, MatchOption, List, length, drop};
 ghost use Rattle.adp_model.specs.declared.cell.Answer.TheVariants.{NoCandidate};
 ghost use Rattle.adp_model.specs.declared.cell.Cell.{Cell};
 ghost use Rattle.adp_model.specs.PosedProblem.{IsSpan};
 ghost use Rattle.adp_model.specs.Parts.{algebra_of, alternatives_of};
 ghost use Rattle.adp_model.specs.Answers.{IsAnswer};
 ghost use Rattle.adp_model.specs.Bellman.{HasBestScore};
+ghost use Rattle.adp_model.specs.FirstSplit.{IsScoredSplit};
 ghost use Rattle.adp_model.specs.Demand.{IsDemandedChild};
 ghost use Rattle.split_lines.specs.Laid.{Demands};
 ghost use Rattle.split_lines.specs.Lines.{IsLine};
@@ -14,11 +15,11 @@ ghost use Rattle.split_lines.specs.Entries.{HasEntry};
 ghost use Rattle.split_lines.specs.Totals.{AreLow, AreWeighted, HasTotal, HasTurnedScore, IsGreatestOf, turned};
 
 use crate::along::greatest_along;
-use crate::argument_values::argument_value;
-use crate::lines::{Line, Lines, line_here};
+use crate::argument_values::{argument_value, token_value};
+use crate::lines::{Line, Lines, is_fixed, line_here};
 use crate::numbers::{greater, turned, turned_factors};
 use crate::parts::{alternatives, arguments, goal, term};
-use crate::table::Table;
+use crate::scores::Scores;
 use adp_model::laws::bellman::bellman;
 use adp_model::laws::bounds::{bounds_are_sound, words_keep_their_score_bound};
 use adp_model::laws::order::answer_is_unique;
@@ -29,7 +30,7 @@ use adp_model::{Arg, Cell, Goal};
 #[derive(Clone, Copy)]
 struct Known<'s, 'a> {
     lines: &'s Lines<'a>,
-    scores: &'s Table<'a, i64>,
+    scores: &'s Scores<'a>,
     line: Option<Line<'s>>,
 }
 
@@ -53,13 +54,9 @@ fn greatest_total(
     ensures { IsGreatestOf (HasTotal known.entry.lines.now (HasBestScore known.entry.lines.now)
         arguments.now factors.now from to) result }
 {
-    let Known {
-        lines,
-        scores,
-        line,
-    } = known;
-    if let Some(line) = line_here(line, ahead) {
-        return greatest_along(lines, scores, line, arguments, factors, from, to);
+    let Known { lines, scores, .. } = known;
+    if let Some(line) = line_here(known.line.as_ref(), ahead) {
+        return greatest_along(lines, scores, *line, arguments, factors, from, to);
     }
     let (Some((argument, others)), Some((factor, factors))) = (
         arguments.split_first(),
@@ -70,14 +67,25 @@ fn greatest_total(
     lines.problem().admissible();
     bounds_are_sound();
     answer_is_unique();
+    let ahead = ahead.saturating_sub(1);
+    if is_fixed(argument) {
+        let end = lines.token_end(argument, from, to)?;
+        let rest = greatest_total(known, ahead, others, factors, end, to)?;
+        return Some(factor * token_value(lines, argument, from, end) + rest);
+    }
+    if others.is_empty() {
+        if !lines.fits(argument, from, to) {
+            return None;
+        }
+        return Some(factor * argument_value(lines, scores, argument, from, to)?);
+    }
     let places = lines.places(arguments, from, to);
     let mut greatest = None;
     for end in places.start..places.end {
         let Some(value) = argument_value(lines, scores, argument, from, end) else {
             continue;
         };
-        let Some(rest) = greatest_total(known, ahead.saturating_sub(1), others, factors, end, to)
-        else {
+        let Some(rest) = greatest_total(known, ahead, others, factors, end, to) else {
             continue;
         };
         greatest = greater(greatest, Some(factor * value + rest));
@@ -88,7 +96,7 @@ fn greatest_total(
 /// The best score that an alternative gives a cell, turned; `None` where it gives none.
 fn alternative_score(
     lines: &Lines<'_>,
-    scores: &Table<'_, i64>,
+    scores: &Scores<'_>,
     cell: Cell,
     alt: u8,
     goal: Goal,
@@ -125,7 +133,7 @@ fn alternative_score(
 }
 
 /// The best score of a cell, by the scores of its demanded children; `None` where it has no candidate. Takes no memory.
-pub fn cell_score(lines: &Lines<'_>, scores: &Table<'_, i64>, cell: Cell) -> Option<i64>
+pub fn cell_score(lines: &Lines<'_>, scores: &Scores<'_>, cell: Cell) -> Option<i64>
     requires same_problem { scores.now.problem ≡ lines.now }
     requires rule { cell.rule < length lines.now.grammar.rules }
     requires in_word { IsSpan lines.now.word cell.from cell.to }
@@ -149,4 +157,28 @@ pub fn cell_score(lines: &Lines<'_>, scores: &Table<'_, i64>, cell: Cell) -> Opt
         return None;
     };
     Some(turned(goal, total))
+}
+
+/// Whether a split of the cell by the alternative has the best score of the cell, at the best scores of its arguments'
+/// cells. Takes no memory.
+pub fn gives_best(lines: &Lines<'_>, scores: &Scores<'_>, cell: Cell, alt: u8, best: i64) -> bool
+    requires same_problem { scores.now.problem ≡ lines.now }
+    requires rule { cell.rule < length lines.now.grammar.rules }
+    requires in_word { IsSpan lines.now.word cell.from cell.to }
+    requires alternative { alt < length (alternatives_of lines.now.grammar cell.rule) }
+    requires scored { (child : Cell) → IsDemandedChild lines.now cell child → HasEntry scores.now child }
+    requires best { HasBestScore lines.now cell best }
+    ensures { IsTrue result ↔ ((cuts : List ℕ)
+        × IsScoredSplit lines.now (HasBestScore lines.now) cell best (record { alt = alt; cuts = cuts })) }
+{
+    let problem = lines.problem();
+    problem.admissible();
+    bellman();
+    bounds_are_sound();
+    arguments_are_few_and_known();
+    let goal = goal(problem);
+    match alternative_score(lines, scores, cell, alt, goal) {
+        Some(total) => turned(goal, total) == best,
+        None => false,
+    }
 }

@@ -1,7 +1,8 @@
 //! Values for spans of a word, side by side.
 
-ghost use Rattle.std.specs.Prelude.{◌≡◌, ◌↔◌, ℕ, ◌+◌, ◌-◌, ◌^◌, ◌<◌, ◌≤◌, IfOk, IsSome, Some, MatchOption, count_by, length, slice_get};
+ghost use Rattle.std.specs.Prelude.{◌≡◌, ◌↔◌, ℕ, ◌+◌, ◌-◌, ◌^◌, ◌<◌, ◌≤◌, IfOk, IsSome, Some, MatchOption, count_by, length, slice_get, true};
 ghost use Rattle.std.specs.List.{Contains};
+ghost use Rattle.split_lines.specs.Flags.{IsFlagged};
 ghost use Rattle.split_lines.specs.Spans.{AreLaid, AreSet, AreWritten, IsWritten, Stands, block_at, value_at};
 
 use std::alloc::{AllocError, Global};
@@ -146,10 +147,37 @@ impl Grid<bool> {
     {
         self.values.iter().filter(|mark| **mark).count() as u64
     }
+
+    /// Makes the values of the spans with this near end true whose far ends are flagged: the flags are those of the far
+    /// ends from `first` on. Takes no memory.
+    pub fn set_flagged(&mut self, rule: u32, near: u16, first: u16, flags: &[bool])
+        requires first { 0 < length flags.now → IsSome (value_at self.old rule near first) }
+        requires last { 0 < length flags.now
+            → IsSome (value_at self.old rule near (first + length flags.now - 1)) }
+        ensures { AreWritten self.old self.new rule near (IsFlagged flags.now first) true }
+    {
+        if flags.is_empty() {
+            return;
+        }
+        if let Some(block) = self.block(rule, near) {
+            let start = block.place as usize + (first - block.first) as usize;
+            set_flagged(&mut self.values, start, flags);
+        }
+    }
+}
+
+/// Makes the values true that are flagged: the flags are those of the values from `start` on.
+fn set_flagged(values: &mut [bool], start: usize, flags: &[bool])
+    requires { start + length flags.now ≤ length values.old }
+    ensures { AreSet values.old values.new (IsFlagged flags.now start) true }
+{
+    for (number, flag) in flags.iter().enumerate() {
+        values[start + number] |= *flag;
+    }
 }
 
 /// Sets the values at these places, each moved ahead and then back.
-fn set_places<V: Copy>(values: &mut [V], places: &[u16], ahead: usize, back: u16, value: V)
+pub fn set_places<V: Copy>(values: &mut [V], places: &[u16], ahead: usize, back: u16, value: V)
     requires ahead { ahead < 2 ^ 33 }
     requires back { (place : ℕ) → Contains places.now place → back ≤ place + ahead }
     requires within { (place : ℕ) → Contains places.now place → place + ahead - back < length values.old }

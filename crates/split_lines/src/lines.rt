@@ -1,27 +1,32 @@
 //! What is worked out of a problem once, for all its cells.
 
-ghost use Rattle.std.specs.Prelude.{◌≡◌, ℕ, ◌+◌, ◌-◌, ◌<◌, ◌≤◌, ◌↔◌, IfOk, IfSome, IsTrue, MatchOption, None, List, ◌∷◌, drop, length, ◌==◌, if◌then◌else◌};
-ghost use Rattle.std.specs.Bool.{OnTrue};
+ghost use Rattle.std.specs.Prelude.{◌≡◌, ℕ, ◌+◌, ◌-◌, ◌<◌, ◌≤◌, ◌↔◌, IfOk, IfSome, IsTrue, MatchOption, None, Some, List, ◌∷◌, drop, length, ◌==◌, if◌then◌else◌};
+ghost use Rattle.std.specs.Bool.{OnTrue, OnFalse};
+ghost use Rattle.std.specs.Option.{option_copied};
 ghost use Rattle.std.specs.List.{All, AllByRecursion};
 ghost use Rattle.adp_model.specs.declared.grammar.Arg.{Arg as Argument};
 ghost use Rattle.adp_model.specs.Parts.{alternatives_of, arguments_of, letters_of};
 ghost use Rattle.adp_model.specs.PosedProblem.{IsSpan};
+ghost use Rattle.adp_model.specs.Splits.{FitsSpan, IsViable};
 ghost use Rattle.adp_model.specs.Tokens.{letters_between, total_weight};
+ghost use Rattle.adp_model.specs.Walk.{IsFirstVisited, IsNextVisited, IsLastVisited};
 ghost use Rattle.adp_model.specs.WellFormed.{IsKnown};
-ghost use Rattle.yield_sizes.specs.Placing.{ArePlaces};
+ghost use Rattle.yield_sizes.specs.Placing.{ArePlaces, on_span};
 ghost use Rattle.split_lines.specs.Laid.{IsFixed, AreBoundaries};
 ghost use Rattle.split_lines.specs.Classes.{AreSums};
+ghost use Rattle.split_lines.specs.Flags.{AreFlagged};
 ghost use Rattle.split_lines.specs.Lines.{IsLine, IsLastOpen, HasLine, LeavesPlace, parts_by};
 ghost use Rattle.split_lines.specs.LinesFields.{AreMiddles, HasAllOf, IsNumberOf, IsKeptOrNone, AreKept};
 
 use crate::classes::ClassTables;
 use crate::matches::{Matches, covers, fixed_letters};
-use crate::spans;
+use crate::spans::{self, starts};
 use adp_model::laws::well_formed::arguments_are_few_and_known;
-use adp_model::{Alt, Arg, Problem};
+use adp_model::{Alt, Arg, Cell, Problem};
 use std::alloc::{AllocError, Global};
 use std::marker::Model;
 use std::ops::Range;
+use yield_sizes::{Cuts, Matcher, argument_ends, first_ends, first_visited, next_visited};
 
 /// How many of the kept lists are compared with tokens before these get a list of their own.
 const MOST_COMPARED: usize = 64;
@@ -40,11 +45,13 @@ pub struct Line<'l> {
     pub(crate) middle: &'l Matches,
 }
 
-/// The boundary of a line on a span: the places at which it may stand, how many letters lie between it and the second
-/// argument, and where that one ends. Where the line can't have the span, there is no place.
+/// The boundary of a line on a span: the places at which it may stand, for each place from the first of these to the
+/// last one whether it is one of them, how many letters lie between it and the second argument, and where that one
+/// ends. Where the line can't have the span, there is no place.
 #[derive(Clone, Copy)]
 pub struct Boundary<'l> {
     pub places: &'l [u16],
+    pub flags: &'l [bool],
     pub letters: u16,
     pub last: u16,
 }
@@ -66,7 +73,7 @@ pub struct KeptLine {
 }
 
 /// Whether the argument is a token of fixed length.
-fn is_fixed(argument: &Arg) -> bool
+pub fn is_fixed(argument: &Arg) -> bool
     ensures { IsTrue result ↔ IsFixed argument.now }
 {
     match argument {
@@ -196,8 +203,8 @@ fn kept_lines<'a>(
 }
 
 /// The line, where none of the arguments comes before it.
-pub fn line_here<'l>(line: Option<Line<'l>>, ahead: u8) -> Option<Line<'l>>
-    ensures { result ≡ (if ahead == 0 then line.entry else None) }
+pub fn line_here<'s, 'l>(line: Option<&'s Line<'l>>, ahead: u8) -> Option<&'s Line<'l>>
+    ensures { option_copied result ≡ (if ahead == 0 then option_copied line.entry else None) }
 {
     if ahead == 0 { line } else { None }
 }
@@ -225,7 +232,7 @@ impl<'a> Model for Lines<'a> {
 
 impl<'a> Lines<'a> {
     /// Works it out, in time for each alternative, and for each letter of the word once for each class and once for
-    /// each list of tokens. Memory is 20 bytes for each class and letter, and two to four for each list and letter.
+    /// each list of tokens. Memory is 20 bytes for each class and letter, and three to five for each list and letter.
     pub fn new(alloc: Global, problem: &'a Problem<'a>) -> Result<Lines<'a>, AllocError>
         ensures { IfOk result (λ lines. lines ≡ problem.now) }
     {
@@ -289,8 +296,8 @@ impl<'a> Lines<'a> {
         if last < from || !covers(&self.tables, &arguments[second + 1..], last, to) {
             return from..from;
         }
-        let ends = spans::ends(&self.tables, &arguments[0], from, last);
-        let starts = spans::starts(&self.tables, &arguments[second], from, last);
+        let ends = argument_ends(&self.tables, &arguments[0], from, last);
+        let starts = starts(&self.tables, &arguments[second], from, last);
         let start = ends.start.max(starts.start.saturating_sub(letters));
         let end = ends.end.min(starts.end.saturating_sub(letters));
         start.min(end)..end
@@ -308,16 +315,44 @@ impl<'a> Lines<'a> {
         requires line { IsLine self.now arguments.now line }
         requires known { AllByRecursion (IsKnown self.now.grammar) arguments.now }
         requires span { IsSpan self.now.word from to }
-        ensures { AreBoundaries self.now (parts_by arguments.now line.entry.between) from to
+        ensures boundaries { AreBoundaries self.now (parts_by arguments.now line.entry.between) from to
             result.letters result.last result.places.now }
+        ensures flags { AreFlagged result.places.now result.flags.now }
     {
         self.problem().admissible();
         let range = self.range(line, arguments, from as usize, to as usize);
+        let places = line.middle.between(range.start as u16, range.end as u16);
         Boundary {
-            places: line.middle.between(range.start as u16, range.end as u16),
+            places,
+            flags: line.middle.flags_among(places),
             letters: line.middle.letters,
             last: to.saturating_sub(line.tail),
         }
+    }
+
+    /// Where a token of fixed length that begins at `from` ends, where it matches there and ends at `last` or before.
+    /// Takes constant time, but for the letters of a literal, and no memory.
+    pub(crate) fn token_end(&self, token: &Arg, from: u16, last: u16) -> Option<u16>
+        requires known { IsKnown self.now.grammar token.now }
+        requires fixed { IsFixed token.now }
+        requires span { IsSpan self.now.word from last }
+        ensures { (end : ℕ) → (result ≡ Some end)
+            ↔ ((end ≤ last) × FitsSpan self.now (on_span token.now from end)) }
+    {
+        self.problem().admissible();
+        let end = spans::token_end(&self.tables, token, from as usize, last as usize)?;
+        Some(end as u16)
+    }
+
+    /// Whether an argument may have the letters from `from` to `to`. Takes constant time, but for the letters of a
+    /// literal, and no memory.
+    pub(crate) fn fits(&self, argument: &Arg, from: u16, to: u16) -> bool
+        requires known { IsKnown self.now.grammar argument.now }
+        requires span { IsSpan self.now.word from to }
+        ensures { IsTrue result ↔ FitsSpan self.now (on_span argument.now from to) }
+    {
+        self.problem().admissible();
+        spans::fits(&self.tables, argument, from as usize, to as usize)
     }
 
     /// Where the first of the arguments may end, as far as the lengths of the others leave a way up to `last`. Takes
@@ -331,7 +366,7 @@ impl<'a> Lines<'a> {
             → ArePlaces self.now first later from last result }
     {
         self.problem().admissible();
-        let places = spans::places(&self.tables, arguments, from as usize, last as usize);
+        let places = first_ends(&self.tables, arguments, from as usize, last as usize);
         places.start as u16..places.end as u16
     }
 
@@ -352,5 +387,75 @@ impl<'a> Lines<'a> {
     {
         let sums = self.sums(class);
         sums[to as usize] - sums[from as usize]
+    }
+
+    /// Whether the alternative has a viable split of the cell. If so, `cuts` are then the one that is visited first,
+    /// where each boundary's positions are visited from its turn on; else its boundaries are as before. Takes no
+    /// memory.
+    pub fn first_viable(&self, cell: Cell, alt: u8, turns: [u32; 3], cuts: &mut Cuts) -> bool
+        requires span { IsSpan self.now.word cell.from cell.to }
+        requires alternative { alt < length (alternatives_of self.now.grammar cell.rule) }
+        requires turns { AllByRecursion (λ turn. turn ≤ cell.to - cell.from) turns }
+        ensures turns { cuts.new.turns ≡ turns }
+        ensures first { OnTrue result (IsFirstVisited self.now cell alt turns cuts.new.at) }
+        ensures none { OnFalse result ((others : List ℕ) → IsViable self.now cell alt others → ⊥) }
+        ensures kept { OnFalse result (cuts.new.at ≡ cuts.old.at) }
+    {
+        first_visited(self, cell, alt, turns, cuts)
+    }
+
+    /// Whether a viable split is visited behind `cuts`. If so, they are then the next one; else they are as before.
+    /// Takes no memory.
+    pub fn next_viable(&self, cell: Cell, alt: u8, cuts: &mut Cuts) -> bool
+        requires span { IsSpan self.now.word cell.from cell.to }
+        requires turns { AllByRecursion (λ turn. turn ≤ cell.to - cell.from) cuts.old.turns }
+        requires viable { IsViable self.now cell alt cuts.old.at }
+        ensures turns { cuts.new.turns ≡ cuts.old.turns }
+        ensures next { OnTrue result (IsNextVisited self.now cell alt cuts.old.turns cuts.old.at cuts.new.at) }
+        ensures last { OnFalse result (IsLastVisited self.now cell alt cuts.old.turns cuts.old.at) }
+        ensures kept { OnFalse result (cuts.new.at ≡ cuts.old.at) }
+    {
+        next_visited(self, cell, alt, cuts)
+    }
+}
+
+impl<'a> Matcher for Lines<'a> {
+    ghost posed = { λ lines. lines };
+
+    fn problem(&self) -> &Problem<'_> {
+        self.tables.problem()
+    }
+
+    /// Takes constant time.
+    fn class_end(&self, class: u32, from: usize, last: usize) -> usize {
+        self.tables.class_end(class, from, last)
+    }
+
+    /// Takes constant time: where the arguments begin with the tokens between the two of a line, their next match is
+    /// looked up.
+    fn next_place(
+        &self,
+        rule: u32,
+        alt: u8,
+        number: usize,
+        start: usize,
+        end: usize,
+    ) -> Option<usize> {
+        self.problem().admissible();
+        if start >= end {
+            return None;
+        }
+        let Some(line) = self.line(rule, alt) else {
+            return Some(start);
+        };
+        if line.first as usize + 1 != number {
+            return Some(start);
+        }
+        let places = line.middle.between(start as u16, end as u16);
+        if places.is_empty() {
+            None
+        } else {
+            Some(places[0] as usize)
+        }
     }
 }

@@ -6,11 +6,13 @@ ghost use Rattle.adp_model.specs.PosedProblem.{IsSpan};
 ghost use Rattle.adp_model.specs.WellFormed.{IsKnown};
 ghost use Rattle.yield_sizes.specs.Placing.{Cover};
 ghost use Rattle.split_lines.specs.Laid.{IsFixed};
-ghost use Rattle.split_lines.specs.Matching.{fixed_length, HaveLetters, AreCounts, AreMatches};
+ghost use Rattle.split_lines.specs.Flags.{AreFlagged};
+ghost use Rattle.split_lines.specs.Matching.{fixed_length, HaveLetters, AreCounts, AreFlagsOf, AreMatches};
 
 use crate::classes::ClassTables;
+use crate::grid::set_places;
 use crate::parts::letters;
-use crate::spans::ends;
+use crate::spans::token_end;
 use adp_model::{Arg, Problem};
 use std::alloc::{AllocError, Global};
 
@@ -22,6 +24,8 @@ pub struct Matches {
     pub letters: u16,
     pub places: Vec<u16>,
     pub before: Vec<u16>,
+    /// For each place of the word whether they match there.
+    pub flags: Vec<bool>,
 }
 
 /// How many letters a token of fixed length has.
@@ -61,15 +65,24 @@ pub fn covers(tables: &ClassTables<'_>, tokens: &[Arg], from: usize, to: usize) 
     if tokens.is_empty() {
         return from == to;
     }
-    let ends = ends(tables, &tokens[0], from, to);
-    if ends.start >= ends.end {
-        return false;
+    match token_end(tables, &tokens[0], from, to) {
+        Some(end) => covers(tables, &tokens[1..], end, to),
+        None => false,
     }
-    covers(tables, &tokens[1..], ends.start, to)
+}
+
+/// For each of so many places whether it is one of these. Fails for want of memory alone.
+fn flags_of(alloc: Global, count: usize, places: &[u16]) -> Result<Vec<bool>, AllocError>
+    requires { (place : ℕ) → Contains places.now place → place < count }
+    ensures { IfOk result (λ flags. AreFlagsOf count places.now flags.items) }
+{
+    let mut flags = vec![in alloc; false; count]?;
+    set_places(&mut flags, places, 0, 0, true);
+    Ok(flags)
 }
 
 impl Matches {
-    /// Where the tokens match. Memory is two bytes for each place of the word, and two more where they match.
+    /// Where the tokens match. Memory is three bytes for each place of the word, and two more where they match.
     pub fn new(
         alloc: Global,
         tables: &ClassTables<'_>,
@@ -92,10 +105,12 @@ impl Matches {
             }
         }
         before.push(places.len() as u16)?;
+        let flags = flags_of(alloc, len + 1, &places)?;
         Ok(Matches {
             letters: width as u16,
             places,
             before,
+            flags,
         })
     }
 
@@ -112,5 +127,21 @@ impl Matches {
         let start = self.before[first as usize] as usize;
         let end = self.before[past as usize] as usize;
         &self.places[start..end]
+    }
+
+    /// For each place from the first of these to the last one whether it is one of these, where these are all of the
+    /// places that lie there. Takes constant time and no memory.
+    pub fn flags_among(&self, places: &[u16]) -> &[bool]
+        requires some { (place : ℕ) → Contains places.now place → Contains self.now.places.items place }
+        requires whole { (first place last : ℕ) → Contains places.now first → Contains places.now last
+            → first ≤ place → place ≤ last → Contains self.now.places.items place → Contains places.now place }
+        requires rising { AllAdjacentBelow (λ (a b : ℕ). a < b) places.now (length places.now) }
+        requires flags { AreFlagsOf (length self.now.flags.items) self.now.places.items self.now.flags.items }
+        ensures { AreFlagged places.now result.now }
+    {
+        match (places.first(), places.last()) {
+            (Some(first), Some(last)) => &self.flags[*first as usize..*last as usize + 1],
+            _ => &[],
+        }
     }
 }

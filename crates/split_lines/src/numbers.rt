@@ -15,17 +15,30 @@ pub fn turned(goal: Goal, number: i64) -> i64
     }
 }
 
+/// The factor of this number, turned; 0 where there is none.
+fn turned_at(goal: Goal, factors: &[i64], number: usize) -> i64
+    requires { number < length factors.now → nat_abs (slice_index_or factors.now number (pos 0)) ≤ greatest_score }
+    ensures { number < length factors.now → result ≡ turned goal (slice_index_or factors.now number (pos 0)) }
+{
+    if number < factors.len() {
+        turned(goal, factors[number])
+    } else {
+        0
+    }
+}
+
 /// The factors of a term, each turned; behind them stands 0.
 pub fn turned_factors(goal: Goal, factors: &[i64]) -> [i64; 4]
     requires few { length factors.now ≤ 4 }
     requires low { (k : ℕ) → k < length factors.now → nat_abs (slice_index_or factors.now k (pos 0)) ≤ greatest_score }
     ensures { take (length factors.now) result ≡ map (turned goal) factors.now }
 {
-    let mut all = [0; 4];
-    for (i, factor) in factors.iter().enumerate() {
-        all[i] = turned(goal, *factor);
-    }
-    all
+    [
+        turned_at(goal, factors, 0),
+        turned_at(goal, factors, 1),
+        turned_at(goal, factors, 2),
+        turned_at(goal, factors, 3),
+    ]
 }
 
 /// The greater of two numbers, where they are there.

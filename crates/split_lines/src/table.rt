@@ -1,28 +1,23 @@
 //! What is kept of a problem's cells, in rows and in columns.
 
-ghost use Rattle.std.specs.Prelude.{◌≡◌, ◌↔◌, ◌⊎◌, ◌+◌, ◌<◌, ℕ, IfOk, IsTrue, IsSome, MatchOption, Some, length, true};
+ghost use Rattle.std.specs.Prelude.{◌≡◌, ◌↔◌, ◌⊎◌, ◌+◌, ◌-◌, ◌<◌, ℕ, IfOk, IsTrue, Some, length, true};
 ghost use Rattle.std.specs.List.{Contains};
 ghost use Rattle.adp_model.specs.declared.cell.Cell.{Cell};
-ghost use Rattle.adp_model.specs.declared.cell.Answer.TheVariants.{NoCandidate};
-ghost use Rattle.adp_model.specs.Answers.{IsAnswer};
-ghost use Rattle.adp_model.specs.Bellman.{HasBestScore};
 ghost use Rattle.adp_model.specs.Cells.{IsCounted, AreCountedEnds};
 ghost use Rattle.adp_model.specs.Demand.{IsDemanded, IsDemandedCount};
-ghost use Rattle.split_lines.specs.Spans.{value_at};
-ghost use Rattle.split_lines.specs.Entries.{AreCells, AreMarkedToo, HasEntry, IsMarked, in_row, in_column};
+ghost use Rattle.split_lines.specs.Flags.{IsFlagged};
+ghost use Rattle.split_lines.specs.Spans.{IsWritten};
+ghost use Rattle.split_lines.specs.Entries.{AreCells, AreMarkedToo, IsMarked, in_row, in_column};
+ghost use Rattle.split_lines.specs.ArgumentEntries.{spans_of};
 
 use crate::grid::Grid;
 use crate::layout::{Side, counted_grid};
-use adp_model::laws::bounds::words_keep_their_score_bound;
 use adp_model::laws::cells::{places_are_unique, places_go_on};
 use adp_model::laws::demand::marks_count_demanded_cells;
 use adp_model::{Cell, Problem};
 use std::alloc::{AllocError, Global};
 use std::marker::Model;
 use std::ops::Range;
-
-/// The entry of a cell that has no candidate: a number that no score is.
-pub const NO_CANDIDATE: i64 = i64::MIN;
 
 /// A value for each counted cell of a problem, in its row and in its column: rows go by a rule and a start and have the
 /// ends side by side, columns go by a rule and an end and have the starts side by side. Takes two values for each
@@ -96,6 +91,34 @@ impl<'a, V: Copy> Table<'a, V> {
     {
         self.rows.get(cell.rule, cell.from, cell.to).is_some()
     }
+
+    /// The value of a counted cell, in its row. Takes constant time and no memory.
+    pub(crate) fn value(&self, cell: Cell) -> Option<V>
+        ensures { result ≡ in_row self.now cell }
+    {
+        self.rows.get(cell.rule, cell.from, cell.to)
+    }
+
+    /// The rows or the columns. Takes constant time and no memory.
+    pub(crate) fn grid(&self, side: Side) -> &Grid<V>
+        ensures { result.now ≡ spans_of self.now side }
+    {
+        match side {
+            Side::Rows => &self.rows,
+            Side::Columns => &self.columns,
+        }
+    }
+
+    /// Gives a counted cell another value, in its row and in its column. Takes constant time and no memory.
+    pub(crate) fn put(&mut self, cell: Cell, value: V)
+        requires { IsCounted self.old.problem.grammar (length self.old.problem.word) cell }
+        ensures problem { self.new.problem ≡ self.old.problem }
+        ensures row { IsWritten self.old.rows self.new.rows cell.rule cell.from cell.to value }
+        ensures column { IsWritten self.old.columns self.new.columns cell.rule cell.to cell.from value }
+    {
+        self.rows.set(cell.rule, cell.from, cell.to, value);
+        self.columns.set(cell.rule, cell.to, cell.from, value);
+    }
 }
 
 impl Table<'_, bool> {
@@ -106,6 +129,15 @@ impl Table<'_, bool> {
         let in_row = self.rows.get(cell.rule, cell.from, cell.to);
         let in_column = self.columns.get(cell.rule, cell.to, cell.from);
         in_row.unwrap_or(false) || in_column.unwrap_or(false)
+    }
+
+    /// Whether the cell is marked in its row. Takes constant time and no memory.
+    pub fn is_marked_in_row(&self, cell: Cell) -> bool
+        ensures { IsTrue result ↔ (in_row self.now cell ≡ Some true) }
+    {
+        self.rows
+            .get(cell.rule, cell.from, cell.to)
+            .unwrap_or(false)
     }
 
     /// Marks a counted cell in its row. Takes constant time and no memory.
@@ -140,6 +172,32 @@ impl Table<'_, bool> {
         self.columns.set_each(rule, to, starts, shift, true);
     }
 
+    /// Marks the cells of a rule that begin at `from` and whose ends are flagged, in their row: the flags are those of
+    /// the ends from `first` on. Takes no memory.
+    pub fn mark_flagged_ends(&mut self, rule: u32, from: u16, first: u16, flags: &[bool])
+        requires first { 0 < length flags.now → IsCounted self.old.problem.grammar (length self.old.problem.word)
+            (record { rule = rule; from = from; to = first }) }
+        requires last { 0 < length flags.now → IsCounted self.old.problem.grammar (length self.old.problem.word)
+            (record { rule = rule; from = from; to = first + length flags.now - 1 }) }
+        ensures { AreMarkedToo self.old self.new
+            (λ cell. (cell.rule ≡ rule) × (cell.from ≡ from) × IsFlagged flags.now first cell.to) }
+    {
+        self.rows.set_flagged(rule, from, first, flags);
+    }
+
+    /// Marks the cells of a rule that end at `to` and whose starts are flagged, in their column: the flags are those of
+    /// the starts from `first` on. Takes no memory.
+    pub fn mark_flagged_starts(&mut self, rule: u32, to: u16, first: u16, flags: &[bool])
+        requires first { 0 < length flags.now → IsCounted self.old.problem.grammar (length self.old.problem.word)
+            (record { rule = rule; from = first; to = to }) }
+        requires last { 0 < length flags.now → IsCounted self.old.problem.grammar (length self.old.problem.word)
+            (record { rule = rule; from = first + length flags.now - 1; to = to }) }
+        ensures { AreMarkedToo self.old self.new
+            (λ cell. (cell.rule ≡ rule) × (cell.to ≡ to) × IsFlagged flags.now first cell.from) }
+    {
+        self.columns.set_flagged(rule, to, first, flags);
+    }
+
     /// How many cells are marked in their rows, where these are the demanded cells. Takes no memory.
     pub fn count(&self) -> u64
         requires { (cell : Cell) → (in_row self.now cell ≡ Some true) ↔ IsDemanded self.now.problem cell }
@@ -148,37 +206,5 @@ impl Table<'_, bool> {
         self.problem.admissible();
         marks_count_demanded_cells();
         self.rows.count()
-    }
-}
-
-impl Table<'_, i64> {
-    /// The score of a cell that has an entry; `None` where it has no candidate. Takes constant time and no memory.
-    pub fn score(&self, cell: Cell) -> Option<i64>
-        requires { HasEntry self.now cell }
-        ensures { MatchOption result (IsAnswer self.now.problem cell NoCandidate) (HasBestScore self.now.problem cell) }
-    {
-        let entry = self.rows.get(cell.rule, cell.from, cell.to)?;
-        if entry == NO_CANDIDATE {
-            None
-        } else {
-            Some(entry)
-        }
-    }
-
-    /// Keeps the best score of a counted cell, `None` where it has no candidate, in its row and in its column. Takes
-    /// constant time and no memory.
-    pub fn keep(&mut self, cell: Cell, score: Option<i64>)
-        requires counted { IsCounted self.old.problem.grammar (length self.old.problem.word) cell }
-        requires right { MatchOption score (IsAnswer self.old.problem cell NoCandidate)
-            (HasBestScore self.old.problem cell) }
-        ensures problem { self.new.problem ≡ self.old.problem }
-        ensures kept { HasEntry self.new cell }
-        ensures others { (other : Cell) → HasEntry self.old other → HasEntry self.new other }
-    {
-        self.problem.admissible();
-        words_keep_their_score_bound();
-        let entry = score.unwrap_or(NO_CANDIDATE);
-        self.rows.set(cell.rule, cell.from, cell.to, entry);
-        self.columns.set(cell.rule, cell.to, cell.from, entry);
     }
 }

@@ -1,10 +1,12 @@
 -- Cuts that divide, one boundary at a time.
 use Rattle.std.proofs.Common.{◌≡◌, ℕ, suc, ◌+◌, ◌-◌, ◌<◌, ◌≤◌, List, [], ◌∷◌, ◌++◌, length, take, drop, get_or, set, refl, sym, ap, ◌∙◌, arith, length-take}
-use Rattle.std.proofs.lemmas.List.{take_more_set, take-take, take-append-drop, drop_at, take_at, take_all}
+use Rattle.std.proofs.lemmas.List.{take_more_set, take-take, take-append-drop, drop_at, take_at, take_all, take_rest, drop-drop}
 use Rattle.adp_model.specs.declared.grammar.Arg.{Arg}
+use Rattle.adp_model.specs.declared.cell.Cell.{Cell}
+use Rattle.adp_model.specs.Parts.{arguments_of}
 use Rattle.adp_model.specs.PosedProblem.{PosedProblem}
 use Rattle.adp_model.specs.Splits.{FitsSpan}
-use Rattle.yield_sizes.specs.Placing.{on_span, Cover, Divide}
+use Rattle.yield_sizes.specs.Placing.{on_span, AreRest, Cover, Divide}
 
 -- the first argument's span, where others follow
 pub divide_first : (p : PosedProblem) (argument : Arg) (later : List Arg) (from to cut : ℕ) (cuts : List ℕ) → 0 < length later → Divide p (argument ∷ later) from to (cut ∷ cuts) → FitsSpan p (on_span argument from cut)
@@ -37,6 +39,14 @@ pub rest_of : {X : Type 0} (all : List X) (first : X) (later : List X) → all �
 rest_of all first later e =
     let fewer : suc (length later) - 1 ≡ length later = omega arith in
     ap (λ xs. take (length xs - 1) (drop 1 xs)) e ∙ take_all (suc (length later) - 1) later (omega arith)
+
+-- behind the first of an alternative's arguments from a number on are those from the next number on
+pub rest_later : (p : PosedProblem) (cell : Cell) (alternative number : ℕ) (arguments : List Arg) → AreRest p cell alternative number arguments → AreRest p cell alternative (number + 1) (take (length arguments - 1) (drop 1 arguments))
+rest_later p cell alternative number arguments rest =
+    record {
+      in_range = rest.in_range;
+      are = take_rest arguments 1 ∙ ap (drop 1) rest.are ∙ drop-drop 1 number (arguments_of p.grammar cell.rule alternative);
+    }
 
 -- what arguments divide goes forward
 pub divide_forward : (p : PosedProblem) (arguments : List Arg) (from to : ℕ) (cuts : List ℕ) → 0 < length arguments → Divide p arguments from to cuts → from ≤ to

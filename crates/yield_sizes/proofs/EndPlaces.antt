@@ -10,7 +10,7 @@ use Rattle.adp_model.specs.PosedProblem.{PosedProblem, IsSpan}
 use Rattle.adp_model.specs.Parts.{letters_of}
 use Rattle.adp_model.specs.Sizes.{IsWithinSizes}
 use Rattle.adp_model.specs.Tokens.{letters_between, IsIn}
-use Rattle.yield_sizes.specs.Placing.{AreEnds}
+use Rattle.yield_sizes.specs.Placing.{AreEnds, IsClassEnd}
 
 -- the letters of a span are as many as it is long
 pub length-letters_between : (word : List ℕ) (from to : ℕ) → IsSpan word from to → length (letters_between word from to) ≡ to - from
@@ -41,29 +41,46 @@ rule_ends_at p rule from last least most greatest span sizes within exact =
       up_to_last = omega arith;
     }
 
--- a run may end as far as letters of the class reach, within its bounds
-pub run_ends_at : (p : PosedProblem) (class low from last most reach : ℕ) (high : Option ℕ) (letters : List ℕ) → IsSpan p.word from last → from ≤ most → most ≤ last → KeepsMost from last high most → letters ≡ take (most - from) (drop from p.word) → reach ≤ length letters → ((n : ℕ) → n ≤ length letters → AllByRecursion (IsIn (letters_of p.grammar class)) (take n letters) ↔ (n ≤ reach)) → AreEnds p (Run class low high) from last (record { start = from + low; end = from + reach + 1 })
-run_ends_at p class low from last most reach high letters span after within exact are reached reaches =
-    let many : length letters ≡ most - from = ap length are ∙ length-letters_between p.word from most (record { in_order = after; in_word = omega (arith, span.in_word) }) in
-    let same : (to : ℕ) → to ≤ most → take (to - from) letters ≡ letters_between p.word from to =
-    λ to l. ap (take (to - from)) are ∙ take-take (to - from) (most - from) (drop from p.word) (omega arith) in
+-- letters of a class go on as far as they reach
+pub class_end_at : (p : PosedProblem) (class from last reach : ℕ) (letters : List ℕ) → IsSpan p.word from last → letters ≡ take (last - from) (drop from p.word) → reach ≤ length letters → ((n : ℕ) → n ≤ length letters → AllByRecursion (IsIn (letters_of p.grammar class)) (take n letters) ↔ (n ≤ reach)) → IsClassEnd p class from last (from + reach)
+class_end_at p class from last reach letters span are reached reaches =
+    let many : length letters ≡ last - from = ap length are ∙ length-letters_between p.word from last span in
+    let same : (to : ℕ) → to ≤ last → take (to - from) letters ≡ letters_between p.word from to =
+    λ to l. ap (take (to - from)) are ∙ take-take (to - from) (last - from) (drop from p.word) (omega arith) in
+    let order = span.in_order in
+    record {
+      after = omega arith;
+      within = omega arith;
+      exact = λ to long short. (
+        λ all.
+            let taken : AllByRecursion (IsIn (letters_of p.grammar class)) (take (to - from) letters) = subst (AllByRecursion (IsIn (letters_of p.grammar class))) (sym (same to short)) all in
+            let reached_to : to - from ≤ reach = (reaches (to - from) (omega arith)).0 taken in
+            omega arith,
+        λ before. subst (AllByRecursion (IsIn (letters_of p.grammar class))) (same to short) ((reaches (to - from) (omega arith)).1 (omega arith)),
+      );
+    }
+
+-- a run may end as far as letters of the class go on, within its bounds
+pub run_ends_at : (p : PosedProblem) (class low from last most end : ℕ) (high : Option ℕ) → IsSpan p.word from last → from ≤ most → most ≤ last → KeepsMost from last high most → IsClassEnd p class from most end → AreEnds p (Run class low high) from last (record { start = from + low; end = end + 1 })
+run_ends_at p class low from last most end high span after within exact class_end =
+    let high_end = class_end.within in
+    let low_end = class_end.after in
     record {
       exact = λ to before. (
         λ fits.
-            let long = length-letters_between p.word from to fits.0 in
-            let few : IfSome high (λ m. to - from ≤ m) = subst (λ n. IfSome high (λ m. n ≤ m)) long fits.1.1 in
+            let many = length-letters_between p.word from to fits.0 in
+            let few : IfSome high (λ m. to - from ≤ m) = subst (λ n. IfSome high (λ m. n ≤ m)) many fits.1.1 in
             let short : to ≤ most = (exact to fits.0.in_order before).1 few in
-            let all : AllByRecursion (IsIn (letters_of p.grammar class)) (take (to - from) letters) = subst (AllByRecursion (IsIn (letters_of p.grammar class))) (sym (same to short)) fits.1.2 in
-            let reached_to : to - from ≤ reach = (reaches (to - from) (omega arith)).0 all in
-            (omega (arith, fits.1.0, long, fits.0.in_order), omega (arith, reached_to, fits.0.in_order)),
+            let reached : to ≤ end = (class_end.exact to fits.0.in_order short).0 fits.1.2 in
+            let long = fits.1.0 in
+            (omega (arith, long, many, fits.0.in_order), omega arith),
         λ between.
             let long : from ≤ to = omega arith in
             let short : to ≤ most = omega arith in
             let inside : IsSpan p.word from to = record { in_order = long; in_word = omega (arith, span.in_word) } in
-            let many_to = length-letters_between p.word from to inside in
+            let many = length-letters_between p.word from to inside in
             let few = (exact to long before).0 short in
-            let all = (reaches (to - from) (omega arith)).1 (omega arith) in
-            (inside, (omega (arith, many_to), subst (λ n. IfSome high (λ m. n ≤ m)) (sym many_to) few, subst (AllByRecursion (IsIn (letters_of p.grammar class))) (same to short) all)),
+            (inside, (omega (arith, many), subst (λ n. IfSome high (λ m. n ≤ m)) (sym many) few, (class_end.exact to long short).1 (omega arith))),
       );
       behind = omega arith;
       up_to_last = omega arith;

@@ -39,7 +39,7 @@ more_lengths p argument arguments most least greatest others_least others_greate
     }
 
 -- the places that the others' lengths leave
-pub places_left : (p : PosedProblem) (argument : Arg) (later : List Arg) (from last start end least greatest low high : ℕ) → from ≤ last → AreEnds p argument from last (record { start = start; end = end }) → AreLengths p later (last - from) least greatest → low ≡ max start (last - greatest) → high ≡ min end (last + 1 - least) → ArePlaces p argument later from last (record { start = low; end = high })
+pub places_left : (p : PosedProblem) (argument : Arg) (later : List Arg) (from last start end least greatest low high : ℕ) → from ≤ last → AreEnds p argument from last (record { start = start; end = end }) → AreLengths p later (last - from) least greatest → low ≡ min (max start (last - greatest)) (last + 1) → high ≡ min end (last + 1 - least) → ArePlaces p argument later from last (record { start = low; end = high })
 places_left p argument later from last start end least greatest low high span ends lengths low_is high_is =
     record {
       fit = λ to l h. (ends.exact to (omega (arith, ends.up_to_last))).1 (omega arith, omega arith);

@@ -7,6 +7,7 @@ pub mod LengthSums
 pub mod Closing
 pub mod FirstPlace
 pub mod NextPlace
+pub mod Passing
 pub mod WholeCell
 pub mod StartLists
 pub mod Searching

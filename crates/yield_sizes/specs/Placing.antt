@@ -5,6 +5,8 @@ use Rattle.std.specs.declared.ops.Range.{Range}
 use Rattle.adp_model.specs.declared.grammar.Arg.{Arg}
 use Rattle.adp_model.specs.declared.cell.Cell.{Cell}
 use Rattle.adp_model.specs.PosedProblem.{PosedProblem}
+use Rattle.adp_model.specs.Parts.{alternatives_of, arguments_of, letters_of}
+use Rattle.adp_model.specs.Tokens.{letters_between, IsIn}
 use Rattle.adp_model.specs.Splits.{Placed, FitsSpan}
 use Rattle.adp_model.specs.Walk.{rank_of, IsVisitedBefore}
 use Rattle.yield_sizes.specs.declared.cuts.Cuts.{Cuts}
@@ -12,6 +14,13 @@ use Rattle.yield_sizes.specs.declared.cuts.Cuts.{Cuts}
 -- an argument on a span
 abbrev pub on_span : Arg → ℕ → ℕ → Placed
 on_span argument from to = record { argument = argument; from = from; to = to }
+
+-- the letters from `from` on are in the class up to this place and no further, as far as the last
+pub record IsClassEnd (p : PosedProblem) (class from last end : ℕ) : Type 0 where
+  pub after : from ≤ end
+  pub within : end ≤ last
+  pub exact : (to : ℕ) → from ≤ to → to ≤ last
+      → AllByRecursion (IsIn (letters_of p.grammar class)) (letters_between p.word from to) ↔ (to ≤ end)
 
 -- the range has the places, up to the last, at which the argument may end
 pub record AreEnds (p : PosedProblem) (argument : Arg) (from last : ℕ) (ends : Range ℕ) : Type 0 where
@@ -24,6 +33,16 @@ abbrev pub Cover : PosedProblem → List Arg → ℕ → ℕ → Type 0
 Cover p [] from to = from ≡ to
 Cover p (argument ∷ arguments) from to =
     (cut : ℕ) × FitsSpan p (on_span argument from cut) × Cover p arguments cut to
+
+-- the arguments may have no letters from any place of the range on
+abbrev pub CoverNone : PosedProblem → List Arg → ℕ → ℕ → Type 0
+CoverNone p arguments start end = (from to : ℕ) → start ≤ from → from < end → Cover p arguments from to → ⊥
+
+-- a place of the range, from no place before which they may have letters
+pub record IsNextPlace (p : PosedProblem) (arguments : List Arg) (start end place : ℕ) : Type 0 where
+  pub low : start ≤ place
+  pub high : place < end
+  pub none_before : CoverNone p arguments start place
 
 -- where they may, and the letters are at most `most`, these are at least `least` and at most `greatest`
 pub record AreLengths (p : PosedProblem) (arguments : List Arg) (most least greatest : ℕ) : Type 0 where
@@ -41,6 +60,11 @@ pub record ArePlaces (p : PosedProblem) (argument : Arg) (later : List Arg) (fro
       → (places.start ≤ to) × (to < places.end)
   pub behind : from ≤ places.start
   pub up_to_last : places.end ≤ last + 1
+
+-- the arguments are those of the alternative from this number on
+pub record AreRest (p : PosedProblem) (cell : Cell) (alternative number : ℕ) (arguments : List Arg) : Type 0 where
+  pub in_range : alternative < length (alternatives_of p.grammar cell.rule)
+  pub are : arguments ≡ drop number (arguments_of p.grammar cell.rule alternative)
 
 -- these cuts divide the letters from `from` to `to` into spans that the arguments may have, in order; cuts that are
 -- left over stand at `to`

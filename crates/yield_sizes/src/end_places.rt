@@ -1,11 +1,12 @@
-ghost use Rattle.std.specs.Prelude.{◌≡◌, ◌^◌, ◌<◌, ◌≤◌, List, [], ◌∷◌, length};
+ghost use Rattle.std.specs.Prelude.{◌≡◌, ◌+◌, ◌^◌, ◌<◌, ◌≤◌, List, [], ◌∷◌, length};
 ghost use Rattle.std.specs.List.{AllByRecursion};
 ghost use Rattle.adp_model.specs.declared.grammar.Arg.{Arg as Argument};
 ghost use Rattle.adp_model.specs.PosedProblem.{IsSpan};
 ghost use Rattle.adp_model.specs.WellFormed.{IsKnown};
 ghost use Rattle.yield_sizes.specs.Placing.{AreLengths, ArePlaces};
 
-use crate::ends::ends;
+use crate::ends::argument_ends;
+use crate::matcher::Matcher;
 use crate::parts::rule_sizes;
 use adp_model::{Arg, Problem};
 use std::ops::Range;
@@ -48,18 +49,25 @@ fn total_lengths(problem: &Problem<'_>, arguments: &[Arg], most: usize) -> (usiz
 }
 
 /// Where the first argument, which begins at `from`, may end, as far as the lengths of the others leave a way up to
-/// `last`.
-pub fn places(problem: &Problem<'_>, arguments: &[Arg], from: usize, last: usize) -> Range<usize>
-    requires known { AllByRecursion (IsKnown problem.now.grammar) arguments.now }
+/// `last`. Takes no memory.
+pub fn first_ends<M: Matcher>(
+    matcher: &M,
+    arguments: &[Arg],
+    from: usize,
+    last: usize,
+) -> Range<usize>
+    requires known { AllByRecursion (IsKnown (M.posed matcher.now).grammar) arguments.now }
     requires some { 0 < length arguments.now }
     requires few { length arguments.now ≤ 4 }
-    requires span { IsSpan problem.now.word from last }
+    requires span { IsSpan (M.posed matcher.now).word from last }
     requires short { last < 2 ^ 16 }
-    ensures { (first : Argument) (later : List Argument) → arguments.now ≡ first ∷ later
-        → ArePlaces problem.now first later from last result }
+    ensures places { (first : Argument) (later : List Argument) → arguments.now ≡ first ∷ later
+        → ArePlaces (M.posed matcher.now) first later from last result }
+    ensures start { result.start ≤ last + 1 }
+    ensures end { result.end ≤ last + 1 }
 {
-    let ends = ends(problem, &arguments[0], from, last);
-    let (least, greatest) = total_lengths(problem, &arguments[1..], last - from);
+    let ends = argument_ends(matcher, &arguments[0], from, last);
+    let (least, greatest) = total_lengths(matcher.problem(), &arguments[1..], last - from);
     let start = ends.start.max(last.saturating_sub(greatest));
-    start..ends.end.min((last + 1).saturating_sub(least))
+    start.min(last + 1)..ends.end.min((last + 1).saturating_sub(least))
 }

@@ -7,8 +7,7 @@ ghost use Rattle.adp_model.specs.Splits.{IsViable};
 ghost use Rattle.adp_model.specs.Walk.{IsFirstVisited, IsNextVisited, IsLastVisited};
 
 use crate::cuts::Cuts;
-use crate::parts::arguments;
-use crate::placing::{first_cuts, next_cuts};
+use crate::visiting::{first_visited, next_visited};
 use adp_model::{Cell, Problem};
 
 /// Whether the alternative has a viable split of the cell. If so, `cuts` are then the one that is visited first, where
@@ -28,15 +27,7 @@ pub fn first_viable(
     ensures none { OnFalse result ((others : List ℕ) → IsViable problem.now cell alt others → ⊥) }
     ensures kept { OnFalse result (cuts.new.at ≡ cuts.old.at) }
 {
-    cuts.turns = turns;
-    let arguments = arguments(problem, cell.rule, alt);
-    match first_cuts(problem, cell, arguments, cell.from as usize, 0, *cuts) {
-        Some(found) => {
-            *cuts = found;
-            true
-        }
-        None => false,
-    }
+    first_visited(problem, cell, alt, turns, cuts)
 }
 
 /// Whether a viable split is visited behind `cuts`. If so, they are then the next one; else they are as before. Takes
@@ -50,12 +41,5 @@ pub fn next_viable(problem: &Problem<'_>, cell: Cell, alt: u8, cuts: &mut Cuts) 
     ensures last { OnFalse result (IsLastVisited problem.now cell alt cuts.old.turns cuts.old.at) }
     ensures kept { OnFalse result (cuts.new.at ≡ cuts.old.at) }
 {
-    let arguments = arguments(problem, cell.rule, alt);
-    match next_cuts(problem, cell, arguments, cell.from as usize, 0, *cuts) {
-        Some(found) => {
-            *cuts = found;
-            true
-        }
-        None => false,
-    }
+    next_visited(problem, cell, alt, cuts)
 }

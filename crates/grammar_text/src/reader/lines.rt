@@ -6,6 +6,8 @@ ghost use Rattle.std.specs.Char.{is_newline};
 ghost use Rattle.std.specs.List.{position_or_len};
 ghost use Rattle.std.specs.Str.Lines.{strip_carriage_return};
 
+use memchr::memchr;
+
 /// The first line of a text and the bytes behind its end; `None` where there is no byte. An LF ends a line, and one CR
 /// directly before it is no part of the line.
 pub(crate) fn first_line(text: &[u8]) -> Option<(&[u8], &[u8])>
@@ -28,9 +30,7 @@ pub(crate) fn first_line(text: &[u8]) -> Option<(&[u8], &[u8])>
 fn line_end(text: &[u8]) -> usize
     ensures { result ≡ position_or_len is_newline text.now }
 {
-    text.iter()
-        .position(|byte| *byte == b'\n')
-        .unwrap_or(text.len())
+    memchr(b'\n', text).unwrap_or(text.len())
 }
 
 // The line without one CR at its end.

@@ -11,7 +11,7 @@ use Rattle.seq_reference.specs.Filling.{AreFilled, IsFilledBefore, IsFilledBefor
 use Rattle.seq_reference.proofs.Sweeps.{Counted, visited}
 use Rattle.seq_reference.proofs.Fills.{filled_fewer, filled_past, filled_kept, fill_cases, child_before, none_filled, all_filled}
 use Rattle.seq_reference.proofs.filling.fill_span.Goals as goal
-use Rattle.seq_reference.proofs.filling.fill_span.Goals.{After-demanded_children_are_below, then-is_marked, else-is_marked}
+use Rattle.seq_reference.proofs.filling.fill_span.Goals.{After-demanded_children_are_below, then-is_marked_in_row, else-is_marked_in_row}
 
 counted : (c : After-demanded_children_are_below) → (cell : Cell) → IsDemanded c.args.lines.now cell → Counted c.args.lines.now cell
 counted c =
@@ -37,13 +37,13 @@ pub cell_score-score-requires-clause-rule : goal.cell_score-score-requires-claus
 cell_score-score-requires-clause-rule c =
     let before = (goal.at.cell_score-score-requires-clause-rule c).After-demanded_children_are_below in
     let cell = visited c.args.lines.now c.args.rules.now c.args.from c.args.to (get_or c.args.rules.now c.loop-rule.rule-index 0) in
-    (counted before cell ((c.requires.marked cell).0 (c.if-is_marked.ensures.0 refl))).rule
+    (counted before cell ((c.requires.marked cell).0 (c.if-is_marked_in_row.ensures.0 refl))).rule
 
 pub cell_score-score-requires-clause-in_word : goal.cell_score-score-requires-clause-in_word
 cell_score-score-requires-clause-in_word c =
     let before = (goal.at.cell_score-score-requires-clause-in_word c).After-demanded_children_are_below in
     let cell = visited c.args.lines.now c.args.rules.now c.args.from c.args.to (get_or c.args.rules.now c.loop-rule.rule-index 0) in
-    let is = counted before cell ((c.requires.marked cell).0 (c.if-is_marked.ensures.0 refl)) in
+    let is = counted before cell ((c.requires.marked cell).0 (c.if-is_marked_in_row.ensures.0 refl)) in
     record { in_order = is.in_order; in_word = is.in_word }
 
 pub cell_score-score-requires-clause-scored : goal.cell_score-score-requires-clause-scored
@@ -53,7 +53,7 @@ cell_score-score-requires-clause-scored c = λ child is.
     let number = c.loop-rule.rule-index in
     let before = (goal.at.cell_score-score-requires-clause-scored c).After-demanded_children_are_below in
     let cell = visited c.args.lines.now c.args.rules.now c.args.from c.args.to (get_or c.args.rules.now c.loop-rule.rule-index 0) in
-    let demanded = Child cell child ((c.requires.marked cell).0 (c.if-is_marked.ensures.0 refl)) is in
+    let demanded = Child cell child ((c.requires.marked cell).0 (c.if-is_marked_in_row.ensures.0 refl)) is in
     c.loop-rule.invariant.entries child demanded
     (child_before p rules c.args.from c.args.to number (get_or rules number 0) refl c.loop-rule-test.true c.requires.ranked c.admissible.ensures.ranks (below before) child (counted before child demanded) is)
 
@@ -62,7 +62,7 @@ keep-requires-clause-counted c =
     let before = (goal.at.keep-requires-clause-counted c).After-demanded_children_are_below in
     let cell = visited c.args.lines.now c.args.rules.now c.args.from c.args.to (get_or c.args.rules.now c.loop-rule.rule-index 0) in
     let C : PosedProblem → Type 0 = λ q. Counted q cell in
-    subst C (sym c.loop-rule.invariant.problem) (counted before cell ((c.requires.marked cell).0 (c.if-is_marked.ensures.0 refl)))
+    subst C (sym c.loop-rule.invariant.problem) (counted before cell ((c.requires.marked cell).0 (c.if-is_marked_in_row.ensures.0 refl)))
 
 pub keep-requires-clause-right : goal.keep-requires-clause-right
 keep-requires-clause-right c =
@@ -81,15 +81,15 @@ loop-rule-preserved c =
     let rule = get_or rules number 0 in
     let cell = visited p rules from to rule in
     let F : Table ℤ → Type 0 = λ scores. AreFilled p scores (IsFilledBeforeRule rules from to (number + 1)) in
-    elim c.if-is_marked.branch [
-      | then-is_marked w ↦
+    elim c.if-is_marked_in_row.branch [
+      | then-is_marked_in_row w ↦
           subst F (sym w.scores-is)
           (filled_kept p (counted before) cell c.loop-rule.scores w.keep.new.self (IsFilledBeforeRule rules from to number) (IsFilledBeforeRule rules from to (number + 1))
           c.loop-rule.invariant w.keep.ensures.problem w.keep.ensures.kept w.keep.ensures.others (fill_cases p rules from to number rule refl))
-      | else-is_marked w ↦
+      | else-is_marked_in_row w ↦
           subst F (sym w.scores-is)
           (filled_past p (counted before) cell c.loop-rule.scores (IsFilledBeforeRule rules from to number) (IsFilledBeforeRule rules from to (number + 1))
-          c.loop-rule.invariant (λ demanded. let yes = c.is_marked.ensures.1 ((c.requires.marked cell).1 demanded) in let no = w.if-is_marked.false in absurd cc) (fill_cases p rules from to number rule refl))
+          c.loop-rule.invariant (λ demanded. let yes = c.is_marked_in_row.ensures.1 ((c.requires.marked cell).1 demanded) in let no = w.if-is_marked_in_row.false in absurd cc) (fill_cases p rules from to number rule refl))
     ]
 
 pub returns : goal.returns

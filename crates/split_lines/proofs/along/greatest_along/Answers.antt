@@ -1,5 +1,5 @@
 use Rattle.std.proofs.Common.{◌≡◌, ◌+◌, ◌-◌, ◌<◌, ◌≤◌, ℕ, zero, suc, ℤ, ◌+ℤ◌, true, false, Some, List, [], ◌∷◌, ◌++◌, length, get_or, FitsSigned, w64, nat_abs, refl, sym, ap, subst, ◌∙◌, arith, rules, eqb-true}
-use Rattle.std.specs.Prelude.{IsSome, ◌==◌}
+use Rattle.std.specs.Prelude.{◌==◌}
 use Rattle.std.specs.List.{AllByRecursion, Contains}
 use Rattle.std.proofs.lemmas.Int.{to_z-of_z, fits_signed_from_abs}
 use Rattle.std.proofs.lemmas.Bool.{false≢true}
@@ -13,9 +13,9 @@ use Rattle.adp_model.specs.Bellman.{HasBestScore}
 use Rattle.yield_sizes.specs.Placing.{on_span, Cover}
 use Rattle.split_lines.specs.Laid.{IsFixed, LineParts, AreBoundaries}
 use Rattle.split_lines.specs.Lines.{parts_by}
-use Rattle.split_lines.specs.Entries.{Table, HasEntry, IsEntry}
+use Rattle.split_lines.specs.Entries.{HasEntry, IsEntry}
 use Rattle.split_lines.specs.Rows.{HasEntryAt}
-use Rattle.split_lines.specs.Spans.{Spans, value_at}
+use Rattle.split_lines.specs.ArgumentEntries.{entries_of}
 use Rattle.split_lines.specs.Totals.{HasTotal, IsGreatestOf}
 use Rattle.split_lines.proofs.Bounding.{best_within}
 use Rattle.split_lines.proofs.Scoring.{one_score}
@@ -23,7 +23,7 @@ use Rattle.split_lines.proofs.FirstEnds.{AreLaid, AreSound, at_rule}
 use Rattle.split_lines.proofs.FrontPlaces.{IsFront}
 use Rattle.split_lines.proofs.WholeLines.{IsWhole, tail_weighted, tail_covers, tail_low, whole_front, place_within, first_entry, second_entry, none_without_place, none_without_front, greatest_whole, whole_low, entry_among, some_value_at, between_ends, first_stands, last_stands}
 use Rattle.split_lines.proofs.along.greatest_along.Goals as goal
-use Rattle.split_lines.proofs.along.greatest_along.Goals.{After-line_arguments-arguments, After-scores}
+use Rattle.split_lines.proofs.along.greatest_along.Goals.{After-line_arguments-arguments}
 
 parts_are : (c : After-line_arguments-arguments) → parts_by c.args.arguments.now c.args.line.between ≡ record { first = c.line_arguments-arguments.result.first.now; middle = c.line_arguments-arguments.result.middle.now; second = c.line_arguments-arguments.result.second.now; tail = c.line_arguments-arguments.result.tail.now }
 parts_are c =
@@ -50,7 +50,7 @@ whole c =
       each = c.line_arguments-arguments.ensures.middle_each;
       middle_fixed = subst (λ (parts : LineParts). AllByRecursion IsFixed parts.middle) (parts_are c) c.requires.line.has_line.parts.middle_fixed;
       tail_fixed = subst (λ (parts : LineParts). AllByRecursion IsFixed parts.tail) (parts_are c) c.requires.line.has_line.parts.tail_fixed;
-      boundary = subst (λ (parts : LineParts). AreBoundaries p parts c.args.from c.args.to c.boundary-boundary.result.letters c.boundary-boundary.result.last c.boundary-boundary.result.places.now) (parts_are c) c.boundary-boundary.ensures;
+      boundary = subst (λ (parts : LineParts). AreBoundaries p parts c.args.from c.args.to c.boundary-boundary.result.letters c.boundary-boundary.result.last c.boundary-boundary.result.places.now) (parts_are c) c.boundary-boundary.ensures.boundaries;
     }
 
 -- a total of the arguments at hand
@@ -100,12 +100,6 @@ high_stands c l = last_stands c.boundary-boundary.result.places.now l
 few_letters : (c : After-line_arguments-arguments) → length c.args.lines.now.word ≤ 4000
 few_letters c = omega (arith, c.admissible.ensures.limits.letters, ap (λ (p : PosedProblem). length p.word) c.problem.ensures)
 
-rows_are : (c : After-scores) → c.scores.inside.rows ≡ c.args.scores.now.rows
-rows_are c = ap (λ (table : Table ℤ). table.rows) c.scores.view_is
-
-columns_are : (c : After-scores) → c.scores.inside.columns ≡ c.args.scores.now.columns
-columns_are c = ap (λ (table : Table ℤ). table.columns) c.scores.view_is
-
 pub returns-then-is_empty : goal.returns-then-is_empty
 returns-then-is_empty c =
     let at = (goal.at.returns-then-is_empty c).After-line_arguments-arguments in
@@ -118,21 +112,19 @@ returns-then-is_empty c =
     is_none [] e = refl
     is_none (place ∷ places) e = absurd (let none : suc (length places) ≡ 0 = eqb-true _ _ (sym e) in omega arith)
 
-pub entries_between-row-requires-clause-short : goal.entries_between-row-requires-clause-short
-entries_between-row-requires-clause-short c =
-    let at = (goal.at.entries_between-row-requires-clause-short c).After-line_arguments-arguments in
+pub entries-row-requires-clause-short : goal.entries-row-requires-clause-short
+entries-row-requires-clause-short c =
+    let at = (goal.at.entries-row-requires-clause-short c).After-line_arguments-arguments in
     let l = within at _ (high_stands at (not_zero _ c.if-is_empty.ensures)) in
     omega (arith, l.0, l.1, few_letters at)
 
-pub entries_between-row-requires-clause-there : goal.entries_between-row-requires-clause-there
-entries_between-row-requires-clause-there c = λ rule is.
-    let at = (goal.at.entries_between-row-requires-clause-there c).After-line_arguments-arguments in
-    let at' = (goal.at.entries_between-row-requires-clause-there c).After-scores in
+pub entries-row-requires-clause-there : goal.entries-row-requires-clause-there
+entries-row-requires-clause-there c = λ rule is.
+    let at = (goal.at.entries-row-requires-clause-there c).After-line_arguments-arguments in
     let some = not_zero _ c.if-is_empty.ensures in
     let low = first_has at _ (low_stands at some) rule is in
     let high = first_has at _ (high_stands at some) rule is in
-    let S : ℕ → Spans ℤ → Type 0 = λ far spans. IsSome (value_at spans rule c.args.from far) in
-    (subst (S (get_or c.boundary-boundary.result.places.now 0 0)) (sym (rows_are at')) (some_value_at _ low.entry low.in_row), subst (S (get_or c.boundary-boundary.result.places.now (length c.boundary-boundary.result.places.now - 1) 0)) (sym (rows_are at')) (some_value_at _ high.entry high.in_row))
+    (some_value_at _ low.entry low.in_row, some_value_at _ high.entry high.in_row)
 
 pub overflow_add-low : goal.overflow_add-low
 overflow_add-low c =
@@ -146,21 +138,19 @@ overflow_add-high c =
     let l = within at _ (high_stands at (not_zero _ c.if-is_empty.ensures)) in
     omega (arith, l.0, l.1, few_letters at)
 
-pub entries_between-column-requires-clause-short : goal.entries_between-column-requires-clause-short
-entries_between-column-requires-clause-short c =
-    let at = (goal.at.entries_between-column-requires-clause-short c).After-line_arguments-arguments in
+pub entries-column-requires-clause-short : goal.entries-column-requires-clause-short
+entries-column-requires-clause-short c =
+    let at = (goal.at.entries-column-requires-clause-short c).After-line_arguments-arguments in
     let l = within at _ (high_stands at (not_zero _ c.if-is_empty.ensures)) in
     omega (arith, l.0, l.1, few_letters at)
 
-pub entries_between-column-requires-clause-there : goal.entries_between-column-requires-clause-there
-entries_between-column-requires-clause-there c = λ rule is.
-    let at = (goal.at.entries_between-column-requires-clause-there c).After-line_arguments-arguments in
-    let at' = (goal.at.entries_between-column-requires-clause-there c).After-scores in
+pub entries-column-requires-clause-there : goal.entries-column-requires-clause-there
+entries-column-requires-clause-there c = λ rule is.
+    let at = (goal.at.entries-column-requires-clause-there c).After-line_arguments-arguments in
     let some = not_zero _ c.if-is_empty.ensures in
     let low = second_has at _ (low_stands at some) rule is in
     let high = second_has at _ (high_stands at some) rule is in
-    let S : ℕ → Spans ℤ → Type 0 = λ far spans. IsSome (value_at spans rule c.boundary-boundary.result.last far) in
-    (subst (S (get_or c.boundary-boundary.result.places.now 0 0 + c.boundary-boundary.result.letters)) (sym (columns_are at')) (some_value_at _ low.entry low.in_column), subst (S (get_or c.boundary-boundary.result.places.now (length c.boundary-boundary.result.places.now - 1) 0 + c.boundary-boundary.result.letters)) (sym (columns_are at')) (some_value_at _ high.entry high.in_column))
+    (some_value_at _ low.entry low.in_column, some_value_at _ high.entry high.in_column)
 
 pub greatest_front-requires-clause-weighted : goal.greatest_front-requires-clause-weighted
 greatest_front-requires-clause-weighted c =
@@ -180,39 +170,37 @@ greatest_front-requires-clause-low c =
 pub greatest_front-requires-clause-row : goal.greatest_front-requires-clause-row
 greatest_front-requires-clause-row c = λ place stands.
     let at = (goal.at.greatest_front-requires-clause-row c).After-line_arguments-arguments in
-    let at' = (goal.at.greatest_front-requires-clause-row c).After-scores in
     let p = c.args.lines.now in
-    let scores = c.entries_between-row.result.scores.now in
-    let ends = between_ends c.boundary-boundary.result.places.now place c.boundary-boundary.ensures.rising stands in
+    let scores = entries_of c.entries-row.result in
+    let ends = between_ends c.boundary-boundary.result.places.now place c.boundary-boundary.ensures.boundaries.rising stands in
     let N : ℕ → Type 0 = λ first. AtRule (HasEntryAt p scores first place) (on_span c.line_arguments-arguments.result.first.now c.args.from place) in
-    subst N (sym c.entries_between-row.ensures.first)
+    subst N (sym c.entries-row.ensures.first)
     (at_rule (HasEntryAt p scores (get_or c.boundary-boundary.result.places.now 0 0) place) c.line_arguments-arguments.result.first.now c.args.from place (λ rule is.
     let entry = first_has at place stands rule is in
     let cell : Cell = record { rule = rule; from = c.args.from; to = place } in
-    entry_among p c.scores.inside.rows rule c.args.from (get_or c.boundary-boundary.result.places.now 0 0) place entry.entry scores cell ends.0
-    (c.entries_between-row.ensures.values rule place is ends.0 ends.1)
-    (subst (λ (spans : Spans ℤ). value_at spans rule c.args.from place ≡ Some entry.entry) (sym (rows_are at')) entry.in_row)
+    entry_among p c.args.scores.now.rows rule c.args.from (get_or c.boundary-boundary.result.places.now 0 0) place entry.entry scores cell ends.0
+    (c.entries-row.ensures.values rule place is ends.0 ends.1)
+    entry.in_row
     (subst (λ (problem : PosedProblem). IsEntry problem cell entry.entry) c.requires.same_problem entry.is_entry)))
 
 pub greatest_front-requires-clause-column : goal.greatest_front-requires-clause-column
 greatest_front-requires-clause-column c = λ place stands.
     let at = (goal.at.greatest_front-requires-clause-column c).After-line_arguments-arguments in
-    let at' = (goal.at.greatest_front-requires-clause-column c).After-scores in
     let p = c.args.lines.now in
-    let scores = c.entries_between-column.result.scores.now in
+    let scores = entries_of c.entries-column.result in
     let letters = c.boundary-boundary.result.letters in
     let last = c.boundary-boundary.result.last in
-    let ends = between_ends c.boundary-boundary.result.places.now place c.boundary-boundary.ensures.rising stands in
+    let ends = between_ends c.boundary-boundary.result.places.now place c.boundary-boundary.ensures.boundaries.rising stands in
     let low : get_or c.boundary-boundary.result.places.now 0 0 + letters ≤ place + letters = omega (arith, ends.0) in
     let high : place + letters ≤ get_or c.boundary-boundary.result.places.now (length c.boundary-boundary.result.places.now - 1) 0 + letters = omega (arith, ends.1) in
     let N : ℕ → Type 0 = λ first. AtRule (HasEntryAt p scores first (place + letters)) (on_span c.line_arguments-arguments.result.second.now (place + letters) last) in
-    subst N (sym c.entries_between-column.ensures.first)
+    subst N (sym c.entries-column.ensures.first)
     (at_rule (HasEntryAt p scores (get_or c.boundary-boundary.result.places.now 0 0 + letters) (place + letters)) c.line_arguments-arguments.result.second.now (place + letters) last (λ rule is.
     let entry = second_has at place stands rule is in
     let cell : Cell = record { rule = rule; from = place + letters; to = last } in
-    entry_among p c.scores.inside.columns rule last (get_or c.boundary-boundary.result.places.now 0 0 + letters) (place + letters) entry.entry scores cell low
-    (c.entries_between-column.ensures.values rule (place + letters) is low high)
-    (subst (λ (spans : Spans ℤ). value_at spans rule last (place + letters) ≡ Some entry.entry) (sym (columns_are at')) entry.in_column)
+    entry_among p c.args.scores.now.columns rule last (get_or c.boundary-boundary.result.places.now 0 0 + letters) (place + letters) entry.entry scores cell low
+    (c.entries-column.ensures.values rule (place + letters) is low high)
+    entry.in_column
     (subst (λ (problem : PosedProblem). IsEntry problem cell entry.entry) c.requires.same_problem entry.is_entry)))
 
 pub fixed_total-requires-clause-weighted : goal.fixed_total-requires-clause-weighted

@@ -1,23 +1,27 @@
-use Rattle.std.proofs.Common.{◌≡◌, ◌<◌, ◌≤◌, ◌⊎◌, ℕ, ℤ, ◌+ℤ◌, ◌*ℤ◌, Some, List, ◌∷◌, drop, FitsSigned, w64, nat_abs, sym, subst, arith, rules}
-use Rattle.std.specs.Prelude.{IfSome}
+use Rattle.std.proofs.Common.{◌≡◌, ◌<◌, ◌≤◌, ◌⊎◌, ℕ, ℤ, pos, ◌+ℤ◌, ◌*ℤ◌, Option, Some, None, List, [], ◌∷◌, length, drop, refl, ap, FitsSigned, w64, nat_abs, sym, subst, arith, rules}
+use Rattle.std.specs.Option.{option_copied}
+use Rattle.std.specs.Prelude.{IfSome, MatchOption, ◌==◌, if◌then◌else◌}
 use Rattle.std.proofs.lemmas.Int.{to_z-of_z, fits_signed_from_abs}
 use Rattle.adp_model.specs.declared.grammar.Arg.{Arg}
+use Rattle.split_lines.specs.declared.lines.Line.{Line}
 use Rattle.split_lines.specs.Lines.{IsLine}
 use Rattle.adp_model.specs.PosedProblem.{PosedProblem}
 use Rattle.adp_model.specs.ProblemFields.{greatest_score}
 use Rattle.adp_model.specs.Splits.{FitsSpan}
+use Rattle.adp_model.specs.FirstSplit.{IsValue}
 use Rattle.adp_model.specs.Bellman.{HasBestScore}
-use Rattle.yield_sizes.specs.Placing.{on_span, ArePlaces}
+use Rattle.yield_sizes.specs.Placing.{on_span, ArePlaces, Cover}
 use Rattle.split_lines.specs.Totals.{HasTotal, IsGreatestOf}
 use Rattle.split_lines.proofs.LineDemands.{line_now, line_later}
 use Rattle.split_lines.proofs.Bounding.{best_within}
 use Rattle.split_lines.proofs.Scoring.{one_score}
-use Rattle.split_lines.proofs.FirstEnds.{AreLaid, AreSound, first_low, rest_laid, parts_low, found_more, unvalued_more, untotalled_more, none_first, all_found}
+use Rattle.split_lines.proofs.FirstEnds.{AreLaid, AreSound, first_low, rest_laid, parts_low, found_more, unvalued_more, untotalled_more, none_first, all_found, first_known_entry}
+use Rattle.split_lines.proofs.OneEnds.{IsEndTold, none_ends, one_ends, total_nowhere, none_from, greatest_from, unvalued_from, fixed_value, total_of_none, empty_without, nothing_more}
 use Rattle.split_lines.proofs.filling.+greatest_total.Goals as goal
-use Rattle.split_lines.proofs.filling.+greatest_total.Goals.{After-places-places}
+use Rattle.split_lines.proofs.filling.+greatest_total.Goals.{After-answer_is_unique, After-places-places, After-token_value, After-argument_value, In_ok-end}
 
 -- the arguments, from the first one on
-laid : (t : ℕ) (c : After-places-places t) → AreLaid c.args.known.lines.now c.args.known.scores.now (c.in-Some-Some.argument.now ∷ c.in-Some-Some.others.now) (c.in-Some-Some.factor.now ∷ c.in-Some-Some.factors.now) c.args.from c.args.to
+laid : (t : ℕ) (c : After-answer_is_unique t) → AreLaid c.args.known.lines.now c.args.known.scores.now (c.in-Some-Some.argument.now ∷ c.in-Some-Some.others.now) (c.in-Some-Some.factor.now ∷ c.in-Some-Some.factors.now) c.args.from c.args.to
 laid t c =
     let p = c.args.known.lines.now in
     let table = c.args.known.scores.now in
@@ -26,7 +30,7 @@ laid t c =
     subst A c.in-Some-Some.ensures.cases.0 (subst F c.in-Some-Some.ensures'.cases.0
     (record { weighted = c.requires.weighted; span = c.requires.span; scored = c.requires.scored; low = c.requires.low }))
 
-sound : (t : ℕ) (c : After-places-places t) → AreSound c.args.known.lines.now
+sound : (t : ℕ) (c : After-answer_is_unique t) → AreSound c.args.known.lines.now
 sound t c =
     let p = c.args.known.lines.now in
     let same : c.problem.result.now ≡ p = c.problem.ensures in
@@ -47,13 +51,14 @@ loop-end-init t c =
     let at = (goal.at.loop-end-init t c).After-places-places in
     none_first c.args.known.lines.now c.in-Some-Some.argument.now c.in-Some-Some.others.now c.in-Some-Some.factor.now c.in-Some-Some.factors.now c.args.from c.args.to c.places-places.result (places t at)
 
-pub argument_value-requires-clause-fits : goal.argument_value-requires-clause-fits
-argument_value-requires-clause-fits t c = fits t (goal.at.argument_value-requires-clause-fits t c).After-places-places c.loop-end.end c.loop-end.auto.end c.loop-end-test.true
+pub argument_value-requires-in-loop-end-clause-fits : goal.argument_value-requires-in-loop-end-clause-fits
+argument_value-requires-in-loop-end-clause-fits t c = fits t (goal.at.argument_value-requires-in-loop-end-clause-fits t c).After-places-places c.loop-end.end c.loop-end.auto.end c.loop-end-test.true
 
-pub argument_value-requires-clause-low : goal.argument_value-requires-clause-low
-argument_value-requires-clause-low t c =
-    let at = (goal.at.argument_value-requires-clause-low t c).After-places-places in
-    first_low c.args.known.lines.now c.args.known.scores.now c.in-Some-Some.argument.now c.in-Some-Some.others.now c.in-Some-Some.factor.now c.in-Some-Some.factors.now c.args.from c.args.to (laid t at) c.loop-end.end
+pub argument_value-requires-in-loop-end-clause-low : goal.argument_value-requires-in-loop-end-clause-low
+argument_value-requires-in-loop-end-clause-low t c =
+    let at = (goal.at.argument_value-requires-in-loop-end-clause-low t c).After-places-places in
+    let begun = (goal.at.argument_value-requires-in-loop-end-clause-low t c).After-answer_is_unique in
+    first_low c.args.known.lines.now c.args.known.scores.now c.in-Some-Some.argument.now c.in-Some-Some.others.now c.in-Some-Some.factor.now c.in-Some-Some.factors.now c.args.from c.args.to (laid t begun) c.loop-end.end
     (fits t at c.loop-end.end c.loop-end.auto.end c.loop-end-test.true)
 
 pub returns : goal.returns
@@ -65,18 +70,19 @@ returns t c =
     let F : List ℤ → Type 0 = λ factors. IsGreatestOf (HasTotal p (HasBestScore p) c.args.arguments.now factors c.args.from c.args.to) c.loop-end.greatest in
     subst F (sym c.in-Some-Some.ensures'.cases.0) (subst A (sym c.in-Some-Some.ensures.cases.0) found)
 
-pub greatest_total-requires : goal.greatest_total-requires
-greatest_total-requires t c =
-    let at = (goal.at.greatest_total-requires t c).After-places-places in
+pub greatest_total-requires-in-loop-end : goal.greatest_total-requires-in-loop-end
+greatest_total-requires-in-loop-end t c =
+    let at = (goal.at.greatest_total-requires-in-loop-end t c).After-places-places in
+    let begun = (goal.at.greatest_total-requires-in-loop-end t c).After-answer_is_unique in
     let p = c.args.known.lines.now in
     let end = c.loop-end.end in
     let l : end ≤ c.args.to = omega (arith, (places t at).up_to_last, c.loop-end-test.true) in
-    let rest = rest_laid p c.args.known.scores.now c.in-Some-Some.argument.now c.in-Some-Some.others.now c.in-Some-Some.factor.now c.in-Some-Some.factors.now c.args.from c.args.to (laid t at) end (fits t at end c.loop-end.auto.end c.loop-end-test.true) l in
+    let rest = rest_laid p c.args.known.scores.now c.in-Some-Some.argument.now c.in-Some-Some.others.now c.in-Some-Some.factor.now c.in-Some-Some.factors.now c.args.from c.args.to (laid t begun) end (fits t at end c.loop-end.auto.end c.loop-end-test.true) l in
     let fewer = c.in-Some-Some.ensures.cases.1 in
     let A : List Arg → Type 0 = λ arguments. IfSome c.args.known.line (λ line. IsLine p (drop c.args.ahead arguments) line) in
     let N : ℕ → Type 0 = λ n. IfSome c.args.known.line (λ line. IsLine p (drop n c.in-Some-Some.others.now) line) in
-    let later = line_later p c.in-Some-Some.argument.now c.in-Some-Some.others.now c.args.known.line c.line_here.result c.args.ahead c.line_here.ensures c.in_default.is (subst A c.in-Some-Some.ensures.cases.0 c.requires.line) in
-    let ahead = subst N (sym c.saturating_sub.ensures) later in
+    let later = line_later p c.in-Some-Some.argument.now c.in-Some-Some.others.now c.args.known.line (option_copied c.line_here.result) c.args.ahead (subst (λ (given : Option Line). option_copied c.line_here.result ≡ (if c.args.ahead == 0 then given else None)) c.as_ref.ensures.value c.line_here.ensures) (ap option_copied c.in_default.is) (subst A c.in-Some-Some.ensures.cases.0 c.requires.line) in
+    let ahead = subst N (sym c.saturating_sub-ahead.ensures) later in
     (search rules, (c.requires.same_problem, (ahead, (rest.weighted, (rest.span, (rest.scored, rest.low))))))
 
 fits_below : (z : ℤ) → nat_abs z ≤ greatest_score → FitsSigned w64 z
@@ -85,8 +91,9 @@ fits_below z below = fits_signed_from_abs w64 z (omega arith)
 pub overflow_mul-factor : goal.overflow_mul-factor
 overflow_mul-factor t c =
     let at = (goal.at.overflow_mul-factor t c).After-places-places in
+    let begun = (goal.at.overflow_mul-factor t c).After-answer_is_unique in
     let end = c.loop-end.end in
-    let it = parts_low c.args.known.lines.now c.args.known.scores.now c.in-Some-Some.argument.now c.in-Some-Some.others.now c.in-Some-Some.factor.now c.in-Some-Some.factors.now c.args.from c.args.to (laid t at) end (fits t at end c.loop-end.auto.end c.loop-end-test.true) (sound t at)
+    let it = parts_low c.args.known.lines.now c.args.known.scores.now c.in-Some-Some.argument.now c.in-Some-Some.others.now c.in-Some-Some.factor.now c.in-Some-Some.factors.now c.args.from c.args.to (laid t begun) end (fits t at end c.loop-end.auto.end c.loop-end-test.true) (sound t begun)
     c.in-Some-argument_value.value (λ entry. c.in-Some-argument_value.ensures entry) c.in-Some-greatest_total.rest c.in-Some-greatest_total.ensures.0 in
     let fits_factor : FitsSigned w64 c.in-Some-Some.factor.now = search rules in
     let fits_value : FitsSigned w64 c.in-Some-argument_value.value = search rules in
@@ -95,8 +102,9 @@ overflow_mul-factor t c =
 pub overflow_add-factor : goal.overflow_add-factor
 overflow_add-factor t c =
     let at = (goal.at.overflow_add-factor t c).After-places-places in
+    let begun = (goal.at.overflow_add-factor t c).After-answer_is_unique in
     let end = c.loop-end.end in
-    let it = parts_low c.args.known.lines.now c.args.known.scores.now c.in-Some-Some.argument.now c.in-Some-Some.others.now c.in-Some-Some.factor.now c.in-Some-Some.factors.now c.args.from c.args.to (laid t at) end (fits t at end c.loop-end.auto.end c.loop-end-test.true) (sound t at)
+    let it = parts_low c.args.known.lines.now c.args.known.scores.now c.in-Some-Some.argument.now c.in-Some-Some.others.now c.in-Some-Some.factor.now c.in-Some-Some.factors.now c.args.from c.args.to (laid t begun) end (fits t at end c.loop-end.auto.end c.loop-end-test.true) (sound t begun)
     c.in-Some-argument_value.value (λ entry. c.in-Some-argument_value.ensures entry) c.in-Some-greatest_total.rest c.in-Some-greatest_total.ensures.0 in
     let fits_factor : FitsSigned w64 c.in-Some-Some.factor.now = search rules in
     let fits_value : FitsSigned w64 c.in-Some-argument_value.value = search rules in
@@ -107,6 +115,7 @@ overflow_add-factor t c =
 pub loop-end-preserved : goal.loop-end-preserved
 loop-end-preserved t c =
     let at = (goal.at.loop-end-preserved t c).After-places-places in
+    let begun = (goal.at.loop-end-preserved t c).After-answer_is_unique in
     let p = c.args.known.lines.now in
     let table = c.args.known.scores.now in
     let end = c.loop-end.end in
@@ -117,29 +126,246 @@ loop-end-preserved t c =
     let factors = c.in-Some-Some.factors.now in
     let value = c.in-Some-argument_value.value in
     let rest = c.in-Some-greatest_total.rest in
-    let it = parts_low p table argument others factor factors c.args.from c.args.to (laid t at) end end_fits (sound t at) value (λ entry. c.in-Some-argument_value.ensures entry) rest c.in-Some-greatest_total.ensures.0 in
+    let it = parts_low p table argument others factor factors c.args.from c.args.to (laid t begun) end end_fits (sound t begun) value (λ entry. c.in-Some-argument_value.ensures entry) rest c.in-Some-greatest_total.ensures.0 in
     let fits_factor : FitsSigned w64 factor = search rules in
     let fits_value : FitsSigned w64 value = search rules in
     let fits_product : FitsSigned w64 (factor *ℤ value) = fits_below (factor *ℤ value) it.0 in
     let fits_rest : FitsSigned w64 rest = search rules in
     let fits_sum : FitsSigned w64 ((factor *ℤ value) +ℤ rest) = fits_below ((factor *ℤ value) +ℤ rest) it.2 in
     let either : IsGreatestOf (λ number. (c.loop-end.greatest ≡ Some number) ⊎ (Some ((factor *ℤ value) +ℤ rest) ≡ Some number)) c.greater-greatest.result = simp to_z-of_z at c.greater-greatest.ensures in
-    found_more p table argument others factor factors c.args.from c.args.to (laid t at) end end_fits (sound t at) value rest (λ entry. c.in-Some-argument_value.ensures entry) c.in-Some-greatest_total.ensures c.loop-end.greatest c.greater-greatest.result c.loop-end.invariant either
+    found_more p table argument others factor factors c.args.from c.args.to (laid t begun) end end_fits (sound t begun) value rest (λ entry. c.in-Some-argument_value.ensures entry) c.in-Some-greatest_total.ensures c.loop-end.greatest c.greater-greatest.result c.loop-end.invariant either
 
 pub loop-end-preserved-in_default-argument_value : goal.loop-end-preserved-in_default-argument_value
 loop-end-preserved-in_default-argument_value t c =
     let at = (goal.at.loop-end-preserved-in_default-argument_value t c).After-places-places in
+    let begun = (goal.at.loop-end-preserved-in_default-argument_value t c).After-answer_is_unique in
     let end = c.loop-end.end in
-    unvalued_more c.args.known.lines.now c.args.known.scores.now c.in-Some-Some.argument.now c.in-Some-Some.others.now c.in-Some-Some.factor.now c.in-Some-Some.factors.now c.args.from c.args.to (laid t at) end (fits t at end c.loop-end.auto.end c.loop-end-test.true)
+    unvalued_more c.args.known.lines.now c.args.known.scores.now c.in-Some-Some.argument.now c.in-Some-Some.others.now c.in-Some-Some.factor.now c.in-Some-Some.factors.now c.args.from c.args.to (laid t begun) end (fits t at end c.loop-end.auto.end c.loop-end-test.true)
     (λ entry. c.in_default-argument_value.ensures entry) c.loop-end.greatest c.loop-end.invariant
 
 pub loop-end-preserved-in_default-greatest_total : goal.loop-end-preserved-in_default-greatest_total
 loop-end-preserved-in_default-greatest_total t c =
     let at = (goal.at.loop-end-preserved-in_default-greatest_total t c).After-places-places in
+    let begun = (goal.at.loop-end-preserved-in_default-greatest_total t c).After-answer_is_unique in
     let end = c.loop-end.end in
-    untotalled_more c.args.known.lines.now c.args.known.scores.now c.in-Some-Some.argument.now c.in-Some-Some.others.now c.in-Some-Some.factor.now c.in-Some-Some.factors.now c.args.from c.args.to (laid t at) end (fits t at end c.loop-end.auto.end c.loop-end-test.true)
+    untotalled_more c.args.known.lines.now c.args.known.scores.now c.in-Some-Some.argument.now c.in-Some-Some.others.now c.in-Some-Some.factor.now c.in-Some-Some.factors.now c.args.from c.args.to (laid t begun) end (fits t at end c.loop-end.auto.end c.loop-end-test.true)
     c.in_default-greatest_total.ensures c.loop-end.greatest c.loop-end.invariant
 
 pub greatest_along-requires-clause-line : goal.greatest_along-requires-clause-line
 greatest_along-requires-clause-line t c =
-    line_now c.args.known.lines.now c.args.arguments.now c.args.known.line c.line_here.result c.args.ahead c.in-Some.line c.line_here.ensures c.in-Some.is c.requires.line
+    line_now c.args.known.lines.now c.args.arguments.now c.args.known.line (option_copied c.line_here.result) c.args.ahead c.in-Some.line.now (subst (λ (given : Option Line). option_copied c.line_here.result ≡ (if c.args.ahead == 0 then given else None)) c.as_ref.ensures.value c.line_here.ensures) (ap option_copied c.in-Some.is) c.requires.line
+
+-- ---- a token in front
+
+told_end : (t : ℕ) (c : In_ok-end t) → IsEndTold c.args.known.lines.now c.in-Some-Some.argument.now c.args.from c.args.to (Some c.in_ok-end.end)
+told_end t c = let E : Option ℕ → Type 0 = IsEndTold c.args.known.lines.now c.in-Some-Some.argument.now c.args.from c.args.to in
+    subst E c.in_ok-end.was c.token_end.ensures
+
+end_there : (t : ℕ) (c : In_ok-end t) → (c.in_ok-end.end ≤ c.args.to) × FitsSpan c.args.known.lines.now (on_span c.in-Some-Some.argument.now c.args.from c.in_ok-end.end)
+end_there t c = (told_end t c c.in_ok-end.end).0 (λ i. Some c.in_ok-end.end)
+
+only_end : (t : ℕ) (c : In_ok-end t) (other : ℕ) → FitsSpan c.args.known.lines.now (on_span c.in-Some-Some.argument.now c.args.from other) → Cover c.args.known.lines.now c.in-Some-Some.others.now other c.args.to → other ≡ c.in_ok-end.end
+only_end t c = one_ends c.args.known.lines.now c.in-Some-Some.argument.now c.in-Some-Some.others.now c.args.from c.args.to c.in_ok-end.end (told_end t c)
+
+-- what holds of the totals of the first argument and the others holds of those of the arguments
+of_all : (t : ℕ) (c : After-answer_is_unique t) (result : Option ℤ)
+    → IsGreatestOf (HasTotal c.args.known.lines.now (HasBestScore c.args.known.lines.now) (c.in-Some-Some.argument.now ∷ c.in-Some-Some.others.now) (c.in-Some-Some.factor.now ∷ c.in-Some-Some.factors.now) c.args.from c.args.to) result
+    → IsGreatestOf (HasTotal c.args.known.lines.now (HasBestScore c.args.known.lines.now) c.args.arguments.now c.args.factors.now c.args.from c.args.to) result
+of_all t c result found =
+    let p = c.args.known.lines.now in
+    let A : List Arg → Type 0 = λ arguments. IsGreatestOf (HasTotal p (HasBestScore p) arguments (c.in-Some-Some.factor.now ∷ c.in-Some-Some.factors.now) c.args.from c.args.to) result in
+    let F : List ℤ → Type 0 = λ factors. IsGreatestOf (HasTotal p (HasBestScore p) c.args.arguments.now factors c.args.from c.args.to) result in
+    subst F (sym c.in-Some-Some.ensures'.cases.0) (subst A (sym c.in-Some-Some.ensures.cases.0) found)
+
+pub returns-in_err-end : goal.returns-in_err-end
+returns-in_err-end t c =
+    let begun = (goal.at.returns-in_err-end t c).After-answer_is_unique in
+    let p = c.args.known.lines.now in
+    let argument = c.in-Some-Some.argument.now in
+    let others = c.in-Some-Some.others.now in
+    let E : Option ℕ → Type 0 = IsEndTold p argument c.args.from c.args.to in
+    let none = none_ends p argument others c.args.from c.args.to (subst E c.in_err-end.was c.token_end.ensures) in
+    of_all t begun c.from_residual.result (subst (λ (result : Option ℤ). IsGreatestOf (HasTotal p (HasBestScore p) (argument ∷ others) (c.in-Some-Some.factor.now ∷ c.in-Some-Some.factors.now) c.args.from c.args.to) result) (sym c.from_residual.ensures)
+    (total_nowhere p argument others c.args.from c.args.to none (HasBestScore p) c.in-Some-Some.factor.now c.in-Some-Some.factors.now))
+
+pub greatest_total-requires : goal.greatest_total-requires
+greatest_total-requires t c =
+    let begun = (goal.at.greatest_total-requires t c).After-answer_is_unique in
+    let p = c.args.known.lines.now in
+    let it = end_there t c in
+    let rest = rest_laid p c.args.known.scores.now c.in-Some-Some.argument.now c.in-Some-Some.others.now c.in-Some-Some.factor.now c.in-Some-Some.factors.now c.args.from c.args.to (laid t begun) c.in_ok-end.end it.1 it.0 in
+    let fewer = c.in-Some-Some.ensures.cases.1 in
+    let A : List Arg → Type 0 = λ arguments. IfSome c.args.known.line (λ line. IsLine p (drop c.args.ahead arguments) line) in
+    let N : ℕ → Type 0 = λ n. IfSome c.args.known.line (λ line. IsLine p (drop n c.in-Some-Some.others.now) line) in
+    let later = line_later p c.in-Some-Some.argument.now c.in-Some-Some.others.now c.args.known.line (option_copied c.line_here.result) c.args.ahead (subst (λ (given : Option Line). option_copied c.line_here.result ≡ (if c.args.ahead == 0 then given else None)) c.as_ref.ensures.value c.line_here.ensures) (ap option_copied c.in_default.is) (subst A c.in-Some-Some.ensures.cases.0 c.requires.line) in
+    let ahead = subst N (sym c.saturating_sub-ahead.ensures) later in
+    (search rules, (c.requires.same_problem, (ahead, (rest.weighted, (rest.span, (rest.scored, rest.low))))))
+
+pub returns-in_err-rest : goal.returns-in_err-rest
+returns-in_err-rest t c =
+    let begun = (goal.at.returns-in_err-rest t c).After-answer_is_unique in
+    let at = (goal.at.returns-in_err-rest t c).In_ok-end in
+    let p = c.args.known.lines.now in
+    let argument = c.in-Some-Some.argument.now in
+    let others = c.in-Some-Some.others.now in
+    let G : Option ℤ → Type 0 = λ result. IsGreatestOf (HasTotal p (HasBestScore p) others c.in-Some-Some.factors.now c.in_ok-end.end c.args.to) result in
+    of_all t begun c.from_residual-in_err-rest.result (subst (λ (result : Option ℤ). IsGreatestOf (HasTotal p (HasBestScore p) (argument ∷ others) (c.in-Some-Some.factor.now ∷ c.in-Some-Some.factors.now) c.args.from c.args.to) result) (sym c.from_residual-in_err-rest.ensures)
+    (none_from p argument others c.args.from c.args.to c.in_ok-end.end (end_there t at).1 (only_end t at) (HasBestScore p) c.in-Some-Some.factor.now c.in-Some-Some.factors.now (subst G c.in_err-rest.was c.greatest_total.ensures)))
+
+pub token_value-requires-clause-span : goal.token_value-requires-clause-span
+token_value-requires-clause-span t c = (end_there t (goal.at.token_value-requires-clause-span t c).In_ok-end).1.0
+
+pub token_value-requires-clause-low : goal.token_value-requires-clause-low
+token_value-requires-clause-low t c =
+    let begun = (goal.at.token_value-requires-clause-low t c).After-answer_is_unique in
+    first_low c.args.known.lines.now c.args.known.scores.now c.in-Some-Some.argument.now c.in-Some-Some.others.now c.in-Some-Some.factor.now c.in-Some-Some.factors.now c.args.from c.args.to (laid t begun) c.in_ok-end.end
+    (end_there t (goal.at.token_value-requires-clause-low t c).In_ok-end).1
+
+-- the value of the token, and that its parts are low
+value_is : (t : ℕ) (c : After-token_value t) → IsValue c.args.known.lines.now (HasBestScore c.args.known.lines.now) (on_span c.in-Some-Some.argument.now c.args.from c.in_ok-end.end) c.token_value.result
+value_is t c =
+    let p = c.args.known.lines.now in
+    let argument = c.in-Some-Some.argument.now in
+    let V : ℤ → Type 0 = λ value. IsValue p (HasBestScore p) (on_span argument c.args.from c.in_ok-end.end) value in
+    subst V (sym c.token_value.ensures) (fixed_value p (HasBestScore p) argument c.args.from c.in_ok-end.end (c.is_fixed.ensures.0 c.if-is_fixed.true))
+
+rest_is : (t : ℕ) (c : After-token_value t) → IsGreatestOf (HasTotal c.args.known.lines.now (HasBestScore c.args.known.lines.now) c.in-Some-Some.others.now c.in-Some-Some.factors.now c.in_ok-end.end c.args.to) (Some c.in_ok-rest.rest)
+rest_is t c =
+    let p = c.args.known.lines.now in
+    let G : Option ℤ → Type 0 = λ result. IsGreatestOf (HasTotal p (HasBestScore p) c.in-Some-Some.others.now c.in-Some-Some.factors.now c.in_ok-end.end c.args.to) result in
+    subst G c.in_ok-rest.was c.greatest_total.ensures
+
+pub overflow_mul-result : goal.overflow_mul-result
+overflow_mul-result t c =
+    let begun = (goal.at.overflow_mul-result t c).After-answer_is_unique in
+    let at = (goal.at.overflow_mul-result t c).In_ok-end in
+    let behind = (goal.at.overflow_mul-result t c).After-token_value in
+    let p = c.args.known.lines.now in
+    let argument = c.in-Some-Some.argument.now in
+    let others = c.in-Some-Some.others.now in
+    let factor = c.in-Some-Some.factor.now in
+    let factors = c.in-Some-Some.factors.now in
+    let value = c.token_value.result in
+    let rest = c.in_ok-rest.rest in
+    let it = parts_low p c.args.known.scores.now argument others factor factors c.args.from c.args.to (laid t begun) c.in_ok-end.end (end_there t at).1 (sound t begun) value (λ entry. value_is t behind) rest (rest_is t behind).0 in
+    let fits_factor : FitsSigned w64 factor = search rules in
+    let fits_value : FitsSigned w64 value = search rules in
+    simp to_z-of_z (fits_below (factor *ℤ value) it.0)
+
+pub overflow_add-result : goal.overflow_add-result
+overflow_add-result t c =
+    let begun = (goal.at.overflow_add-result t c).After-answer_is_unique in
+    let at = (goal.at.overflow_add-result t c).In_ok-end in
+    let behind = (goal.at.overflow_add-result t c).After-token_value in
+    let p = c.args.known.lines.now in
+    let argument = c.in-Some-Some.argument.now in
+    let others = c.in-Some-Some.others.now in
+    let factor = c.in-Some-Some.factor.now in
+    let factors = c.in-Some-Some.factors.now in
+    let value = c.token_value.result in
+    let rest = c.in_ok-rest.rest in
+    let it = parts_low p c.args.known.scores.now argument others factor factors c.args.from c.args.to (laid t begun) c.in_ok-end.end (end_there t at).1 (sound t begun) value (λ entry. value_is t behind) rest (rest_is t behind).0 in
+    let fits_factor : FitsSigned w64 factor = search rules in
+    let fits_value : FitsSigned w64 value = search rules in
+    let fits_product : FitsSigned w64 (factor *ℤ value) = fits_below (factor *ℤ value) it.0 in
+    let fits_rest : FitsSigned w64 rest = search rules in
+    simp to_z-of_z (fits_below ((factor *ℤ value) +ℤ rest) it.2)
+
+pub returns-then-is_fixed : goal.returns-then-is_fixed
+returns-then-is_fixed t c =
+    let begun = (goal.at.returns-then-is_fixed t c).After-answer_is_unique in
+    let at = (goal.at.returns-then-is_fixed t c).In_ok-end in
+    let behind = (goal.at.returns-then-is_fixed t c).After-token_value in
+    let p = c.args.known.lines.now in
+    let argument = c.in-Some-Some.argument.now in
+    let others = c.in-Some-Some.others.now in
+    let factor = c.in-Some-Some.factor.now in
+    let factors = c.in-Some-Some.factors.now in
+    let value = c.token_value.result in
+    let rest = c.in_ok-rest.rest in
+    let it = parts_low p c.args.known.scores.now argument others factor factors c.args.from c.args.to (laid t begun) c.in_ok-end.end (end_there t at).1 (sound t begun) value (λ entry. value_is t behind) rest (rest_is t behind).0 in
+    let fits_factor : FitsSigned w64 factor = search rules in
+    let fits_value : FitsSigned w64 value = search rules in
+    let fits_product : FitsSigned w64 (factor *ℤ value) = fits_below (factor *ℤ value) it.0 in
+    let fits_rest : FitsSigned w64 rest = search rules in
+    let fits_sum : FitsSigned w64 ((factor *ℤ value) +ℤ rest) = fits_below ((factor *ℤ value) +ℤ rest) it.2 in
+    let found = greatest_from p argument others c.args.from c.args.to c.in_ok-end.end (end_there t at).1 (only_end t at) (HasBestScore p) factor factors (sound t begun).one value rest (value_is t behind) (rest_is t behind) in
+    simp to_z-of_z (of_all t begun (Some ((factor *ℤ value) +ℤ rest)) found)
+
+-- ---- the last argument
+
+-- nothing stands behind it
+none_behind : (t : ℕ) (c : After-argument_value t) → c.in-Some-Some.others.now ≡ []
+none_behind t c = empty_without c.in-Some-Some.others.now (search rules)
+
+fits_whole : (t : ℕ) (c : After-argument_value t) → FitsSpan c.args.known.lines.now (on_span c.in-Some-Some.argument.now c.args.from c.args.to)
+fits_whole t c = c.fits.ensures.0 (search rules)
+
+covers_whole : (t : ℕ) (c : After-argument_value t) → Cover c.args.known.lines.now c.in-Some-Some.others.now c.args.to c.args.to
+covers_whole t c = let C : List Arg → Type 0 = λ others. Cover c.args.known.lines.now others c.args.to c.args.to in subst C (sym (none_behind t c)) refl
+
+only_whole : (t : ℕ) (c : After-argument_value t) (other : ℕ) → FitsSpan c.args.known.lines.now (on_span c.in-Some-Some.argument.now c.args.from other) → Cover c.args.known.lines.now c.in-Some-Some.others.now other c.args.to → other ≡ c.args.to
+only_whole t c other fits cover = let C : List Arg → Type 0 = λ others. Cover c.args.known.lines.now others other c.args.to in subst C (none_behind t c) cover
+
+-- the total of no arguments
+total_whole : (t : ℕ) (c : After-argument_value t) → IsGreatestOf (HasTotal c.args.known.lines.now (HasBestScore c.args.known.lines.now) c.in-Some-Some.others.now c.in-Some-Some.factors.now c.args.to c.args.to) (Some (pos 0))
+total_whole t c =
+    let p = c.args.known.lines.now in
+    let G : List Arg → Type 0 = λ others. IsGreatestOf (HasTotal p (HasBestScore p) others c.in-Some-Some.factors.now c.args.to c.args.to) (Some (pos 0)) in
+    let each : length c.in-Some-Some.factors.now ≡ 0 = omega (arith, c.requires.weighted.factors_each, ap length c.in-Some-Some.ensures.cases.0, ap length c.in-Some-Some.ensures'.cases.0, ap length (none_behind t c)) in
+    subst G (sym (none_behind t c)) (total_of_none p (HasBestScore p) c.in-Some-Some.factors.now c.args.to each)
+
+pub returns-in_err-argument_value : goal.returns-in_err-argument_value
+returns-in_err-argument_value t c =
+    let begun = (goal.at.returns-in_err-argument_value t c).After-answer_is_unique in
+    let valued = (goal.at.returns-in_err-argument_value t c).After-argument_value in
+    let p = c.args.known.lines.now in
+    let argument = c.in-Some-Some.argument.now in
+    let others = c.in-Some-Some.others.now in
+    let fits' = fits_whole t valued in
+    let entry = first_known_entry p c.args.known.scores.now argument others c.in-Some-Some.factor.now c.in-Some-Some.factors.now c.args.from c.args.to (laid t begun) c.args.to fits' (covers_whole t valued) in
+    let M : Option ℤ → Type 0 = λ result. MatchOption result ((value : ℤ) → IsValue p (HasBestScore p) (on_span argument c.args.from c.args.to) value → ⊥) (IsValue p (HasBestScore p) (on_span argument c.args.from c.args.to)) in
+    let none : (value : ℤ) → IsValue p (HasBestScore p) (on_span argument c.args.from c.args.to) value → ⊥ = subst M c.in_err-argument_value.was (c.argument_value.ensures entry) in
+    of_all t begun c.from_residual-in_err-argument_value.result (subst (λ (result : Option ℤ). IsGreatestOf (HasTotal p (HasBestScore p) (argument ∷ others) (c.in-Some-Some.factor.now ∷ c.in-Some-Some.factors.now) c.args.from c.args.to) result) (sym c.from_residual-in_err-argument_value.ensures)
+    (unvalued_from p argument others c.args.from c.args.to c.args.to fits' (only_whole t valued) (HasBestScore p) c.in-Some-Some.factor.now c.in-Some-Some.factors.now none))
+
+pub overflow_mul-result-then-is_empty : goal.overflow_mul-result-then-is_empty
+overflow_mul-result-then-is_empty t c =
+    let begun = (goal.at.overflow_mul-result-then-is_empty t c).After-answer_is_unique in
+    let valued = (goal.at.overflow_mul-result-then-is_empty t c).After-argument_value in
+    let p = c.args.known.lines.now in
+    let argument = c.in-Some-Some.argument.now in
+    let others = c.in-Some-Some.others.now in
+    let factor = c.in-Some-Some.factor.now in
+    let factors = c.in-Some-Some.factors.now in
+    let value = c.in_ok-argument_value.field-0 in
+    let fits' = fits_whole t valued in
+    let M : Option ℤ → Type 0 = λ result. MatchOption result ((value : ℤ) → IsValue p (HasBestScore p) (on_span argument c.args.from c.args.to) value → ⊥) (IsValue p (HasBestScore p) (on_span argument c.args.from c.args.to)) in
+    let entry = first_known_entry p c.args.known.scores.now argument others factor factors c.args.from c.args.to (laid t begun) c.args.to fits' (covers_whole t valued) in
+    let is_value : IsValue p (HasBestScore p) (on_span argument c.args.from c.args.to) value = subst M c.in_ok-argument_value.was (c.argument_value.ensures entry) in
+    let it = parts_low p c.args.known.scores.now argument others factor factors c.args.from c.args.to (laid t begun) c.args.to fits' (sound t begun) value (λ _. is_value) (pos 0) (total_whole t valued).0 in
+    let fits_factor : FitsSigned w64 factor = search rules in
+    let fits_value : FitsSigned w64 value = search rules in
+    simp to_z-of_z (fits_below (factor *ℤ value) it.0)
+
+pub returns-then-is_empty : goal.returns-then-is_empty
+returns-then-is_empty t c =
+    let begun = (goal.at.returns-then-is_empty t c).After-answer_is_unique in
+    let valued = (goal.at.returns-then-is_empty t c).After-argument_value in
+    let p = c.args.known.lines.now in
+    let argument = c.in-Some-Some.argument.now in
+    let others = c.in-Some-Some.others.now in
+    let factor = c.in-Some-Some.factor.now in
+    let factors = c.in-Some-Some.factors.now in
+    let value = c.in_ok-argument_value.field-0 in
+    let fits' = fits_whole t valued in
+    let M : Option ℤ → Type 0 = λ result. MatchOption result ((value : ℤ) → IsValue p (HasBestScore p) (on_span argument c.args.from c.args.to) value → ⊥) (IsValue p (HasBestScore p) (on_span argument c.args.from c.args.to)) in
+    let entry = first_known_entry p c.args.known.scores.now argument others factor factors c.args.from c.args.to (laid t begun) c.args.to fits' (covers_whole t valued) in
+    let is_value : IsValue p (HasBestScore p) (on_span argument c.args.from c.args.to) value = subst M c.in_ok-argument_value.was (c.argument_value.ensures entry) in
+    let it = parts_low p c.args.known.scores.now argument others factor factors c.args.from c.args.to (laid t begun) c.args.to fits' (sound t begun) value (λ _. is_value) (pos 0) (total_whole t valued).0 in
+    let fits_factor : FitsSigned w64 factor = search rules in
+    let fits_value : FitsSigned w64 value = search rules in
+    let fits_product : FitsSigned w64 (factor *ℤ value) = fits_below (factor *ℤ value) it.0 in
+    let found = greatest_from p argument others c.args.from c.args.to c.args.to fits' (only_whole t valued) (HasBestScore p) factor factors (sound t begun).one value (pos 0) is_value (total_whole t valued) in
+    let G : ℤ → Type 0 = λ total. IsGreatestOf (HasTotal p (HasBestScore p) (argument ∷ others) (factor ∷ factors) c.args.from c.args.to) (Some total) in
+    simp to_z-of_z (of_all t begun (Some (factor *ℤ value)) (subst G (nothing_more (factor *ℤ value)) found))

@@ -1,26 +1,30 @@
-use Rattle.std.proofs.Common.{◌≡◌, ◌↔◌, ℕ, ◌+◌, ◌-◌, ◌<◌, Bool, IsTrue, List, ◌∷◌, length, take, drop, refl, sym, ap, subst, inl, inr, ◌∙◌, arith, rules}
+use Rattle.std.proofs.Common.{◌≡◌, ◌↔◌, ℕ, ◌+◌, ◌-◌, ◌<◌, Bool, false, IsTrue, Option, Some, List, [], ◌∷◌, length, take, drop, refl, sym, ap, subst, inl, inr, ◌∙◌, arith, rules}
+use Rattle.std.specs.Option.{option_copied}
 use Rattle.std.specs.Prelude.{IfSome}
 use Rattle.std.specs.List.{AllByRecursion}
+use Rattle.std.proofs.lemmas.Bool.{false≢true}
 use Rattle.adp_model.specs.declared.grammar.Arg.{Arg}
 use Rattle.adp_model.specs.declared.cell.Cell.{Cell}
 use Rattle.adp_model.specs.PosedProblem.{PosedProblem}
 use Rattle.adp_model.specs.Cells.{IsCounted}
+use Rattle.adp_model.specs.Splits.{FitsSpan}
 use Rattle.adp_model.specs.WellFormed.{IsKnown}
-use Rattle.yield_sizes.specs.Placing.{Cover}
+use Rattle.yield_sizes.specs.Placing.{on_span, Cover}
 use Rattle.split_lines.specs.Laid.{Demands}
 use Rattle.split_lines.specs.Lines.{IsLine}
 use Rattle.split_lines.specs.Entries.{Table, AreMarkedToo}
 use Rattle.split_lines.proofs.Lists.{split_at_first}
 use Rattle.split_lines.proofs.LineDemands.{CoversBelow, DemandsBelow, line_now, line_later, marked_none, marked_some, covers_none, all_covered, all_marked}
+use Rattle.split_lines.proofs.OneEnds.{IsEndTold, none_ends, one_ends, cover_nowhere, cover_from, marked_nowhere, marked_behind, empty_without, last_misses, last_marked}
 use Rattle.split_lines.proofs.marking.+mark_arguments.Goals as goal
 use Rattle.split_lines.proofs.marking.+mark_arguments.Goals.{then-mark_arguments, else-mark_arguments}
 
 pub mark_line-requires-clause-line : goal.mark_line-requires-clause-line
 mark_line-requires-clause-line t c =
-    line_now c.args.lines.now c.args.arguments.now c.args.line c.line_here.result c.args.ahead c.in-Some.line c.line_here.ensures c.in-Some.is c.requires.line
+    line_now c.args.lines.now c.args.arguments.now (option_copied c.args.line) (option_copied c.line_here.result) c.args.ahead c.in-Some.line.now c.line_here.ensures (ap option_copied c.in-Some.is) c.requires.line
 
-pub mark_arguments-requires : goal.mark_arguments-requires
-mark_arguments-requires t c =
+pub mark_arguments-requires-in-loop-end : goal.mark_arguments-requires-in-loop-end
+mark_arguments-requires-in-loop-end t c =
     let p = c.args.lines.now in
     let all = c.args.arguments.now in
     let end = c.loop-end.end in
@@ -31,8 +35,8 @@ mark_arguments-requires t c =
     let split : all ≡ argument ∷ others = split_at_first all argument some c.index-arguments-0.is in
     let places = c.places-ends.ensures argument others split in
     let fits = places.fit end c.loop-end.auto.end c.loop-end-test.true in
-    let L : List Arg → Type 0 = λ xs. IfSome c.args.line (λ line. IsLine p (drop c.args.ahead xs) line) in
-    let N : ℕ → Type 0 = λ n. IfSome c.args.line (λ line. IsLine p (drop n others) line) in
+    let L : List Arg → Type 0 = λ xs. IfSome (option_copied c.args.line) (λ line. IsLine p (drop c.args.ahead xs) line) in
+    let N : ℕ → Type 0 = λ n. IfSome (option_copied c.args.line) (λ line. IsLine p (drop n others) line) in
     let K : List Arg → Type 0 = λ xs. AllByRecursion (IsKnown p.grammar) xs in
     let known : K (argument ∷ others) = subst K split c.requires.known in
     let same_length : length all ≡ length others + 1 = ap length split ∙ omega arith in
@@ -40,7 +44,7 @@ mark_arguments-requires t c =
     let counted = subst D split c.requires.counted in (
       omega (arith, same_length, c.decreases),
       (
-        subst N (sym c.saturating_sub.ensures) (line_later p argument others c.args.line c.line_here.result c.args.ahead c.line_here.ensures c.in_default.is (subst L split c.requires.line)),
+        subst N (sym c.saturating_sub-ahead.ensures) (line_later p argument others (option_copied c.args.line) (option_copied c.line_here.result) c.args.ahead c.line_here.ensures (ap option_copied c.in_default.is) (subst L split c.requires.line)),
         (
           known.1,
           (
@@ -57,8 +61,8 @@ mark_arguments-requires t c =
       ),
     )
 
-pub mark_argument-requires : goal.mark_argument-requires
-mark_argument-requires t c =
+pub mark_argument-requires-then-mark_arguments : goal.mark_argument-requires-then-mark_arguments
+mark_argument-requires-then-mark_arguments t c =
     λ cell is.
     let p = c.args.lines.now in
     let all = c.args.arguments.now in
@@ -71,7 +75,7 @@ mark_argument-requires t c =
     let D : List Arg → Type 0 = λ xs. (it : Cell) → Demands p xs c.args.from c.args.to it → IsCounted p.grammar (length p.word) it in
     let counted = subst D split c.requires.counted in
     let C : PosedProblem → Type 0 = λ q. IsCounted q.grammar (length q.word) cell in
-    let same = c.mark_arguments.ensures.marked.problem ∙ c.loop-end.invariant.marked.problem ∙ c.requires.same_problem in
+    let same = c.mark_arguments-in-loop-end.ensures.marked.problem ∙ c.loop-end.invariant.marked.problem ∙ c.requires.same_problem in
     subst C (sym same) (counted cell (end, fits, inl (is, c.if-mark_arguments.ensures.laid.0 refl)))
 
 pub loop-end-preserved : goal.loop-end-preserved
@@ -96,13 +100,13 @@ loop-end-preserved t c =
           let cover : Cover p others end to = w.if-mark_arguments.ensures.laid.0 refl in
           record {
             laid = subst S (sym w.is_laid-is) (λ _. (end, above, omega arith, fits, cover), λ _. refl);
-            marked = subst M (sym w.marks-is) (marked_some p argument others from to low end fits above c.args.marks.now c.loop-end.marks c.mark_arguments.new.marks was.marked c.mark_arguments.ensures.marked w.mark_argument.new.marks cover w.mark_argument.ensures);
+            marked = subst M (sym w.marks-is) (marked_some p argument others from to low end fits above c.args.marks.now c.loop-end.marks c.mark_arguments-in-loop-end.new.marks was.marked c.mark_arguments-in-loop-end.ensures.marked w.mark_argument-then-mark_arguments.new.marks cover w.mark_argument-then-mark_arguments.ensures);
           }
       | else-mark_arguments w ↦
           let none : Cover p others end to → ⊥ = λ cover. let yes = w.if-mark_arguments.ensures.laid.1 cover in absurd cc in
           record {
             laid = subst S (sym w.is_laid-is) (covers_none p argument others from to low end c.loop-end.is_laid was.laid none);
-            marked = subst M (sym w.marks-is) (marked_none p argument others from to low end fits above c.args.marks.now c.loop-end.marks c.mark_arguments.new.marks was.marked c.mark_arguments.ensures.marked none);
+            marked = subst M (sym w.marks-is) (marked_none p argument others from to low end fits above c.args.marks.now c.loop-end.marks c.mark_arguments-in-loop-end.new.marks was.marked c.mark_arguments-in-loop-end.ensures.marked none);
           }
     ]
 
@@ -129,3 +133,145 @@ returns-clause-marked t c =
     let places = c.places-ends.ensures argument others split in
     let T : List Arg → Type 0 = λ xs. AreMarkedToo c.args.marks.now c.loop-end.marks (Demands p xs c.args.from c.args.to) in
     subst T (sym split) (all_marked p argument others c.args.from c.args.to c.places-ends.result c.loop-end.end places (omega arith) c.args.marks.now c.loop-end.marks c.loop-end.invariant.marked)
+
+-- ---- a token in front
+
+pub mark_arguments-requires : goal.mark_arguments-requires
+mark_arguments-requires t c =
+    let p = c.args.lines.now in
+    let all = c.args.arguments.now in
+    let from = c.args.from in
+    let to = c.args.to in
+    let argument = c.index-arguments-0.result in
+    let others : List Arg = take (length all - 1) (drop 1 all) in
+    let some : 0 < length all = search rules in
+    let split : all ≡ argument ∷ others = split_at_first all argument some c.index-arguments-0.is in
+    let end = c.in-Some-token_end.end in
+    let E : Option ℕ → Type 0 = IsEndTold p argument from to in
+    let told : E (Some end) = subst E c.in-Some-token_end.is c.token_end.ensures in
+    let there = (told end).0 (λ i. Some end) in
+    let L : List Arg → Type 0 = λ xs. IfSome (option_copied c.args.line) (λ line. IsLine p (drop c.args.ahead xs) line) in
+    let N : ℕ → Type 0 = λ n. IfSome (option_copied c.args.line) (λ line. IsLine p (drop n others) line) in
+    let K : List Arg → Type 0 = λ xs. AllByRecursion (IsKnown p.grammar) xs in
+    let known : K (argument ∷ others) = subst K split c.requires.known in
+    let same_length : length all ≡ length others + 1 = ap length split ∙ omega arith in
+    let D : List Arg → Type 0 = λ xs. (cell : Cell) → Demands p xs from to cell → IsCounted p.grammar (length p.word) cell in
+    let counted = subst D split c.requires.counted in
+    let C : PosedProblem → Type 0 = λ q. q ≡ p in (
+      omega (arith, same_length, c.decreases),
+      (
+        subst N (sym c.saturating_sub-ahead.ensures) (line_later p argument others (option_copied c.args.line) (option_copied c.line_here.result) c.args.ahead c.line_here.ensures (ap option_copied c.in_default.is) (subst L split c.requires.line)),
+        (
+          known.1,
+          (
+            omega (arith, same_length, c.requires.few),
+            (
+              record { in_order = there.0; in_word = c.requires.span.in_word },
+              (
+                c.requires.same_problem,
+                λ cell demands. counted cell (end, there.1, inr demands),
+              ),
+            ),
+          ),
+        ),
+      ),
+    )
+
+pub returns-in-Some-token_end-clause-laid : goal.returns-in-Some-token_end-clause-laid
+returns-in-Some-token_end-clause-laid t c =
+    let p = c.args.lines.now in
+    let all = c.args.arguments.now in
+    let from = c.args.from in
+    let to = c.args.to in
+    let argument = c.index-arguments-0.result in
+    let others : List Arg = take (length all - 1) (drop 1 all) in
+    let some : 0 < length all = search rules in
+    let split : all ≡ argument ∷ others = split_at_first all argument some c.index-arguments-0.is in
+    let end = c.in-Some-token_end.end in
+    let E : Option ℕ → Type 0 = IsEndTold p argument from to in
+    let told : E (Some end) = subst E c.in-Some-token_end.is c.token_end.ensures in
+    let there = (told end).0 (λ i. Some end) in
+    let T : List Arg → Type 0 = λ xs. IsTrue c.mark_arguments.result ↔ Cover p xs from to in
+    subst T (sym split) (cover_from p argument others from to end there.1 (one_ends p argument others from to end told) c.mark_arguments.result c.mark_arguments.ensures.laid)
+
+pub returns-in-Some-token_end-clause-marked : goal.returns-in-Some-token_end-clause-marked
+returns-in-Some-token_end-clause-marked t c =
+    let p = c.args.lines.now in
+    let all = c.args.arguments.now in
+    let from = c.args.from in
+    let to = c.args.to in
+    let argument = c.index-arguments-0.result in
+    let others : List Arg = take (length all - 1) (drop 1 all) in
+    let some : 0 < length all = search rules in
+    let split : all ≡ argument ∷ others = split_at_first all argument some c.index-arguments-0.is in
+    let end = c.in-Some-token_end.end in
+    let E : Option ℕ → Type 0 = IsEndTold p argument from to in
+    let told : E (Some end) = subst E c.in-Some-token_end.is c.token_end.ensures in
+    let there = (told end).0 (λ i. Some end) in
+    let fixed = c.is_fixed.ensures.0 c.if-is_fixed.true in
+    let T : List Arg → Type 0 = λ xs. AreMarkedToo c.args.marks.now c.mark_arguments.new.marks (Demands p xs from to) in
+    subst T (sym split) (marked_behind p argument others from to end there.1 (one_ends p argument others from to end told) fixed c.args.marks.now c.mark_arguments.new.marks c.mark_arguments.ensures.marked)
+
+pub returns-in-None-clause-laid : goal.returns-in-None-clause-laid
+returns-in-None-clause-laid t c =
+    let p = c.args.lines.now in
+    let all = c.args.arguments.now in
+    let from = c.args.from in
+    let to = c.args.to in
+    let argument = c.index-arguments-0.result in
+    let others : List Arg = take (length all - 1) (drop 1 all) in
+    let some : 0 < length all = search rules in
+    let split : all ≡ argument ∷ others = split_at_first all argument some c.index-arguments-0.is in
+    let E : Option ℕ → Type 0 = IsEndTold p argument from to in
+    let none = none_ends p argument others from to (subst E c.in-None.is c.token_end.ensures) in
+    let T : List Arg → Type 0 = λ xs. IsTrue false ↔ Cover p xs from to in
+    subst T (sym split) (λ is. absurd (false≢true is), λ cover. absurd (cover_nowhere p argument others from to none cover))
+
+pub returns-in-None-clause-marked : goal.returns-in-None-clause-marked
+returns-in-None-clause-marked t c =
+    let p = c.args.lines.now in
+    let all = c.args.arguments.now in
+    let from = c.args.from in
+    let to = c.args.to in
+    let argument = c.index-arguments-0.result in
+    let others : List Arg = take (length all - 1) (drop 1 all) in
+    let some : 0 < length all = search rules in
+    let split : all ≡ argument ∷ others = split_at_first all argument some c.index-arguments-0.is in
+    let E : Option ℕ → Type 0 = IsEndTold p argument from to in
+    let none = none_ends p argument others from to (subst E c.in-None.is c.token_end.ensures) in
+    let T : List Arg → Type 0 = λ xs. AreMarkedToo c.args.marks.now c.args.marks.now (Demands p xs from to) in
+    subst T (sym split) (marked_nowhere p argument others from to none c.args.marks.now)
+
+-- ---- the last argument
+
+pub returns-then-fits-clause-marked : goal.returns-then-fits-clause-marked
+returns-then-fits-clause-marked t c =
+    let p = c.args.lines.now in
+    let all = c.args.arguments.now in
+    let from = c.args.from in
+    let to = c.args.to in
+    let argument = c.index-arguments-0.result in
+    let others : List Arg = take (length all - 1) (drop 1 all) in
+    let some : 0 < length all = search rules in
+    let split : all ≡ argument ∷ others = split_at_first all argument some c.index-arguments-0.is in
+    let last : others ≡ [] = empty_without others (search rules) in
+    let one : all ≡ argument ∷ [] = split ∙ ap (λ xs. argument ∷ xs) last in
+    let fits = c.fits-fits.ensures.0 c.if-fits.true in
+    let T : List Arg → Type 0 = λ xs. AreMarkedToo c.args.marks.now c.mark_argument.new.marks (Demands p xs from to) in
+    subst T (sym one) (last_marked p argument from to fits c.args.marks.now c.mark_argument.new.marks c.mark_argument.ensures)
+
+pub returns-else-fits-clause-marked : goal.returns-else-fits-clause-marked
+returns-else-fits-clause-marked t c =
+    let p = c.args.lines.now in
+    let all = c.args.arguments.now in
+    let from = c.args.from in
+    let to = c.args.to in
+    let argument = c.index-arguments-0.result in
+    let others : List Arg = take (length all - 1) (drop 1 all) in
+    let some : 0 < length all = search rules in
+    let split : all ≡ argument ∷ others = split_at_first all argument some c.index-arguments-0.is in
+    let last : others ≡ [] = empty_without others (search rules) in
+    let one : all ≡ argument ∷ [] = split ∙ ap (λ xs. argument ∷ xs) last in
+    let misses : FitsSpan p (on_span argument from to) → ⊥ = λ fits. false≢true (sym c.if-fits.false ∙ c.fits-fits.ensures.1 fits) in
+    let T : List Arg → Type 0 = λ xs. AreMarkedToo c.args.marks.now c.args.marks.now (Demands p xs from to) in
+    subst T (sym one) (marked_nowhere p argument [] from to (last_misses p argument from to misses) c.args.marks.now)

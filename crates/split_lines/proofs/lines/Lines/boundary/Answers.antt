@@ -1,10 +1,19 @@
-use Rattle.std.proofs.Common.{◌↔◌, ℕ, ◌<◌, ◌≤◌, sym, subst}
+use Rattle.std.proofs.Common.{◌↔◌, ℕ, ◌<◌, ◌≤◌, sym, subst, arith}
 use Rattle.split_lines.specs.Lines.{parts_by, LeavesPlace}
 use Rattle.split_lines.proofs.LinePlaces.{boundaries}
 use Rattle.split_lines.proofs.lines.Lines.boundary.Goals as goal
 
-pub returns : goal.returns
-returns c =
+pub flags_among-requires-clause-some : goal.flags_among-requires-clause-some
+flags_among-requires-clause-some c = λ place there. ((c.between-places.ensures.exact place).0 there).0
+
+pub flags_among-requires-clause-whole : goal.flags_among-requires-clause-whole
+flags_among-requires-clause-whole c = λ first place last begins ends low high there.
+    let from_first = ((c.between-places.ensures.exact first).0 begins).1 in
+    let to_last = ((c.between-places.ensures.exact last).0 ends).2 in
+    (c.between-places.ensures.exact place).1 (there, omega (arith, from_first), omega (arith, to_last))
+
+pub returns-clause-boundaries : goal.returns-clause-boundaries
+returns-clause-boundaries c =
     let p = c.args.self.now in
     let line = c.args.line in
     let is_line = c.requires.line in
@@ -12,4 +21,4 @@ returns c =
     let parts = parts_by c.args.arguments.now line.between in
     let range = c.range-range.result in
     let L : ℕ → Type 0 = λ last. (place : ℕ) → ((range.start ≤ place) × (place < range.end)) ↔ LeavesPlace p parts c.args.from c.args.to line.middle.now.letters last place in
-    boundaries p parts c.args.from c.args.to line.middle.now.letters line.tail c.saturating_sub.result range.start range.end line.middle.now.places.items c.between.result.now matches.letters is_line.tail matches.places c.saturating_sub.ensures (subst L (sym c.saturating_sub.ensures) c.range-range.ensures.exact) c.between.ensures.exact c.between.ensures.rising
+    boundaries p parts c.args.from c.args.to line.middle.now.letters line.tail c.saturating_sub.result range.start range.end line.middle.now.places.items c.between-places.result.now matches.letters is_line.tail matches.places c.saturating_sub.ensures (subst L (sym c.saturating_sub.ensures) c.range-range.ensures.exact) c.between-places.ensures.exact c.between-places.ensures.rising

@@ -1,7 +1,0 @@
-use Rattle.std.proofs.Common.{refl}
-use Rattle.std.specs.Fmt.{digits}
-use Rattle.adp_model.proofs.vectors.spelling_of_a_job.Goals as goal
-
-pub returns : goal.returns
-unfolding digits
-returns c = refl

@@ -1,0 +1,325 @@
+-- The greatest sum of two numbers of a width: low where one of them marks that there is no candidate.
+use Rattle.std.proofs.Common.{◌≡◌, ℕ, zero, suc, ◌+◌, ◌-◌, ◌*◌, ◌<◌, ◌≤◌, ◌⊎◌, ℤ, pos, neg_ℤ, ◌+ℤ◌, ◌≤ℤ◌, ◌<ℤ◌, nat_abs, Option, Some, None, List, [], ◌∷◌, length, get_or, slice_get, FitsSigned, w16, w32, w64, refl, sym, ap, subst, inl, inr, ◌∙◌, Bool, true, false, if◌then◌else◌, arith, rules}
+use Rattle.std.specs.Int.{int_max}
+use Rattle.std.specs.List.{AllAdjacentBelow, Contains}
+use Rattle.std.proofs.lemmas.Int.{ints, int_max_is, fits_signed_from_abs}
+use Rattle.std.proofs.lemmas.List.{get_or_default}
+use Rattle.std.proofs.lemmas.List.Elements.{Contains-get_or}
+use Rattle.std.proofs.lemmas.Option.{slice_get-get_or}
+use Rattle.split_lines.specs.declared.sums.Places.{Places}
+use Rattle.split_lines.specs.Packing.{Width, IsProper, short, medium, long}
+use Rattle.split_lines.specs.Flags.{AreFlagged}
+use Rattle.split_lines.specs.Sums.{HasSum, HasSumAt, HasFlaggedSum, HaveNumbers, number_before, number_behind}
+use Rattle.split_lines.specs.Totals.{IsGreatestOf}
+use Rattle.split_lines.proofs.Greatest.{greatest_same, HasBefore, before_more, before_none}
+
+-- the least sum of two scores
+abbrev pub least_sum : Width → ℤ
+least_sum width = neg_ℤ (pos (2 * width.limit))
+
+-- sums with the mark are less
+pub record IsSpaced (width : Width) : Type 0 where
+  pub apart : width.limit < nat_abs width.mark
+  pub low : (width.mark +ℤ pos width.limit) <ℤ least_sum width
+  pub negative : width.mark ≤ℤ pos 0
+
+pub short_spaced : IsSpaced short
+short_spaced = record { apart = omega arith; low = omega (arith, ints); negative = omega (arith, ints) }
+
+pub medium_spaced : IsSpaced medium
+medium_spaced = record { apart = omega arith; low = omega (arith, ints); negative = omega (arith, ints) }
+
+pub long_spaced : IsSpaced long
+long_spaced = record { apart = omega arith; low = omega (arith, ints); negative = omega (arith, ints) }
+
+-- a number and a sum of two have the bits of the width
+pub short_fits : (a : ℤ) → IsProper short a → FitsSigned w16 a
+short_fits a (inl e) = fits_signed_from_abs w16 a (let same = ap nat_abs e in omega arith)
+short_fits a (inr l) = fits_signed_from_abs w16 a (omega arith)
+
+pub short_sum_fits : (a b : ℤ) → IsProper short a → IsProper short b → FitsSigned w16 (a +ℤ b)
+short_sum_fits a b (inl e) (inl e') = let same : (short.mark +ℤ short.mark) ≡ (a +ℤ b) = λ i. sym e i +ℤ sym e' i in subst (FitsSigned w16) same (search rules)
+short_sum_fits a b (inl e) (inr m) = fits_signed_from_abs w16 (a +ℤ b) (omega (arith, ints))
+short_sum_fits a b (inr l) (inl e) = fits_signed_from_abs w16 (a +ℤ b) (omega (arith, ints))
+short_sum_fits a b (inr l) (inr m) = fits_signed_from_abs w16 (a +ℤ b) (omega (arith, ints))
+
+pub medium_fits : (a : ℤ) → IsProper medium a → FitsSigned w32 a
+medium_fits a (inl e) = fits_signed_from_abs w32 a (let same = ap nat_abs e in omega arith)
+medium_fits a (inr l) = fits_signed_from_abs w32 a (omega arith)
+
+pub medium_sum_fits : (a b : ℤ) → IsProper medium a → IsProper medium b → FitsSigned w32 (a +ℤ b)
+medium_sum_fits a b (inl e) (inl e') = let same : (medium.mark +ℤ medium.mark) ≡ (a +ℤ b) = λ i. sym e i +ℤ sym e' i in subst (FitsSigned w32) same (search rules)
+medium_sum_fits a b (inl e) (inr m) = fits_signed_from_abs w32 (a +ℤ b) (omega (arith, ints))
+medium_sum_fits a b (inr l) (inl e) = fits_signed_from_abs w32 (a +ℤ b) (omega (arith, ints))
+medium_sum_fits a b (inr l) (inr m) = fits_signed_from_abs w32 (a +ℤ b) (omega (arith, ints))
+
+pub long_fits : (a : ℤ) → IsProper long a → FitsSigned w64 a
+long_fits a (inl e) = fits_signed_from_abs w64 a (let same = ap nat_abs e in omega arith)
+long_fits a (inr l) = fits_signed_from_abs w64 a (omega arith)
+
+pub long_sum_fits : (a b : ℤ) → IsProper long a → IsProper long b → FitsSigned w64 (a +ℤ b)
+long_sum_fits a b (inl e) (inl e') = let same : (long.mark +ℤ long.mark) ≡ (a +ℤ b) = λ i. sym e i +ℤ sym e' i in subst (FitsSigned w64) same (search rules)
+long_sum_fits a b (inl e) (inr m) = fits_signed_from_abs w64 (a +ℤ b) (omega (arith, ints))
+long_sum_fits a b (inr l) (inl e) = fits_signed_from_abs w64 (a +ℤ b) (omega (arith, ints))
+long_sum_fits a b (inr l) (inr m) = fits_signed_from_abs w64 (a +ℤ b) (omega (arith, ints))
+
+-- the greatest of the sums of which it holds, low where it holds of none
+abbrev pub IsLargest : Width → (ℤ → Type 0) → ℤ → Type 0
+IsLargest width Holds greatest =
+    ((greatest <ℤ least_sum width) × ((number : ℤ) → Holds number → ⊥)) ⊎ ((least_sum width ≤ℤ greatest) × IsGreatestOf Holds (Some greatest))
+
+pub max_cases : (a b : ℤ) → ((int_max a b ≡ a) × (b ≤ℤ a)) ⊎ ((int_max a b ≡ b) × (a ≤ℤ b))
+max_cases a b = grind (arith, ints, int_max_is)
+
+-- two numbers side by side have this sum, and are flagged
+abbrev pub IsFlaggedSum : Width → List Bool → List ℤ → List ℤ → ℕ → ℤ → Type 0
+IsFlaggedSum width flags firsts seconds k sum = (slice_get flags k ≡ Some true) × HasSum width firsts seconds k k sum
+
+module _ (width : Width) (spaced : IsSpaced width) where
+  pub score_apart : (a : ℤ) → nat_abs a ≤ width.limit → a ≡ width.mark → ⊥
+  score_apart a low e = let same = ap nat_abs e in omega (arith, spaced.apart)
+
+  sum_low : (a b : ℤ) → a ≡ width.mark → IsProper width b → (a +ℤ b) <ℤ least_sum width
+  sum_low a b e (inl e') = let l = spaced.low in let n = spaced.negative in omega (arith, ints)
+  sum_low a b e (inr m) = let l = spaced.low in omega (arith, ints)
+
+  sum_low_behind : (a b : ℤ) → IsProper width a → b ≡ width.mark → (a +ℤ b) <ℤ least_sum width
+  sum_low_behind a b (inl e') e = let l = spaced.low in let n = spaced.negative in omega (arith, ints)
+  sum_low_behind a b (inr m) e = let l = spaced.low in omega (arith, ints)
+
+  sum_of_scores : (a b : ℤ) → nat_abs a ≤ width.limit → nat_abs b ≤ width.limit → least_sum width ≤ℤ (a +ℤ b)
+  sum_of_scores a b l m = omega (arith, ints)
+
+  pub none_yet : (At : ℕ → ℤ → Type 0) → IsLargest width (HasBefore At 0) width.mark
+  none_yet At = inl (let l = spaced.low in omega (arith, ints), λ number h. absurd (omega (arith, h.1)))
+
+  pub largest_none : (Holds : ℤ → Type 0) (greatest : ℤ) → IsLargest width Holds greatest → greatest <ℤ least_sum width → IsGreatestOf Holds None
+  largest_none Holds greatest (inl (low, none)) l = none
+  largest_none Holds greatest (inr (high, is)) l = absurd (omega (arith, ints))
+
+  pub largest_some : (Holds : ℤ → Type 0) (greatest : ℤ) → IsLargest width Holds greatest → least_sum width ≤ℤ greatest → IsGreatestOf Holds (Some greatest)
+  largest_some Holds greatest (inl (low, none)) l = absurd (omega (arith, ints))
+  largest_some Holds greatest (inr (high, is)) l = is
+
+  pub largest_same : (A B : ℤ → Type 0) (greatest : ℤ) → ((number : ℤ) → A number → B number) → ((number : ℤ) → B number → A number) → IsLargest width A greatest → IsLargest width B greatest
+  largest_same A B greatest to back (inl (low, none)) = inl (low, λ number b. none number (back number b))
+  largest_same A B greatest to back (inr (high, is)) = inr (high, greatest_same A B (Some greatest) to back is)
+
+  -- one more place, of which the sum of these two is one of scores, or is low
+  module _ (At : ℕ → ℤ → Type 0) (bound : ℕ) (greatest new sum : ℤ) (max : new ≡ int_max greatest sum) (before : IsLargest width (HasBefore At bound) greatest) where
+    more_low : sum <ℤ least_sum width → ((number : ℤ) → At bound number → ⊥) → IsLargest width (HasBefore At (bound + 1)) new
+    more_low low nothing = go before (max_cases greatest sum)
+      where
+        go : IsLargest width (HasBefore At bound) greatest → ((int_max greatest sum ≡ greatest) × (sum ≤ℤ greatest)) ⊎ ((int_max greatest sum ≡ sum) × (greatest ≤ℤ sum)) → IsLargest width (HasBefore At (bound + 1)) new
+        go (inl (l, none)) (inl (e, m)) = inl (let same : new ≡ greatest = max ∙ e in omega (arith, ints), before_none At bound None none nothing)
+        go (inl (l, none)) (inr (e, m)) = inl (let same : new ≡ sum = max ∙ e in omega (arith, ints), before_none At bound None none nothing)
+        go (inr (h, is)) (inl (e, m)) =
+            let same : greatest ≡ new = sym (max ∙ e) in
+            subst (IsLargest width (HasBefore At (bound + 1))) same (inr (h, before_none At bound (Some greatest) is nothing))
+        go (inr (h, is)) (inr (e, m)) = absurd (omega (arith, ints))
+
+    more_high : least_sum width ≤ℤ sum → IsGreatestOf (At bound) (Some sum) → IsLargest width (HasBefore At (bound + 1)) new
+    more_high high here = go before (max_cases greatest sum)
+      where
+        go : IsLargest width (HasBefore At bound) greatest → ((int_max greatest sum ≡ greatest) × (sum ≤ℤ greatest)) ⊎ ((int_max greatest sum ≡ sum) × (greatest ≤ℤ sum)) → IsLargest width (HasBefore At (bound + 1)) new
+        go (inl (l, none)) (inl (e, m)) = absurd (omega (arith, ints))
+        go (inl (l, none)) (inr (e, m)) =
+            let same : sum ≡ new = sym (max ∙ e) in
+            subst (IsLargest width (HasBefore At (bound + 1))) same
+            (inr (high, before_more At bound None none (Some sum) (Some sum) here (inr refl, λ number h. elim h [ inl e ↦ absurd cc | inr e ↦ (let same : sum ≡ number = cc in omega (arith, ints)) ])))
+        go (inr (h, is)) (inl (e, m)) =
+            let same : greatest ≡ new = sym (max ∙ e) in
+            subst (IsLargest width (HasBefore At (bound + 1))) same
+            (inr (h, before_more At bound (Some greatest) is (Some sum) (Some greatest) here (inl refl, λ number h. elim h [ inl e ↦ (let same : greatest ≡ number = cc in omega (arith, ints)) | inr e ↦ (let same : sum ≡ number = cc in omega (arith, ints)) ])))
+        go (inr (h, is)) (inr (e, m)) =
+            let same : sum ≡ new = sym (max ∙ e) in
+            subst (IsLargest width (HasBefore At (bound + 1))) same
+            (inr (high, before_more At bound (Some greatest) is (Some sum) (Some sum) here (inr refl, λ number h. elim h [ inl e ↦ (let same : greatest ≡ number = cc in omega (arith, ints)) | inr e ↦ (let same : sum ≡ number = cc in omega (arith, ints)) ])))
+
+  -- the sum of the numbers at one more place
+  pub sum_more : (firsts seconds : List ℤ) (i j : ℕ → ℕ) (bound : ℕ) (greatest new a b : ℤ) → new ≡ int_max greatest (a +ℤ b) → slice_get firsts (i bound) ≡ Some a → slice_get seconds (j bound) ≡ Some b → IsProper width a → IsProper width b
+      → IsLargest width (HasBefore (λ k. HasSum width firsts seconds (i k) (j k)) bound) greatest → IsLargest width (HasBefore (λ k. HasSum width firsts seconds (i k) (j k)) (bound + 1)) new
+  sum_more firsts seconds i j bound greatest new a b max there behind proper_a proper_b before = go proper_a proper_b
+    where
+      first_is : (number : ℤ) (it : HasSum width firsts seconds (i bound) (j bound) number) → it.first ≡ a
+      first_is number it = let e = it.first_there in cc
+
+      second_is : (number : ℤ) (it : HasSum width firsts seconds (i bound) (j bound) number) → it.second ≡ b
+      second_is number it = let e = it.second_there in cc
+
+      go : IsProper width a → IsProper width b → IsLargest width (HasBefore (λ k. HasSum width firsts seconds (i k) (j k)) (bound + 1)) new
+      go (inl e) proper = more_low (λ k. HasSum width firsts seconds (i k) (j k)) bound greatest new (a +ℤ b) max before (sum_low a b e proper) (λ number it. it.first_scores (first_is number it ∙ e))
+      go (inr l) (inl e) = more_low (λ k. HasSum width firsts seconds (i k) (j k)) bound greatest new (a +ℤ b) max before (sum_low_behind a b (inr l) e) (λ number it. it.second_scores (second_is number it ∙ e))
+      go (inr l) (inr m) =
+          more_high (λ k. HasSum width firsts seconds (i k) (j k)) bound greatest new (a +ℤ b) max before (sum_of_scores a b l m) (
+            record { first = a; second = b; first_there = there; second_there = behind; first_scores = score_apart a l; second_scores = score_apart b m; is = refl },
+            λ number it. let e = it.is in let e' = first_is number it in let e'' = second_is number it in omega (arith, ints),
+          )
+
+  -- the sum of the numbers at one more place, where that is flagged
+  pub flagged_more : (flags : List Bool) (firsts seconds : List ℤ) (bound : ℕ) (greatest new a b : ℤ) → slice_get flags bound ≡ Some true → new ≡ int_max greatest (a +ℤ b) → slice_get firsts bound ≡ Some a → slice_get seconds bound ≡ Some b → IsProper width a → IsProper width b
+      → IsLargest width (HasBefore (IsFlaggedSum width flags firsts seconds) bound) greatest → IsLargest width (HasBefore (IsFlaggedSum width flags firsts seconds) (bound + 1)) new
+  flagged_more flags firsts seconds bound greatest new a b flag max there behind proper_a proper_b before = go proper_a proper_b
+    where
+      first_is : (number : ℤ) (it : HasSum width firsts seconds bound bound number) → it.first ≡ a
+      first_is number it = let e = it.first_there in cc
+
+      second_is : (number : ℤ) (it : HasSum width firsts seconds bound bound number) → it.second ≡ b
+      second_is number it = let e = it.second_there in cc
+
+      go : IsProper width a → IsProper width b → IsLargest width (HasBefore (IsFlaggedSum width flags firsts seconds) (bound + 1)) new
+      go (inl e) proper = more_low (IsFlaggedSum width flags firsts seconds) bound greatest new (a +ℤ b) max before (sum_low a b e proper) (λ number it. it.1.first_scores (first_is number it.1 ∙ e))
+      go (inr l) (inl e) = more_low (IsFlaggedSum width flags firsts seconds) bound greatest new (a +ℤ b) max before (sum_low_behind a b (inr l) e) (λ number it. it.1.second_scores (second_is number it.1 ∙ e))
+      go (inr l) (inr m) =
+          more_high (IsFlaggedSum width flags firsts seconds) bound greatest new (a +ℤ b) max before (sum_of_scores a b l m) (
+            (flag, record { first = a; second = b; first_there = there; second_there = behind; first_scores = score_apart a l; second_scores = score_apart b m; is = refl }),
+            λ number it. let e = it.1.is in let e' = first_is number it.1 in let e'' = second_is number it.1 in omega (arith, ints),
+          )
+
+  -- one more place that is not flagged
+  pub unflagged_more : (flags : List Bool) (firsts seconds : List ℤ) (bound : ℕ) (greatest new : ℤ) → slice_get flags bound ≡ Some false → new ≡ int_max greatest width.mark
+      → IsLargest width (HasBefore (IsFlaggedSum width flags firsts seconds) bound) greatest → IsLargest width (HasBefore (IsFlaggedSum width flags firsts seconds) (bound + 1)) new
+  unflagged_more flags firsts seconds bound greatest new flag max before =
+      more_low (IsFlaggedSum width flags firsts seconds) bound greatest new width.mark max before (let l = spaced.low in omega (arith, ints)) (λ number it. let e = it.0 in absurd cc)
+
+pub some_place : {A : Type 0} (items : List A) (place : ℕ) (item : A) → slice_get items place ≡ Some item → place < length items
+some_place [] place item e = absurd cc
+some_place (x ∷ items) zero item e = omega arith
+some_place (x ∷ items) (suc place) item e = omega (arith, some_place items place item e)
+
+-- sums side by side are those before the end of the shorter list
+pub all_aligned : (width : Width) (firsts seconds : List ℤ) (count : ℕ) (greatest : ℤ) → ((k : ℕ) → k < length firsts → k < length seconds → k < count) → IsLargest width (HasBefore (λ k. HasSum width firsts seconds k k) count) greatest
+    → IsLargest width (λ sum. (k : ℕ) × HasSum width firsts seconds k k sum) greatest
+all_aligned width firsts seconds count greatest all (inl (low, none)) =
+    inl (low, λ number h. none number (h.0, all h.0 (some_place firsts h.0 h.1.first h.1.first_there) (some_place seconds h.0 h.1.second h.1.second_there), h.1))
+all_aligned width firsts seconds count greatest all (inr (high, is)) =
+    inr (
+      high,
+      greatest_same (HasBefore (λ k. HasSum width firsts seconds k k) count) (λ sum. (k : ℕ) × HasSum width firsts seconds k k sum) (Some greatest)
+          (λ number h. (h.0, h.2))
+          (λ number h. (h.0, all h.0 (some_place firsts h.0 h.1.first h.1.first_there) (some_place seconds h.0 h.1.second h.1.second_there), h.1)) is,
+    )
+
+-- those at the places are those at their numbers
+pub all_scattered : (width : Width) (places : Places) (firsts seconds : List ℤ) (count : ℕ) (greatest : ℤ) → count ≡ length places.at.now
+    → IsLargest width (HasBefore (λ k. HasSum width firsts seconds (number_before places (get_or places.at.now k 0)) (number_behind places (get_or places.at.now k 0))) count) greatest
+    → IsLargest width (HasSumAt width places firsts seconds) greatest
+all_scattered width places firsts seconds count greatest all is = go is
+  where
+    to : (number : ℤ) → HasBefore (λ k. HasSum width firsts seconds (number_before places (get_or places.at.now k 0)) (number_behind places (get_or places.at.now k 0))) count number → HasSumAt width places firsts seconds number
+    to number h = (get_or places.at.now h.0 0, Contains-get_or places.at.now h.0 0 (omega (arith, h.1, all)), h.2)
+
+    back : (number : ℤ) → HasSumAt width places firsts seconds number → HasBefore (λ k. HasSum width firsts seconds (number_before places (get_or places.at.now k 0)) (number_behind places (get_or places.at.now k 0))) count number
+    back number h =
+        let at : get_or places.at.now h.1.0 0 ≡ h.0 = get_or_default places.at.now h.1.0 0 h.0 h.1.1 ∙ h.1.2 in
+        (h.1.0, omega (arith, h.1.1, all), subst (λ place. HasSum width firsts seconds (number_before places place) (number_behind places place) number) (sym at) h.2)
+
+    go : IsLargest width (HasBefore (λ k. HasSum width firsts seconds (number_before places (get_or places.at.now k 0)) (number_behind places (get_or places.at.now k 0))) count) greatest → IsLargest width (HasSumAt width places firsts seconds) greatest
+    go (inl (low, none)) = inl (low, λ number h. none number (back number h))
+    go (inr (high, is)) = inr (high, greatest_same (HasBefore (λ k. HasSum width firsts seconds (number_before places (get_or places.at.now k 0)) (number_behind places (get_or places.at.now k 0))) count) (HasSumAt width places firsts seconds) (Some greatest) to back is)
+
+-- ---- places that are as many as the numbers
+
+-- so many rising numbers below a bound are all the numbers below it
+module _ (f : ℕ → ℕ) (count : ℕ) (rising : (k : ℕ) → k + 1 < count → f k < f (k + 1)) (below : (k : ℕ) → k < count → f k < count) where
+  not_less : (k : ℕ) → k < count → k ≤ f k
+  not_less zero l = omega arith
+  not_less (suc k) l =
+      let same : k + 1 ≡ suc k = omega arith in
+      let rise : f k < f (suc k) = subst (λ n. f k < f n) same (rising k (omega arith)) in
+      omega (arith, not_less k (omega arith))
+
+  rises_by : (more k : ℕ) → k + more < count → f k + more ≤ f (k + more)
+  rises_by zero k l = let same : k + 0 ≡ k = omega arith in subst (λ n. f k + 0 ≤ f n) (sym same) (omega arith)
+  rises_by (suc more) k l =
+      let same : (k + more) + 1 ≡ k + suc more = omega arith in
+      let rise : f (k + more) < f (k + suc more) = subst (λ n. f (k + more) < f n) same (rising (k + more) (omega arith)) in
+      omega (arith, rises_by more k (omega arith))
+
+  pub is_itself : (k : ℕ) → k < count → f k ≡ k
+  is_itself k l =
+      let most : k + (count - 1 - k) ≡ count - 1 = omega arith in
+      let high : f k + (count - 1 - k) ≤ f (count - 1) = subst (λ n. f k + (count - 1 - k) ≤ f n) most (rises_by (count - 1 - k) k (omega arith)) in
+      let top = below (count - 1) (omega arith) in
+      omega (arith, not_less k l)
+
+module _ (places : Places) (firsts seconds : List ℤ) (have : HaveNumbers places firsts seconds) (rising : AllAdjacentBelow (λ (a b : ℕ). a < b) places.at.now (length places.at.now)) (as_many : length firsts ≡ length places.at.now) (as_many_behind : length seconds ≡ length places.at.now) where
+  stands : (k : ℕ) → k < length places.at.now → Contains places.at.now (get_or places.at.now k 0)
+  stands k l = Contains-get_or places.at.now k 0 l
+
+  before_is : (k : ℕ) → k < length places.at.now → number_before places (get_or places.at.now k 0) ≡ k
+  before_is = is_itself (λ k. number_before places (get_or places.at.now k 0)) (length places.at.now)
+      (λ k l. omega (arith, rising k 0 l, have.from_first (get_or places.at.now k 0) (stands k (omega arith))))
+      (λ k l. omega (arith, have.first (get_or places.at.now k 0) (stands k l)))
+
+  behind_is : (k : ℕ) → k < length places.at.now → number_behind places (get_or places.at.now k 0) ≡ k
+  behind_is = is_itself (λ k. number_behind places (get_or places.at.now k 0)) (length places.at.now)
+      (λ k l. omega (arith, rising k 0 l, have.from_second (get_or places.at.now k 0) (stands k (omega arith))))
+      (λ k l. omega (arith, have.second (get_or places.at.now k 0) (stands k l)))
+
+  pub aligned_places : (width : Width) (greatest : Option ℤ) → IsGreatestOf (λ sum. (k : ℕ) × HasSum width firsts seconds k k sum) greatest → IsGreatestOf (HasSumAt width places firsts seconds) greatest
+  aligned_places width greatest =
+      greatest_same (λ sum. (k : ℕ) × HasSum width firsts seconds k k sum) (HasSumAt width places firsts seconds) greatest
+      (λ number h.
+      let l : h.0 < length places.at.now = omega (arith, some_place firsts h.0 h.1.first h.1.first_there, as_many) in
+      let e = before_is h.0 l in
+      let e' = behind_is h.0 l in
+      (get_or places.at.now h.0 0, stands h.0 l, subst (λ i. HasSum width firsts seconds i (number_behind places (get_or places.at.now h.0 0)) number) (sym e) (subst (λ j. HasSum width firsts seconds h.0 j number) (sym e') h.1)))
+      (λ number h.
+      let at : get_or places.at.now h.1.0 0 ≡ h.0 = get_or_default places.at.now h.1.0 0 h.0 h.1.1 ∙ h.1.2 in
+      let e : number_before places h.0 ≡ h.1.0 = subst (λ place. number_before places place ≡ h.1.0) at (before_is h.1.0 h.1.1) in
+      let e' : number_behind places h.0 ≡ h.1.0 = subst (λ place. number_behind places place ≡ h.1.0) at (behind_is h.1.0 h.1.1) in
+      (h.1.0, subst (λ i. HasSum width firsts seconds i h.1.0 number) e (subst (λ j. HasSum width firsts seconds (number_before places h.0) j number) e' h.2)))
+
+-- those that are flagged are those before the end
+pub all_flagged : (width : Width) (flags : List Bool) (firsts seconds : List ℤ) (count : ℕ) (greatest : ℤ) → count ≡ length flags → IsLargest width (HasBefore (IsFlaggedSum width flags firsts seconds) count) greatest
+    → IsLargest width (HasFlaggedSum width flags firsts seconds) greatest
+all_flagged width flags firsts seconds count greatest all (inl (low, none)) =
+    inl (low, λ number h. none number (h.0, omega (arith, all, some_place flags h.0 true h.1), (h.1, h.2)))
+all_flagged width flags firsts seconds count greatest all (inr (high, is)) =
+    inr (
+      high,
+      greatest_same (HasBefore (IsFlaggedSum width flags firsts seconds) count) (HasFlaggedSum width flags firsts seconds) (Some greatest)
+          (λ number h. (h.0, h.2.0, h.2.1))
+          (λ number h. (h.0, omega (arith, all, some_place flags h.0 true h.1), (h.1, h.2))) is,
+    )
+
+-- a flag is set or not, and the number stands or the mark
+pub flag_cases : (flags : List Bool) (at : ℕ) (mark sum number : ℤ) → at < length flags → sum ≡ (if get_or flags at false then number else mark) → ((slice_get flags at ≡ Some true) × (sum ≡ number)) ⊎ ((slice_get flags at ≡ Some false) × (sum ≡ mark))
+flag_cases flags at mark sum number inside is = go (get_or flags at false) (slice_get-get_or flags at false inside) is
+  where
+    go : (flag : Bool) → slice_get flags at ≡ Some flag → sum ≡ (if flag then number else mark) → ((slice_get flags at ≡ Some true) × (sum ≡ number)) ⊎ ((slice_get flags at ≡ Some false) × (sum ≡ mark))
+    go true there e = inl (there, e)
+    go false there e = inr (there, e)
+
+-- ---- places that are flagged from the first to the last
+
+module _ (places : Places) (firsts seconds : List ℤ) (flags : List Bool) (have : HaveNumbers places firsts seconds) (flagged : AreFlagged places.at.now flags) (as_many : length firsts ≡ length flags) (as_many_behind : length seconds ≡ length flags) where
+  abbrev begin : ℕ
+  begin = get_or places.at.now 0 0
+
+  -- the numbers begin with those of the first place
+  begins : 0 < length flags → (places.before ≡ begin) × (places.behind ≡ begin + places.letters)
+  begins some =
+      let last : Contains places.at.now (begin + length flags - 1) = (flagged.exact (begin + length flags - 1)).1 (flagged.last some) in
+      let first : Contains places.at.now begin = Contains-get_or places.at.now 0 0 (omega (arith, last.1)) in (
+        omega (arith, some, as_many, have.from_first (begin + length flags - 1) last, have.first (begin + length flags - 1) last, have.from_first begin first),
+        omega (arith, some, as_many_behind, have.from_second (begin + length flags - 1) last, have.second (begin + length flags - 1) last, have.from_second begin first),
+      )
+
+  pub flagged_places : (width : Width) (greatest : Option ℤ) → IsGreatestOf (HasFlaggedSum width flags firsts seconds) greatest → IsGreatestOf (HasSumAt width places firsts seconds) greatest
+  flagged_places width greatest =
+      greatest_same (HasFlaggedSum width flags firsts seconds) (HasSumAt width places firsts seconds) greatest
+      (λ number h.
+      let at = begins (omega (arith, some_place flags h.0 true h.1)) in
+      let same : begin + h.0 - begin ≡ h.0 = omega arith in
+      let stands : Contains places.at.now (begin + h.0) = (flagged.exact (begin + h.0)).1 (omega arith, subst (λ k. slice_get flags k ≡ Some true) (sym same) h.1) in
+      let e : h.0 ≡ number_before places (begin + h.0) = omega (arith, at.0) in
+      let e' : h.0 ≡ number_behind places (begin + h.0) = omega (arith, at.1) in
+      (begin + h.0, stands, subst (λ i. HasSum width firsts seconds i (number_behind places (begin + h.0)) number) e (subst (λ j. HasSum width firsts seconds h.0 j number) e' h.2)))
+      (λ number h.
+      let told = (flagged.exact h.0).0 h.1 in
+      let at = begins (omega (arith, some_place flags (h.0 - begin) true told.1)) in
+      let e : number_before places h.0 ≡ h.0 - begin = omega (arith, at.0) in
+      let e' : number_behind places h.0 ≡ h.0 - begin = omega (arith, at.1, told.0) in
+      (h.0 - begin, told.1, subst (λ i. HasSum width firsts seconds i (h.0 - begin) number) e (subst (λ j. HasSum width firsts seconds (number_before places h.0) j number) e' h.2)))
