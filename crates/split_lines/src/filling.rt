@@ -37,24 +37,24 @@ struct Known<'s, 'a> {
 /// The greatest total of arguments that are laid from `from` to `to`. If they have a line, `ahead` of them come before
 /// it.
 fn greatest_total(
-    known: Known<'_, '_>,
+    known: &Known<'_, '_>,
     ahead: u8,
     arguments: &[Arg],
     factors: &[i64],
     from: u16,
     to: u16,
 ) -> Option<i64>
-    requires same_problem { known.scores.now.problem ≡ known.lines.now }
-    requires line { IfSome known.line (λ line. IsLine known.lines.now (drop ahead arguments.now) line) }
-    requires weighted { AreWeighted known.lines.now arguments.now factors.now }
-    requires span { IsSpan known.lines.now.word from to }
-    requires scored { (cell : Cell) → Demands known.lines.now arguments.now from to cell
-        → HasEntry known.scores.now cell }
-    requires low { AreLow known.lines.now arguments.now factors.now from to }
-    ensures { IsGreatestOf (HasTotal known.entry.lines.now (HasBestScore known.entry.lines.now)
+    requires same_problem { known.now.scores.now.problem ≡ known.now.lines.now }
+    requires line { IfSome known.now.line (λ line. IsLine known.now.lines.now (drop ahead arguments.now) line) }
+    requires weighted { AreWeighted known.now.lines.now arguments.now factors.now }
+    requires span { IsSpan known.now.lines.now.word from to }
+    requires scored { (cell : Cell) → Demands known.now.lines.now arguments.now from to cell
+        → HasEntry known.now.scores.now cell }
+    requires low { AreLow known.now.lines.now arguments.now factors.now from to }
+    ensures { IsGreatestOf (HasTotal known.now.lines.now (HasBestScore known.now.lines.now)
         arguments.now factors.now from to) result }
 {
-    let Known { lines, scores, .. } = known;
+    let Known { lines, scores, .. } = *known;
     if let Some(line) = line_here(known.line.as_ref(), ahead) {
         return greatest_along(lines, scores, *line, arguments, factors, from, to);
     }
@@ -126,7 +126,7 @@ fn alternative_score(
         scores,
         line,
     };
-    let Some(total) = greatest_total(known, ahead, arguments, factors, cell.from, cell.to) else {
+    let Some(total) = greatest_total(&known, ahead, arguments, factors, cell.from, cell.to) else {
         return None;
     };
     Some(turned(goal, term.constant) + total)

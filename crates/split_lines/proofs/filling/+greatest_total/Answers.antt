@@ -21,18 +21,18 @@ use Rattle.split_lines.proofs.filling.+greatest_total.Goals as goal
 use Rattle.split_lines.proofs.filling.+greatest_total.Goals.{After-answer_is_unique, After-places-places, After-token_value, After-argument_value, In_ok-end}
 
 -- the arguments, from the first one on
-laid : (t : ℕ) (c : After-answer_is_unique t) → AreLaid c.args.known.lines.now c.args.known.scores.now (c.in-Some-Some.argument.now ∷ c.in-Some-Some.others.now) (c.in-Some-Some.factor.now ∷ c.in-Some-Some.factors.now) c.args.from c.args.to
+laid : (t : ℕ) (c : After-answer_is_unique t) → AreLaid c.args.known.now.lines.now c.args.known.now.scores.now (c.in-Some-Some.argument.now ∷ c.in-Some-Some.others.now) (c.in-Some-Some.factor.now ∷ c.in-Some-Some.factors.now) c.args.from c.args.to
 laid t c =
-    let p = c.args.known.lines.now in
-    let table = c.args.known.scores.now in
+    let p = c.args.known.now.lines.now in
+    let table = c.args.known.now.scores.now in
     let A : List Arg → Type 0 = λ arguments. AreLaid p table arguments (c.in-Some-Some.factor.now ∷ c.in-Some-Some.factors.now) c.args.from c.args.to in
     let F : List ℤ → Type 0 = λ factors. AreLaid p table c.args.arguments.now factors c.args.from c.args.to in
     subst A c.in-Some-Some.ensures.cases.0 (subst F c.in-Some-Some.ensures'.cases.0
     (record { weighted = c.requires.weighted; span = c.requires.span; scored = c.requires.scored; low = c.requires.low }))
 
-sound : (t : ℕ) (c : After-answer_is_unique t) → AreSound c.args.known.lines.now
+sound : (t : ℕ) (c : After-answer_is_unique t) → AreSound c.args.known.now.lines.now
 sound t c =
-    let p = c.args.known.lines.now in
+    let p = c.args.known.now.lines.now in
     let same : c.problem.result.now ≡ p = c.problem.ensures in
     let S : PosedProblem → Type 0 = AreSound in
     subst S same (record {
@@ -40,16 +40,16 @@ sound t c =
       one = one_score c.problem.result.now (λ at a b. c.answer_is_unique.ensures c.problem.result.now at a b c.admissible.ensures.checked.well_formed);
     })
 
-places : (t : ℕ) (c : After-places-places t) → ArePlaces c.args.known.lines.now c.in-Some-Some.argument.now c.in-Some-Some.others.now c.args.from c.args.to c.places-places.result
+places : (t : ℕ) (c : After-places-places t) → ArePlaces c.args.known.now.lines.now c.in-Some-Some.argument.now c.in-Some-Some.others.now c.args.from c.args.to c.places-places.result
 places t c = c.places-places.ensures c.in-Some-Some.argument.now c.in-Some-Some.others.now c.in-Some-Some.ensures.cases.0
 
-fits : (t : ℕ) (c : After-places-places t) (end : ℕ) → c.places-places.result.start ≤ end → end < c.places-places.result.end → FitsSpan c.args.known.lines.now (on_span c.in-Some-Some.argument.now c.args.from end)
+fits : (t : ℕ) (c : After-places-places t) (end : ℕ) → c.places-places.result.start ≤ end → end < c.places-places.result.end → FitsSpan c.args.known.now.lines.now (on_span c.in-Some-Some.argument.now c.args.from end)
 fits t c end l m = (places t c).fit end l m
 
 pub loop-end-init : goal.loop-end-init
 loop-end-init t c =
     let at = (goal.at.loop-end-init t c).After-places-places in
-    none_first c.args.known.lines.now c.in-Some-Some.argument.now c.in-Some-Some.others.now c.in-Some-Some.factor.now c.in-Some-Some.factors.now c.args.from c.args.to c.places-places.result (places t at)
+    none_first c.args.known.now.lines.now c.in-Some-Some.argument.now c.in-Some-Some.others.now c.in-Some-Some.factor.now c.in-Some-Some.factors.now c.args.from c.args.to c.places-places.result (places t at)
 
 pub argument_value-requires-in-loop-end-clause-fits : goal.argument_value-requires-in-loop-end-clause-fits
 argument_value-requires-in-loop-end-clause-fits t c = fits t (goal.at.argument_value-requires-in-loop-end-clause-fits t c).After-places-places c.loop-end.end c.loop-end.auto.end c.loop-end-test.true
@@ -58,13 +58,13 @@ pub argument_value-requires-in-loop-end-clause-low : goal.argument_value-require
 argument_value-requires-in-loop-end-clause-low t c =
     let at = (goal.at.argument_value-requires-in-loop-end-clause-low t c).After-places-places in
     let begun = (goal.at.argument_value-requires-in-loop-end-clause-low t c).After-answer_is_unique in
-    first_low c.args.known.lines.now c.args.known.scores.now c.in-Some-Some.argument.now c.in-Some-Some.others.now c.in-Some-Some.factor.now c.in-Some-Some.factors.now c.args.from c.args.to (laid t begun) c.loop-end.end
+    first_low c.args.known.now.lines.now c.args.known.now.scores.now c.in-Some-Some.argument.now c.in-Some-Some.others.now c.in-Some-Some.factor.now c.in-Some-Some.factors.now c.args.from c.args.to (laid t begun) c.loop-end.end
     (fits t at c.loop-end.end c.loop-end.auto.end c.loop-end-test.true)
 
 pub returns : goal.returns
 returns t c =
     let at = (goal.at.returns t c).After-places-places in
-    let p = c.args.known.lines.now in
+    let p = c.args.known.now.lines.now in
     let found = all_found p c.in-Some-Some.argument.now c.in-Some-Some.others.now c.in-Some-Some.factor.now c.in-Some-Some.factors.now c.args.from c.args.to c.places-places.result (places t at) c.loop-end.end c.loop-end.greatest c.loop-end-test.false c.loop-end.invariant in
     let A : List Arg → Type 0 = λ arguments. IsGreatestOf (HasTotal p (HasBestScore p) arguments (c.in-Some-Some.factor.now ∷ c.in-Some-Some.factors.now) c.args.from c.args.to) c.loop-end.greatest in
     let F : List ℤ → Type 0 = λ factors. IsGreatestOf (HasTotal p (HasBestScore p) c.args.arguments.now factors c.args.from c.args.to) c.loop-end.greatest in
@@ -74,14 +74,14 @@ pub greatest_total-requires-in-loop-end : goal.greatest_total-requires-in-loop-e
 greatest_total-requires-in-loop-end t c =
     let at = (goal.at.greatest_total-requires-in-loop-end t c).After-places-places in
     let begun = (goal.at.greatest_total-requires-in-loop-end t c).After-answer_is_unique in
-    let p = c.args.known.lines.now in
+    let p = c.args.known.now.lines.now in
     let end = c.loop-end.end in
     let l : end ≤ c.args.to = omega (arith, (places t at).up_to_last, c.loop-end-test.true) in
-    let rest = rest_laid p c.args.known.scores.now c.in-Some-Some.argument.now c.in-Some-Some.others.now c.in-Some-Some.factor.now c.in-Some-Some.factors.now c.args.from c.args.to (laid t begun) end (fits t at end c.loop-end.auto.end c.loop-end-test.true) l in
+    let rest = rest_laid p c.args.known.now.scores.now c.in-Some-Some.argument.now c.in-Some-Some.others.now c.in-Some-Some.factor.now c.in-Some-Some.factors.now c.args.from c.args.to (laid t begun) end (fits t at end c.loop-end.auto.end c.loop-end-test.true) l in
     let fewer = c.in-Some-Some.ensures.cases.1 in
-    let A : List Arg → Type 0 = λ arguments. IfSome c.args.known.line (λ line. IsLine p (drop c.args.ahead arguments) line) in
-    let N : ℕ → Type 0 = λ n. IfSome c.args.known.line (λ line. IsLine p (drop n c.in-Some-Some.others.now) line) in
-    let later = line_later p c.in-Some-Some.argument.now c.in-Some-Some.others.now c.args.known.line (option_copied c.line_here.result) c.args.ahead (subst (λ (given : Option Line). option_copied c.line_here.result ≡ (if c.args.ahead == 0 then given else None)) c.as_ref.ensures.value c.line_here.ensures) (ap option_copied c.in_default.is) (subst A c.in-Some-Some.ensures.cases.0 c.requires.line) in
+    let A : List Arg → Type 0 = λ arguments. IfSome c.args.known.now.line (λ line. IsLine p (drop c.args.ahead arguments) line) in
+    let N : ℕ → Type 0 = λ n. IfSome c.args.known.now.line (λ line. IsLine p (drop n c.in-Some-Some.others.now) line) in
+    let later = line_later p c.in-Some-Some.argument.now c.in-Some-Some.others.now c.args.known.now.line (option_copied c.line_here.result) c.args.ahead (subst (λ (given : Option Line). option_copied c.line_here.result ≡ (if c.args.ahead == 0 then given else None)) c.as_ref.ensures.value c.line_here.ensures) (ap option_copied c.in_default.is) (subst A c.in-Some-Some.ensures.cases.0 c.requires.line) in
     let ahead = subst N (sym c.saturating_sub-ahead.ensures) later in
     (search rules, (c.requires.same_problem, (ahead, (rest.weighted, (rest.span, (rest.scored, rest.low))))))
 
@@ -93,7 +93,7 @@ overflow_mul-factor t c =
     let at = (goal.at.overflow_mul-factor t c).After-places-places in
     let begun = (goal.at.overflow_mul-factor t c).After-answer_is_unique in
     let end = c.loop-end.end in
-    let it = parts_low c.args.known.lines.now c.args.known.scores.now c.in-Some-Some.argument.now c.in-Some-Some.others.now c.in-Some-Some.factor.now c.in-Some-Some.factors.now c.args.from c.args.to (laid t begun) end (fits t at end c.loop-end.auto.end c.loop-end-test.true) (sound t begun)
+    let it = parts_low c.args.known.now.lines.now c.args.known.now.scores.now c.in-Some-Some.argument.now c.in-Some-Some.others.now c.in-Some-Some.factor.now c.in-Some-Some.factors.now c.args.from c.args.to (laid t begun) end (fits t at end c.loop-end.auto.end c.loop-end-test.true) (sound t begun)
     c.in-Some-argument_value.value (λ entry. c.in-Some-argument_value.ensures entry) c.in-Some-greatest_total.rest c.in-Some-greatest_total.ensures.0 in
     let fits_factor : FitsSigned w64 c.in-Some-Some.factor.now = search rules in
     let fits_value : FitsSigned w64 c.in-Some-argument_value.value = search rules in
@@ -104,7 +104,7 @@ overflow_add-factor t c =
     let at = (goal.at.overflow_add-factor t c).After-places-places in
     let begun = (goal.at.overflow_add-factor t c).After-answer_is_unique in
     let end = c.loop-end.end in
-    let it = parts_low c.args.known.lines.now c.args.known.scores.now c.in-Some-Some.argument.now c.in-Some-Some.others.now c.in-Some-Some.factor.now c.in-Some-Some.factors.now c.args.from c.args.to (laid t begun) end (fits t at end c.loop-end.auto.end c.loop-end-test.true) (sound t begun)
+    let it = parts_low c.args.known.now.lines.now c.args.known.now.scores.now c.in-Some-Some.argument.now c.in-Some-Some.others.now c.in-Some-Some.factor.now c.in-Some-Some.factors.now c.args.from c.args.to (laid t begun) end (fits t at end c.loop-end.auto.end c.loop-end-test.true) (sound t begun)
     c.in-Some-argument_value.value (λ entry. c.in-Some-argument_value.ensures entry) c.in-Some-greatest_total.rest c.in-Some-greatest_total.ensures.0 in
     let fits_factor : FitsSigned w64 c.in-Some-Some.factor.now = search rules in
     let fits_value : FitsSigned w64 c.in-Some-argument_value.value = search rules in
@@ -116,8 +116,8 @@ pub loop-end-preserved : goal.loop-end-preserved
 loop-end-preserved t c =
     let at = (goal.at.loop-end-preserved t c).After-places-places in
     let begun = (goal.at.loop-end-preserved t c).After-answer_is_unique in
-    let p = c.args.known.lines.now in
-    let table = c.args.known.scores.now in
+    let p = c.args.known.now.lines.now in
+    let table = c.args.known.now.scores.now in
     let end = c.loop-end.end in
     let end_fits = fits t at end c.loop-end.auto.end c.loop-end-test.true in
     let argument = c.in-Some-Some.argument.now in
@@ -140,7 +140,7 @@ loop-end-preserved-in_default-argument_value t c =
     let at = (goal.at.loop-end-preserved-in_default-argument_value t c).After-places-places in
     let begun = (goal.at.loop-end-preserved-in_default-argument_value t c).After-answer_is_unique in
     let end = c.loop-end.end in
-    unvalued_more c.args.known.lines.now c.args.known.scores.now c.in-Some-Some.argument.now c.in-Some-Some.others.now c.in-Some-Some.factor.now c.in-Some-Some.factors.now c.args.from c.args.to (laid t begun) end (fits t at end c.loop-end.auto.end c.loop-end-test.true)
+    unvalued_more c.args.known.now.lines.now c.args.known.now.scores.now c.in-Some-Some.argument.now c.in-Some-Some.others.now c.in-Some-Some.factor.now c.in-Some-Some.factors.now c.args.from c.args.to (laid t begun) end (fits t at end c.loop-end.auto.end c.loop-end-test.true)
     (λ entry. c.in_default-argument_value.ensures entry) c.loop-end.greatest c.loop-end.invariant
 
 pub loop-end-preserved-in_default-greatest_total : goal.loop-end-preserved-in_default-greatest_total
@@ -148,31 +148,31 @@ loop-end-preserved-in_default-greatest_total t c =
     let at = (goal.at.loop-end-preserved-in_default-greatest_total t c).After-places-places in
     let begun = (goal.at.loop-end-preserved-in_default-greatest_total t c).After-answer_is_unique in
     let end = c.loop-end.end in
-    untotalled_more c.args.known.lines.now c.args.known.scores.now c.in-Some-Some.argument.now c.in-Some-Some.others.now c.in-Some-Some.factor.now c.in-Some-Some.factors.now c.args.from c.args.to (laid t begun) end (fits t at end c.loop-end.auto.end c.loop-end-test.true)
+    untotalled_more c.args.known.now.lines.now c.args.known.now.scores.now c.in-Some-Some.argument.now c.in-Some-Some.others.now c.in-Some-Some.factor.now c.in-Some-Some.factors.now c.args.from c.args.to (laid t begun) end (fits t at end c.loop-end.auto.end c.loop-end-test.true)
     c.in_default-greatest_total.ensures c.loop-end.greatest c.loop-end.invariant
 
 pub greatest_along-requires-clause-line : goal.greatest_along-requires-clause-line
 greatest_along-requires-clause-line t c =
-    line_now c.args.known.lines.now c.args.arguments.now c.args.known.line (option_copied c.line_here.result) c.args.ahead c.in-Some.line.now (subst (λ (given : Option Line). option_copied c.line_here.result ≡ (if c.args.ahead == 0 then given else None)) c.as_ref.ensures.value c.line_here.ensures) (ap option_copied c.in-Some.is) c.requires.line
+    line_now c.args.known.now.lines.now c.args.arguments.now c.args.known.now.line (option_copied c.line_here.result) c.args.ahead c.in-Some.line.now (subst (λ (given : Option Line). option_copied c.line_here.result ≡ (if c.args.ahead == 0 then given else None)) c.as_ref.ensures.value c.line_here.ensures) (ap option_copied c.in-Some.is) c.requires.line
 
 -- ---- a token in front
 
-told_end : (t : ℕ) (c : In_ok-end t) → IsEndTold c.args.known.lines.now c.in-Some-Some.argument.now c.args.from c.args.to (Some c.in_ok-end.end)
-told_end t c = let E : Option ℕ → Type 0 = IsEndTold c.args.known.lines.now c.in-Some-Some.argument.now c.args.from c.args.to in
+told_end : (t : ℕ) (c : In_ok-end t) → IsEndTold c.args.known.now.lines.now c.in-Some-Some.argument.now c.args.from c.args.to (Some c.in_ok-end.end)
+told_end t c = let E : Option ℕ → Type 0 = IsEndTold c.args.known.now.lines.now c.in-Some-Some.argument.now c.args.from c.args.to in
     subst E c.in_ok-end.was c.token_end.ensures
 
-end_there : (t : ℕ) (c : In_ok-end t) → (c.in_ok-end.end ≤ c.args.to) × FitsSpan c.args.known.lines.now (on_span c.in-Some-Some.argument.now c.args.from c.in_ok-end.end)
+end_there : (t : ℕ) (c : In_ok-end t) → (c.in_ok-end.end ≤ c.args.to) × FitsSpan c.args.known.now.lines.now (on_span c.in-Some-Some.argument.now c.args.from c.in_ok-end.end)
 end_there t c = (told_end t c c.in_ok-end.end).0 (λ i. Some c.in_ok-end.end)
 
-only_end : (t : ℕ) (c : In_ok-end t) (other : ℕ) → FitsSpan c.args.known.lines.now (on_span c.in-Some-Some.argument.now c.args.from other) → Cover c.args.known.lines.now c.in-Some-Some.others.now other c.args.to → other ≡ c.in_ok-end.end
-only_end t c = one_ends c.args.known.lines.now c.in-Some-Some.argument.now c.in-Some-Some.others.now c.args.from c.args.to c.in_ok-end.end (told_end t c)
+only_end : (t : ℕ) (c : In_ok-end t) (other : ℕ) → FitsSpan c.args.known.now.lines.now (on_span c.in-Some-Some.argument.now c.args.from other) → Cover c.args.known.now.lines.now c.in-Some-Some.others.now other c.args.to → other ≡ c.in_ok-end.end
+only_end t c = one_ends c.args.known.now.lines.now c.in-Some-Some.argument.now c.in-Some-Some.others.now c.args.from c.args.to c.in_ok-end.end (told_end t c)
 
 -- what holds of the totals of the first argument and the others holds of those of the arguments
 of_all : (t : ℕ) (c : After-answer_is_unique t) (result : Option ℤ)
-    → IsGreatestOf (HasTotal c.args.known.lines.now (HasBestScore c.args.known.lines.now) (c.in-Some-Some.argument.now ∷ c.in-Some-Some.others.now) (c.in-Some-Some.factor.now ∷ c.in-Some-Some.factors.now) c.args.from c.args.to) result
-    → IsGreatestOf (HasTotal c.args.known.lines.now (HasBestScore c.args.known.lines.now) c.args.arguments.now c.args.factors.now c.args.from c.args.to) result
+    → IsGreatestOf (HasTotal c.args.known.now.lines.now (HasBestScore c.args.known.now.lines.now) (c.in-Some-Some.argument.now ∷ c.in-Some-Some.others.now) (c.in-Some-Some.factor.now ∷ c.in-Some-Some.factors.now) c.args.from c.args.to) result
+    → IsGreatestOf (HasTotal c.args.known.now.lines.now (HasBestScore c.args.known.now.lines.now) c.args.arguments.now c.args.factors.now c.args.from c.args.to) result
 of_all t c result found =
-    let p = c.args.known.lines.now in
+    let p = c.args.known.now.lines.now in
     let A : List Arg → Type 0 = λ arguments. IsGreatestOf (HasTotal p (HasBestScore p) arguments (c.in-Some-Some.factor.now ∷ c.in-Some-Some.factors.now) c.args.from c.args.to) result in
     let F : List ℤ → Type 0 = λ factors. IsGreatestOf (HasTotal p (HasBestScore p) c.args.arguments.now factors c.args.from c.args.to) result in
     subst F (sym c.in-Some-Some.ensures'.cases.0) (subst A (sym c.in-Some-Some.ensures.cases.0) found)
@@ -180,7 +180,7 @@ of_all t c result found =
 pub returns-in_err-end : goal.returns-in_err-end
 returns-in_err-end t c =
     let begun = (goal.at.returns-in_err-end t c).After-answer_is_unique in
-    let p = c.args.known.lines.now in
+    let p = c.args.known.now.lines.now in
     let argument = c.in-Some-Some.argument.now in
     let others = c.in-Some-Some.others.now in
     let E : Option ℕ → Type 0 = IsEndTold p argument c.args.from c.args.to in
@@ -191,13 +191,13 @@ returns-in_err-end t c =
 pub greatest_total-requires : goal.greatest_total-requires
 greatest_total-requires t c =
     let begun = (goal.at.greatest_total-requires t c).After-answer_is_unique in
-    let p = c.args.known.lines.now in
+    let p = c.args.known.now.lines.now in
     let it = end_there t c in
-    let rest = rest_laid p c.args.known.scores.now c.in-Some-Some.argument.now c.in-Some-Some.others.now c.in-Some-Some.factor.now c.in-Some-Some.factors.now c.args.from c.args.to (laid t begun) c.in_ok-end.end it.1 it.0 in
+    let rest = rest_laid p c.args.known.now.scores.now c.in-Some-Some.argument.now c.in-Some-Some.others.now c.in-Some-Some.factor.now c.in-Some-Some.factors.now c.args.from c.args.to (laid t begun) c.in_ok-end.end it.1 it.0 in
     let fewer = c.in-Some-Some.ensures.cases.1 in
-    let A : List Arg → Type 0 = λ arguments. IfSome c.args.known.line (λ line. IsLine p (drop c.args.ahead arguments) line) in
-    let N : ℕ → Type 0 = λ n. IfSome c.args.known.line (λ line. IsLine p (drop n c.in-Some-Some.others.now) line) in
-    let later = line_later p c.in-Some-Some.argument.now c.in-Some-Some.others.now c.args.known.line (option_copied c.line_here.result) c.args.ahead (subst (λ (given : Option Line). option_copied c.line_here.result ≡ (if c.args.ahead == 0 then given else None)) c.as_ref.ensures.value c.line_here.ensures) (ap option_copied c.in_default.is) (subst A c.in-Some-Some.ensures.cases.0 c.requires.line) in
+    let A : List Arg → Type 0 = λ arguments. IfSome c.args.known.now.line (λ line. IsLine p (drop c.args.ahead arguments) line) in
+    let N : ℕ → Type 0 = λ n. IfSome c.args.known.now.line (λ line. IsLine p (drop n c.in-Some-Some.others.now) line) in
+    let later = line_later p c.in-Some-Some.argument.now c.in-Some-Some.others.now c.args.known.now.line (option_copied c.line_here.result) c.args.ahead (subst (λ (given : Option Line). option_copied c.line_here.result ≡ (if c.args.ahead == 0 then given else None)) c.as_ref.ensures.value c.line_here.ensures) (ap option_copied c.in_default.is) (subst A c.in-Some-Some.ensures.cases.0 c.requires.line) in
     let ahead = subst N (sym c.saturating_sub-ahead.ensures) later in
     (search rules, (c.requires.same_problem, (ahead, (rest.weighted, (rest.span, (rest.scored, rest.low))))))
 
@@ -205,7 +205,7 @@ pub returns-in_err-rest : goal.returns-in_err-rest
 returns-in_err-rest t c =
     let begun = (goal.at.returns-in_err-rest t c).After-answer_is_unique in
     let at = (goal.at.returns-in_err-rest t c).In_ok-end in
-    let p = c.args.known.lines.now in
+    let p = c.args.known.now.lines.now in
     let argument = c.in-Some-Some.argument.now in
     let others = c.in-Some-Some.others.now in
     let G : Option ℤ → Type 0 = λ result. IsGreatestOf (HasTotal p (HasBestScore p) others c.in-Some-Some.factors.now c.in_ok-end.end c.args.to) result in
@@ -218,20 +218,20 @@ token_value-requires-clause-span t c = (end_there t (goal.at.token_value-require
 pub token_value-requires-clause-low : goal.token_value-requires-clause-low
 token_value-requires-clause-low t c =
     let begun = (goal.at.token_value-requires-clause-low t c).After-answer_is_unique in
-    first_low c.args.known.lines.now c.args.known.scores.now c.in-Some-Some.argument.now c.in-Some-Some.others.now c.in-Some-Some.factor.now c.in-Some-Some.factors.now c.args.from c.args.to (laid t begun) c.in_ok-end.end
+    first_low c.args.known.now.lines.now c.args.known.now.scores.now c.in-Some-Some.argument.now c.in-Some-Some.others.now c.in-Some-Some.factor.now c.in-Some-Some.factors.now c.args.from c.args.to (laid t begun) c.in_ok-end.end
     (end_there t (goal.at.token_value-requires-clause-low t c).In_ok-end).1
 
 -- the value of the token, and that its parts are low
-value_is : (t : ℕ) (c : After-token_value t) → IsValue c.args.known.lines.now (HasBestScore c.args.known.lines.now) (on_span c.in-Some-Some.argument.now c.args.from c.in_ok-end.end) c.token_value.result
+value_is : (t : ℕ) (c : After-token_value t) → IsValue c.args.known.now.lines.now (HasBestScore c.args.known.now.lines.now) (on_span c.in-Some-Some.argument.now c.args.from c.in_ok-end.end) c.token_value.result
 value_is t c =
-    let p = c.args.known.lines.now in
+    let p = c.args.known.now.lines.now in
     let argument = c.in-Some-Some.argument.now in
     let V : ℤ → Type 0 = λ value. IsValue p (HasBestScore p) (on_span argument c.args.from c.in_ok-end.end) value in
     subst V (sym c.token_value.ensures) (fixed_value p (HasBestScore p) argument c.args.from c.in_ok-end.end (c.is_fixed.ensures.0 c.if-is_fixed.true))
 
-rest_is : (t : ℕ) (c : After-token_value t) → IsGreatestOf (HasTotal c.args.known.lines.now (HasBestScore c.args.known.lines.now) c.in-Some-Some.others.now c.in-Some-Some.factors.now c.in_ok-end.end c.args.to) (Some c.in_ok-rest.rest)
+rest_is : (t : ℕ) (c : After-token_value t) → IsGreatestOf (HasTotal c.args.known.now.lines.now (HasBestScore c.args.known.now.lines.now) c.in-Some-Some.others.now c.in-Some-Some.factors.now c.in_ok-end.end c.args.to) (Some c.in_ok-rest.rest)
 rest_is t c =
-    let p = c.args.known.lines.now in
+    let p = c.args.known.now.lines.now in
     let G : Option ℤ → Type 0 = λ result. IsGreatestOf (HasTotal p (HasBestScore p) c.in-Some-Some.others.now c.in-Some-Some.factors.now c.in_ok-end.end c.args.to) result in
     subst G c.in_ok-rest.was c.greatest_total.ensures
 
@@ -240,14 +240,14 @@ overflow_mul-result t c =
     let begun = (goal.at.overflow_mul-result t c).After-answer_is_unique in
     let at = (goal.at.overflow_mul-result t c).In_ok-end in
     let behind = (goal.at.overflow_mul-result t c).After-token_value in
-    let p = c.args.known.lines.now in
+    let p = c.args.known.now.lines.now in
     let argument = c.in-Some-Some.argument.now in
     let others = c.in-Some-Some.others.now in
     let factor = c.in-Some-Some.factor.now in
     let factors = c.in-Some-Some.factors.now in
     let value = c.token_value.result in
     let rest = c.in_ok-rest.rest in
-    let it = parts_low p c.args.known.scores.now argument others factor factors c.args.from c.args.to (laid t begun) c.in_ok-end.end (end_there t at).1 (sound t begun) value (λ entry. value_is t behind) rest (rest_is t behind).0 in
+    let it = parts_low p c.args.known.now.scores.now argument others factor factors c.args.from c.args.to (laid t begun) c.in_ok-end.end (end_there t at).1 (sound t begun) value (λ entry. value_is t behind) rest (rest_is t behind).0 in
     let fits_factor : FitsSigned w64 factor = search rules in
     let fits_value : FitsSigned w64 value = search rules in
     simp to_z-of_z (fits_below (factor *ℤ value) it.0)
@@ -257,14 +257,14 @@ overflow_add-result t c =
     let begun = (goal.at.overflow_add-result t c).After-answer_is_unique in
     let at = (goal.at.overflow_add-result t c).In_ok-end in
     let behind = (goal.at.overflow_add-result t c).After-token_value in
-    let p = c.args.known.lines.now in
+    let p = c.args.known.now.lines.now in
     let argument = c.in-Some-Some.argument.now in
     let others = c.in-Some-Some.others.now in
     let factor = c.in-Some-Some.factor.now in
     let factors = c.in-Some-Some.factors.now in
     let value = c.token_value.result in
     let rest = c.in_ok-rest.rest in
-    let it = parts_low p c.args.known.scores.now argument others factor factors c.args.from c.args.to (laid t begun) c.in_ok-end.end (end_there t at).1 (sound t begun) value (λ entry. value_is t behind) rest (rest_is t behind).0 in
+    let it = parts_low p c.args.known.now.scores.now argument others factor factors c.args.from c.args.to (laid t begun) c.in_ok-end.end (end_there t at).1 (sound t begun) value (λ entry. value_is t behind) rest (rest_is t behind).0 in
     let fits_factor : FitsSigned w64 factor = search rules in
     let fits_value : FitsSigned w64 value = search rules in
     let fits_product : FitsSigned w64 (factor *ℤ value) = fits_below (factor *ℤ value) it.0 in
@@ -276,14 +276,14 @@ returns-then-is_fixed t c =
     let begun = (goal.at.returns-then-is_fixed t c).After-answer_is_unique in
     let at = (goal.at.returns-then-is_fixed t c).In_ok-end in
     let behind = (goal.at.returns-then-is_fixed t c).After-token_value in
-    let p = c.args.known.lines.now in
+    let p = c.args.known.now.lines.now in
     let argument = c.in-Some-Some.argument.now in
     let others = c.in-Some-Some.others.now in
     let factor = c.in-Some-Some.factor.now in
     let factors = c.in-Some-Some.factors.now in
     let value = c.token_value.result in
     let rest = c.in_ok-rest.rest in
-    let it = parts_low p c.args.known.scores.now argument others factor factors c.args.from c.args.to (laid t begun) c.in_ok-end.end (end_there t at).1 (sound t begun) value (λ entry. value_is t behind) rest (rest_is t behind).0 in
+    let it = parts_low p c.args.known.now.scores.now argument others factor factors c.args.from c.args.to (laid t begun) c.in_ok-end.end (end_there t at).1 (sound t begun) value (λ entry. value_is t behind) rest (rest_is t behind).0 in
     let fits_factor : FitsSigned w64 factor = search rules in
     let fits_value : FitsSigned w64 value = search rules in
     let fits_product : FitsSigned w64 (factor *ℤ value) = fits_below (factor *ℤ value) it.0 in
@@ -298,19 +298,19 @@ returns-then-is_fixed t c =
 none_behind : (t : ℕ) (c : After-argument_value t) → c.in-Some-Some.others.now ≡ []
 none_behind t c = empty_without c.in-Some-Some.others.now (search rules)
 
-fits_whole : (t : ℕ) (c : After-argument_value t) → FitsSpan c.args.known.lines.now (on_span c.in-Some-Some.argument.now c.args.from c.args.to)
+fits_whole : (t : ℕ) (c : After-argument_value t) → FitsSpan c.args.known.now.lines.now (on_span c.in-Some-Some.argument.now c.args.from c.args.to)
 fits_whole t c = c.fits.ensures.0 (search rules)
 
-covers_whole : (t : ℕ) (c : After-argument_value t) → Cover c.args.known.lines.now c.in-Some-Some.others.now c.args.to c.args.to
-covers_whole t c = let C : List Arg → Type 0 = λ others. Cover c.args.known.lines.now others c.args.to c.args.to in subst C (sym (none_behind t c)) refl
+covers_whole : (t : ℕ) (c : After-argument_value t) → Cover c.args.known.now.lines.now c.in-Some-Some.others.now c.args.to c.args.to
+covers_whole t c = let C : List Arg → Type 0 = λ others. Cover c.args.known.now.lines.now others c.args.to c.args.to in subst C (sym (none_behind t c)) refl
 
-only_whole : (t : ℕ) (c : After-argument_value t) (other : ℕ) → FitsSpan c.args.known.lines.now (on_span c.in-Some-Some.argument.now c.args.from other) → Cover c.args.known.lines.now c.in-Some-Some.others.now other c.args.to → other ≡ c.args.to
-only_whole t c other fits cover = let C : List Arg → Type 0 = λ others. Cover c.args.known.lines.now others other c.args.to in subst C (none_behind t c) cover
+only_whole : (t : ℕ) (c : After-argument_value t) (other : ℕ) → FitsSpan c.args.known.now.lines.now (on_span c.in-Some-Some.argument.now c.args.from other) → Cover c.args.known.now.lines.now c.in-Some-Some.others.now other c.args.to → other ≡ c.args.to
+only_whole t c other fits cover = let C : List Arg → Type 0 = λ others. Cover c.args.known.now.lines.now others other c.args.to in subst C (none_behind t c) cover
 
 -- the total of no arguments
-total_whole : (t : ℕ) (c : After-argument_value t) → IsGreatestOf (HasTotal c.args.known.lines.now (HasBestScore c.args.known.lines.now) c.in-Some-Some.others.now c.in-Some-Some.factors.now c.args.to c.args.to) (Some (pos 0))
+total_whole : (t : ℕ) (c : After-argument_value t) → IsGreatestOf (HasTotal c.args.known.now.lines.now (HasBestScore c.args.known.now.lines.now) c.in-Some-Some.others.now c.in-Some-Some.factors.now c.args.to c.args.to) (Some (pos 0))
 total_whole t c =
-    let p = c.args.known.lines.now in
+    let p = c.args.known.now.lines.now in
     let G : List Arg → Type 0 = λ others. IsGreatestOf (HasTotal p (HasBestScore p) others c.in-Some-Some.factors.now c.args.to c.args.to) (Some (pos 0)) in
     let each : length c.in-Some-Some.factors.now ≡ 0 = omega (arith, c.requires.weighted.factors_each, ap length c.in-Some-Some.ensures.cases.0, ap length c.in-Some-Some.ensures'.cases.0, ap length (none_behind t c)) in
     subst G (sym (none_behind t c)) (total_of_none p (HasBestScore p) c.in-Some-Some.factors.now c.args.to each)
@@ -319,11 +319,11 @@ pub returns-in_err-argument_value : goal.returns-in_err-argument_value
 returns-in_err-argument_value t c =
     let begun = (goal.at.returns-in_err-argument_value t c).After-answer_is_unique in
     let valued = (goal.at.returns-in_err-argument_value t c).After-argument_value in
-    let p = c.args.known.lines.now in
+    let p = c.args.known.now.lines.now in
     let argument = c.in-Some-Some.argument.now in
     let others = c.in-Some-Some.others.now in
     let fits' = fits_whole t valued in
-    let entry = first_known_entry p c.args.known.scores.now argument others c.in-Some-Some.factor.now c.in-Some-Some.factors.now c.args.from c.args.to (laid t begun) c.args.to fits' (covers_whole t valued) in
+    let entry = first_known_entry p c.args.known.now.scores.now argument others c.in-Some-Some.factor.now c.in-Some-Some.factors.now c.args.from c.args.to (laid t begun) c.args.to fits' (covers_whole t valued) in
     let M : Option ℤ → Type 0 = λ result. MatchOption result ((value : ℤ) → IsValue p (HasBestScore p) (on_span argument c.args.from c.args.to) value → ⊥) (IsValue p (HasBestScore p) (on_span argument c.args.from c.args.to)) in
     let none : (value : ℤ) → IsValue p (HasBestScore p) (on_span argument c.args.from c.args.to) value → ⊥ = subst M c.in_err-argument_value.was (c.argument_value.ensures entry) in
     of_all t begun c.from_residual-in_err-argument_value.result (subst (λ (result : Option ℤ). IsGreatestOf (HasTotal p (HasBestScore p) (argument ∷ others) (c.in-Some-Some.factor.now ∷ c.in-Some-Some.factors.now) c.args.from c.args.to) result) (sym c.from_residual-in_err-argument_value.ensures)
@@ -333,7 +333,7 @@ pub overflow_mul-result-then-is_empty : goal.overflow_mul-result-then-is_empty
 overflow_mul-result-then-is_empty t c =
     let begun = (goal.at.overflow_mul-result-then-is_empty t c).After-answer_is_unique in
     let valued = (goal.at.overflow_mul-result-then-is_empty t c).After-argument_value in
-    let p = c.args.known.lines.now in
+    let p = c.args.known.now.lines.now in
     let argument = c.in-Some-Some.argument.now in
     let others = c.in-Some-Some.others.now in
     let factor = c.in-Some-Some.factor.now in
@@ -341,9 +341,9 @@ overflow_mul-result-then-is_empty t c =
     let value = c.in_ok-argument_value.field-0 in
     let fits' = fits_whole t valued in
     let M : Option ℤ → Type 0 = λ result. MatchOption result ((value : ℤ) → IsValue p (HasBestScore p) (on_span argument c.args.from c.args.to) value → ⊥) (IsValue p (HasBestScore p) (on_span argument c.args.from c.args.to)) in
-    let entry = first_known_entry p c.args.known.scores.now argument others factor factors c.args.from c.args.to (laid t begun) c.args.to fits' (covers_whole t valued) in
+    let entry = first_known_entry p c.args.known.now.scores.now argument others factor factors c.args.from c.args.to (laid t begun) c.args.to fits' (covers_whole t valued) in
     let is_value : IsValue p (HasBestScore p) (on_span argument c.args.from c.args.to) value = subst M c.in_ok-argument_value.was (c.argument_value.ensures entry) in
-    let it = parts_low p c.args.known.scores.now argument others factor factors c.args.from c.args.to (laid t begun) c.args.to fits' (sound t begun) value (λ _. is_value) (pos 0) (total_whole t valued).0 in
+    let it = parts_low p c.args.known.now.scores.now argument others factor factors c.args.from c.args.to (laid t begun) c.args.to fits' (sound t begun) value (λ _. is_value) (pos 0) (total_whole t valued).0 in
     let fits_factor : FitsSigned w64 factor = search rules in
     let fits_value : FitsSigned w64 value = search rules in
     simp to_z-of_z (fits_below (factor *ℤ value) it.0)
@@ -352,7 +352,7 @@ pub returns-then-is_empty : goal.returns-then-is_empty
 returns-then-is_empty t c =
     let begun = (goal.at.returns-then-is_empty t c).After-answer_is_unique in
     let valued = (goal.at.returns-then-is_empty t c).After-argument_value in
-    let p = c.args.known.lines.now in
+    let p = c.args.known.now.lines.now in
     let argument = c.in-Some-Some.argument.now in
     let others = c.in-Some-Some.others.now in
     let factor = c.in-Some-Some.factor.now in
@@ -360,9 +360,9 @@ returns-then-is_empty t c =
     let value = c.in_ok-argument_value.field-0 in
     let fits' = fits_whole t valued in
     let M : Option ℤ → Type 0 = λ result. MatchOption result ((value : ℤ) → IsValue p (HasBestScore p) (on_span argument c.args.from c.args.to) value → ⊥) (IsValue p (HasBestScore p) (on_span argument c.args.from c.args.to)) in
-    let entry = first_known_entry p c.args.known.scores.now argument others factor factors c.args.from c.args.to (laid t begun) c.args.to fits' (covers_whole t valued) in
+    let entry = first_known_entry p c.args.known.now.scores.now argument others factor factors c.args.from c.args.to (laid t begun) c.args.to fits' (covers_whole t valued) in
     let is_value : IsValue p (HasBestScore p) (on_span argument c.args.from c.args.to) value = subst M c.in_ok-argument_value.was (c.argument_value.ensures entry) in
-    let it = parts_low p c.args.known.scores.now argument others factor factors c.args.from c.args.to (laid t begun) c.args.to fits' (sound t begun) value (λ _. is_value) (pos 0) (total_whole t valued).0 in
+    let it = parts_low p c.args.known.now.scores.now argument others factor factors c.args.from c.args.to (laid t begun) c.args.to fits' (sound t begun) value (λ _. is_value) (pos 0) (total_whole t valued).0 in
     let fits_factor : FitsSigned w64 factor = search rules in
     let fits_value : FitsSigned w64 value = search rules in
     let fits_product : FitsSigned w64 (factor *ℤ value) = fits_below (factor *ℤ value) it.0 in
