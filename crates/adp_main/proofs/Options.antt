@@ -135,10 +135,6 @@ once_less setting settings once =
     let parts = both_parts _ _ once in
     (absent_from _ parts.0, parts.1)
 
--- no words set nothing
-pub read_none : (place : ℕ) → AreRead place [] (record { algebra = None; workers = None; seed = None })
-read_none place = record { settings = []; set = tt; once = refl; algebra = refl; workers = refl; seed = refl }
-
 -- one more option before the others
 pub read_more : (place : ℕ) (option value : List ℕ) (words : List (List ℕ)) (before after : Settings) (setting : Setting)
     → Adds before option value (place + 1) setting after → AreRead (place + 2) words before → AreRead place (option ∷ value ∷ words) after
@@ -257,10 +253,6 @@ pub odd_words : (words : List (List ℕ)) → HasCommand words → length words 
 odd_words words has =
     let is = has.1 in
     omega (arith, ap length is.words_are, even_words 1 is.options is.settings is.set)
-
--- the first word is no mode
-pub no_mode : (words : List (List ℕ)) (first : List ℕ) (rest : List (List ℕ)) → words ≡ first ∷ rest → ((mode : asked.Mode) → first ≡ mode_word mode → ⊥) → HasCommand words → ⊥
-no_mode words first rest e unknown has = unknown has.0.mode (let h = has.1.words_are in cc)
 
 -- an option cannot be added
 pub no_option : (words : List (List ℕ)) (place : ℕ) (option value : List ℕ) (before : Settings) → place % 2 ≡ 1

@@ -28,6 +28,3 @@ told-sum a b = omega arith
 
 pub told-max : (a b : ℕ) → max (told a) (told b) ≡ told (max a b)
 told-max a b = omega arith
-
-pub told-told : (a : ℕ) → told (told a) ≡ told a
-told-told a = omega arith

@@ -1,5 +1,5 @@
--- The sweep that fills in the scores of the demanded cells, cell by cell, end by end and start by start.
-use Rattle.std.proofs.Common.{◌≡◌, ◌⊎◌, ℕ, ◌+◌, ◌<◌, ◌≤◌, ℤ, List, length, sym, ap, subst, inl, inr, ⊎_elim, ◌∙◌, arith}
+-- The sweep that fills in the scores of the demanded cells, cell by cell, start by start, end by end and block by block.
+use Rattle.std.proofs.Common.{◌≡◌, ◌↔◌, ◌⊎◌, ℕ, ◌+◌, ◌<◌, ◌≤◌, ℤ, List, length, sym, ap, subst, inl, inr, ⊎_elim, ◌∙◌, arith}
 use Rattle.std.specs.Prelude.{slice_index}
 use Rattle.std.proofs.lemmas.Bool.{cases_lt}
 use Rattle.std.proofs.lemmas.List.{get_or_read}
@@ -7,8 +7,9 @@ use Rattle.adp_model.specs.declared.cell.Cell.{Cell}
 use Rattle.adp_model.specs.PosedProblem.{PosedProblem}
 use Rattle.adp_model.specs.Demand.{IsDemandedChild, IsBelow, IsDemanded}
 use Rattle.split_lines.specs.Entries.{Table, HasEntry}
+use Rattle.split_lines.specs.Marks.{CellMarks, IsMarkedInRow, IsEndMarked}
 use Rattle.seq_reference.specs.Sweeping.{AreRanked}
-use Rattle.seq_reference.specs.Filling.{AreFilled, IsFromStart, IsFilledBefore, IsFilledBeforeRule}
+use Rattle.seq_reference.specs.Filling.{AreFilled, AreKept, IsFromStart, IsFilledBefore, IsFilledFrom, IsWithin, IsShorterWithin, IsFilledBeforeRule}
 use Rattle.seq_reference.proofs.Sweeps.{Counted, visited}
 
 module _ (p : PosedProblem) (counted : (cell : Cell) → IsDemanded p cell → Counted p cell) where
@@ -54,11 +55,11 @@ module _ (p : PosedProblem) (rules : List ℕ) (from to : ℕ) where
   child_before number rule is l ranked ranks below child counted is_child =
       let falls = below (visited p rules from to rule) child is_child in
       ⊎_elim
-      (λ later. inl (inl later))
+      (λ later. inl ((falls.begins, falls.ends), inl later))
       (λ not_later.
       let begins : child.from ≡ from = omega (arith, not_later, falls.begins) in
       ⊎_elim
-      (λ shorter. inl (inr (begins, shorter)))
+      (λ shorter. inl ((falls.begins, falls.ends), inr shorter))
       (λ not_shorter.
       let ends : child.to ≡ to = omega (arith, not_shorter, falls.ends) in
       let stands = ranked.all child.rule counted.rule in
@@ -67,43 +68,103 @@ module _ (p : PosedProblem) (rules : List ℕ) (from to : ℕ) where
       (cases_lt child.to to))
       (cases_lt from child.from)
 
-  pub none_filled : (cell : Cell) → IsFilledBeforeRule rules from to 0 cell → IsFilledBefore from to cell
+  pub none_filled : (cell : Cell) → IsFilledBeforeRule rules from to 0 cell → IsShorterWithin from to cell
   none_filled cell (inl before) = before
   none_filled cell (inr (begins, ends, (at, low, there))) = absurd (omega arith)
 
-  pub all_filled : AreRanked p rules → (number : ℕ) → length rules ≤ number → (cell : Cell) → Counted p cell → IsFilledBefore from (to + 1) cell → IsFilledBeforeRule rules from to number cell
-  all_filled ranked number whole cell counted (inl later) = inl (inl later)
-  all_filled ranked number whole cell counted (inr (begins, before)) =
+  pub all_filled : AreRanked p rules → (number : ℕ) → length rules ≤ number → (cell : Cell) → Counted p cell → IsWithin from to cell → IsFilledBeforeRule rules from to number cell
+  all_filled ranked number whole cell counted (low, high) =
       ⊎_elim
-      (λ shorter. inl (inr (begins, shorter)))
-      (λ here.
+      (λ later. inl ((low, high), inl later))
+      (λ begins.
+      ⊎_elim
+      (λ shorter. inl ((low, high), inr shorter))
+      (λ ends.
       let stands = ranked.all cell.rule counted.rule in
-      inr (begins, omega arith, (stands.0, omega (arith, stands.1), sym (get_or_read rules stands.0 cell.rule stands.1 (sym stands.2) 0))))
-      (cases_lt cell.to to)
+      inr (omega arith, omega arith, (stands.0, omega (arith, stands.1), sym (get_or_read rules stands.0 cell.rule stands.1 (sym stands.2) 0))))
+      (cases_lt cell.to to))
+      (cases_lt from cell.from)
 
--- ---- the ends of a start
+-- ---- the starts of an end
 
--- no counted cell ends between two places
-pub filled_next : (p : PosedProblem) (from least past next : ℕ) → length p.word < past → ((cell : Cell) → Counted p cell → cell.from ≡ from → least ≤ cell.to → cell.to < past → next ≤ cell.to) → (cell : Cell) → Counted p cell → IsFilledBefore from next cell → IsFilledBefore from least cell
-filled_next p from least past next whole told cell counted (inl later) = inl later
-filled_next p from least past next whole told cell counted (inr (begins, before)) =
-    ⊎_elim
-    (λ shorter. inr (begins, shorter))
-    (λ here. let l = told cell counted begins (omega (arith, here)) (omega (arith, whole, counted.in_word)) in absurd (omega (arith, l, before)))
-    (cases_lt cell.to least)
+module _ (p : PosedProblem) (first past to : ℕ) where
+  -- what ends before, or here and begins later, is all that is shorter and lies within
+  pub shorter_filled : (table : Table ℤ) (from next : ℕ) → first ≤ from → next ≡ from + 1 → AreFilled p table (IsFilledFrom first past to next) → AreFilled p table (IsShorterWithin from to)
+  shorter_filled table from next within is filled = record {
+    problem = filled.problem;
+    entries = λ cell demanded ((low, high), shorter). ⊎_elim
+        (λ before. filled.entries cell demanded (inl (inr (omega arith, before))))
+        (λ here. filled.entries cell demanded (inr (⊎_elim (λ later. omega arith) (λ before. absurd (omega arith)) shorter, omega arith)))
+        (cases_lt cell.to to);
+  }
 
-pub first_filled : (from : ℕ) (cell : Cell) → IsFilledBefore from 0 cell → IsFromStart (from + 1) cell
-first_filled from cell (inl later) = omega (arith, later)
-first_filled from cell (inr (begins, before)) = absurd (omega (arith, before))
+  -- one more start
+  pub span_filled : (old new : Table ℤ) (from next : ℕ) → next ≡ from + 1 → AreFilled p old (IsFilledFrom first past to next) → AreKept old new → AreFilled p new (IsWithin from to) → AreFilled p new (IsFilledFrom first past to from)
+  span_filled old new from next is before kept filled = record {
+    problem = filled.problem;
+    entries = λ cell demanded here. ⊎_elim
+        (λ was. kept cell (before.entries cell demanded (inl was)))
+        (λ (low, ends). filled.entries cell demanded (low, omega arith)) here;
+  }
 
-pub last_filled : (p : PosedProblem) (from past : ℕ) → length p.word < past → (cell : Cell) → Counted p cell → IsFromStart from cell → IsFilledBefore from past cell
-last_filled p from past whole cell counted start =
-    ⊎_elim (λ later. inl later) (λ here. inr (omega (arith, here, start), omega (arith, whole, counted.in_word))) (cases_lt from cell.from)
+  pub no_start_filled : (table : Table ℤ) → AreFilled p table (IsFilledBefore first past to) → AreFilled p table (IsFilledFrom first past to past)
+  no_start_filled table filled = record {
+    problem = filled.problem;
+    entries = λ cell demanded is. ⊎_elim (λ was. filled.entries cell demanded was) (λ (late, ends). filled.entries cell demanded (inl late)) is;
+  }
+
+  pub end_filled : (table : Table ℤ) (from : ℕ) → from ≤ first → AreFilled p table (IsFilledFrom first past to from) → AreFilled p table (IsFilledBefore first past (to + 1))
+  end_filled table from all filled = record {
+    problem = filled.problem;
+    entries = λ cell demanded is. ⊎_elim
+        (λ behind. filled.entries cell demanded (inl (inl behind)))
+        (λ (low, high). ⊎_elim
+        (λ before. filled.entries cell demanded (inl (inr (low, before))))
+        (λ here. filled.entries cell demanded (inr (omega arith, omega arith)))
+        (cases_lt cell.to to)) is;
+  }
+
+-- ---- the ends of a block
+
+module _ (p : PosedProblem) (counted : (cell : Cell) → IsDemanded p cell → Counted p cell) (marks : CellMarks) (marked : (cell : Cell) → IsMarkedInRow marks cell ↔ IsDemanded p cell) (rules : List ℕ) (ranked : AreRanked p rules) (table : Table ℤ) (first past least : ℕ) (filled : AreFilled p table (IsFilledBefore first past least)) where
+  -- a demanded cell that begins in the block is told by its end
+  end_told : (cell : Cell) → first ≤ cell.from → cell.from < past → IsDemanded p cell → IsEndMarked marks rules first past cell.to
+  end_told cell low high demanded = record {
+    from = cell.from;
+    from_first = low;
+    before = high;
+    marked = (cell.rule, ranked.all cell.rule (counted cell demanded).rule, (marked cell).1 demanded);
+  }
+
+  -- a demanded cell of the block is filled, or its end is marked and does not come before the least one
+  filled_or_told : (cell : Cell) → first ≤ cell.from → IsDemanded p cell → HasEntry table cell ⊎ ((least ≤ cell.to) × IsEndMarked marks rules first past cell.to)
+  filled_or_told cell low demanded = elim (cases_lt cell.from past) [
+    | inr behind ↦ inl (filled.entries cell demanded (inl behind))
+    | inl within ↦ elim (cases_lt cell.to least) [
+      | inl before ↦ inl (filled.entries cell demanded (inr (low, before)))
+      | inr later ↦ inr (later, end_told cell low within demanded)
+    ]
+  ]
+
+  -- no demanded cell of the block ends between two places
+  pub filled_up_to : (to : ℕ) → ((other : ℕ) → least ≤ other → other < to → IsEndMarked marks rules first past other → ⊥) → AreFilled p table (IsFilledBefore first past to)
+  filled_up_to to none = record {
+    problem = filled.problem;
+    entries = λ cell demanded is. ⊎_elim
+        (λ behind. filled.entries cell demanded (inl behind))
+        (λ (low, high). ⊎_elim (λ entry. entry) (λ (late, told). absurd (none cell.to late high told)) (filled_or_told cell low demanded)) is;
+  }
+
+  -- none ends behind the last place
+  pub filled_block : ((to : ℕ) → least ≤ to → IsEndMarked marks rules first past to → ⊥) → AreFilled p table (IsFromStart first)
+  filled_block none = record {
+    problem = filled.problem;
+    entries = λ cell demanded low. ⊎_elim (λ entry. entry) (λ (late, told). absurd (none cell.to late told)) (filled_or_told cell low demanded);
+  }
+
+-- no cell of the block ends before its first start
+pub first_filled : (p : PosedProblem) (first past : ℕ) (cell : Cell) → Counted p cell → IsFilledBefore first past first cell → IsFromStart past cell
+first_filled p first past cell counted (inl behind) = behind
+first_filled p first past cell counted (inr (low, high)) = absurd (omega (arith, counted.in_order))
 
 -- ---- the whole sweep
-
-pub filled_nothing : (p : PosedProblem) (table : Table ℤ) (past : ℕ) → table.problem ≡ p → length p.word < past → ((cell : Cell) → IsDemanded p cell → Counted p cell) → AreFilled p table (IsFromStart past)
-filled_nothing p table past same whole counted = record {
-  problem = same;
-  entries = λ cell demanded start. let is = counted cell demanded in absurd (omega (arith, start, whole, is.in_order, is.in_word));
-}

@@ -1,28 +1,22 @@
 -- The sweep that marks the demanded cells, cell by cell, end by end and start by start.
-use Rattle.std.proofs.Common.{◌≡◌, ◌↔◌, ◌⊎◌, ℕ, ◌+◌, ◌-◌, ◌<◌, ◌≤◌, Bool, true, false, Some, List, length, refl, sym, ap, subst, inl, inr, ⊎_elim, ◌∙◌, arith}
-use Rattle.std.specs.Prelude.{is_some, slice_index}
+use Rattle.std.proofs.Common.{◌≡◌, ◌↔◌, ◌⊎◌, ℕ, ◌+◌, ◌-◌, ◌<◌, List, length, refl, sym, ap, subst, inl, inr, ⊎_elim, ◌∙◌, arith}
+use Rattle.std.specs.Prelude.{slice_index}
 use Rattle.std.proofs.lemmas.Bool.{cases_lt}
 use Rattle.std.proofs.lemmas.List.{get_or_read}
 use Rattle.adp_model.specs.declared.cell.Cell.{Cell}
 use Rattle.adp_model.specs.PosedProblem.{PosedProblem, axiom_cell}
 use Rattle.adp_model.specs.Sizes.{IsWithinSizes}
-use Rattle.adp_model.specs.Cells.{IsCounted, AreCountedEnds}
+use Rattle.adp_model.specs.Cells.{IsCounted}
 use Rattle.adp_model.specs.Demand.{IsDemandedChild, IsBelow, IsDemanded, Axiom, Child}
-use Rattle.split_lines.specs.Entries.{Table, AreCells, IsMarked, AreMarkedToo, in_row, in_column}
-use Rattle.seq_reference.specs.Sweeping.{AreRanked, IsBeforeStart, IsBeforeEnd, IsBeforeRule, IsSettled, AreSwept}
+use Rattle.split_lines.specs.Marks.{CellMarks, IsMarked, IsMarkedInRow, IsSpanMarked, AreInRows, AreMarkedToo, AreMarkedFrom}
+use Rattle.seq_reference.specs.Sweeping.{AreRanked, IsBeforeStart, IsBeforeEnd, IsBeforeRule, AreGathered, IsSettled, AreSwept}
 
 abbrev pub Counted : PosedProblem → Cell → Type 0
 Counted p cell = IsCounted p.grammar (length p.word) cell
 
--- the counted cells of a rule that begin here end in the range
-pub ends_hold : (p : PosedProblem) (cell : Cell) (rule from start end : ℕ) → AreCountedEnds p.grammar (length p.word) rule from start end → rule ≡ cell.rule → cell.from ≡ from → Counted p cell → (start ≤ cell.to) × (cell.to < end)
-ends_hold p cell rule from start end ends same begins counted =
-    let C : ℕ → ℕ → Type 0 = λ r f. Counted p (record { rule = r; from = f; to = cell.to }) in
-    (ends cell.to).0 (subst (λ r. C r from) (sym same) (subst (λ f. C cell.rule f) begins counted))
-
 -- ---- what is settled stays settled
 
-settled_later : (first second : Table Bool) (Holds : Cell → Type 0) → AreMarkedToo first second Holds → (cell : Cell) → IsSettled first cell → IsSettled second cell
+settled_later : (first second : CellMarks) (Holds : Cell → Type 0) → AreMarkedToo first second Holds → (cell : Cell) → IsSettled first cell → IsSettled second cell
 settled_later first second Holds more cell settled = record {
   marked = more.rows_stay cell settled.marked;
   children = λ child is. (more.exact child).1 (inl (settled.children child (subst (λ p. IsDemandedChild p cell child) more.problem is)));
@@ -30,8 +24,8 @@ settled_later first second Holds more cell settled = record {
 
 module _ (p : PosedProblem) (counted : (cell : Cell) → IsDemanded p cell → Counted p cell) where
   -- fewer counted cells are looked at
-  pub swept_fewer : (table : Table Bool) (Holds Other : Cell → Type 0) → ((cell : Cell) → Counted p cell → Other cell → Holds cell) → AreSwept p table Holds → AreSwept p table Other
-  swept_fewer table Holds Other fewer swept = record {
+  pub swept_fewer : (marks : CellMarks) (Holds Other : Cell → Type 0) → ((cell : Cell) → Counted p cell → Other cell → Holds cell) → AreSwept p marks Holds → AreSwept p marks Other
+  swept_fewer marks Holds Other fewer swept = record {
     problem = swept.problem;
     demanded = swept.demanded;
     begun = swept.begun;
@@ -39,42 +33,52 @@ module _ (p : PosedProblem) (counted : (cell : Cell) → IsDemanded p cell → C
   }
 
   -- one more cell, which is not marked
-  pub swept_past : (cell : Cell) (table : Table Bool) (Holds Other : Cell → Type 0) → AreSwept p table Holds → (IsMarked table cell → ⊥) → ((other : Cell) → Other other → Holds other ⊎ (other ≡ cell)) → AreSwept p table Other
-  swept_past cell table Holds Other swept none cases = record {
+  pub swept_past : (cell : Cell) (marks : CellMarks) (Holds Other : Cell → Type 0) → AreSwept p marks Holds → (IsMarked marks cell → ⊥) → ((other : Cell) → Other other → Holds other ⊎ (other ≡ cell)) → AreSwept p marks Other
+  swept_past cell marks Holds Other swept none cases = record {
     problem = swept.problem;
     demanded = swept.demanded;
     begun = swept.begun;
-    settled = λ other is marked. ⊎_elim (λ before. swept.settled other before marked) (λ e. absurd (none (subst (IsMarked table) e marked))) (cases other is);
+    settled = λ other is marked. ⊎_elim (λ before. swept.settled other before marked) (λ e. absurd (none (subst (IsMarked marks) e marked))) (cases other is);
   }
 
-  -- one more cell, which is marked: it and its demanded children are marked
-  module _ (cell : Cell) (first second third : Table Bool) (Holds Other : Cell → Type 0) (swept : AreSwept p first Holds) (is_marked : IsMarked first cell) (itself : AreMarkedToo first second (λ other. other ≡ cell)) (in_its_row : in_row second cell ≡ Some true) (children : AreMarkedToo second third (IsDemandedChild p cell)) where
-    marked_cases : (other : Cell) → IsMarked third other → IsMarked first other ⊎ IsDemandedChild p cell other
-    marked_cases other marked =
-        ⊎_elim
-        (λ before. inl (⊎_elim (λ was. was) (λ e. subst (IsMarked first) (sym e) is_marked) ((itself.exact other).0 before)))
-        (λ child. inr child) ((children.exact other).0 marked)
-
-    marked_still : (other : Cell) → IsMarked first other → IsMarked third other
-    marked_still other marked = (children.exact other).1 (inl ((itself.exact other).1 (inl marked)))
-
-    cell_settled : IsSettled third cell
+  -- one more cell, which is marked in its row: its demanded children are marked
+  module _ (cell : Cell) (first second : CellMarks) (Holds Other : Cell → Type 0) (swept : AreSwept p first Holds) (in_its_row : IsMarkedInRow first cell) (children : AreMarkedToo first second (IsDemandedChild p cell)) where
+    cell_settled : IsSettled second cell
     cell_settled = record {
       marked = children.rows_stay cell in_its_row;
-      children = λ child is. (children.exact child).1 (inr (subst (λ q. IsDemandedChild q cell child) (children.problem ∙ itself.problem ∙ swept.problem) is));
+      children = λ child is. (children.exact child).1 (inr (subst (λ q. IsDemandedChild q cell child) (children.problem ∙ swept.problem) is));
     }
 
-    pub swept_settled : ((other : Cell) → Other other → Holds other ⊎ (other ≡ cell)) → ((child : Cell) → Holds child → IsDemandedChild p cell child → ⊥) → AreSwept p third Other
+    pub swept_settled : ((other : Cell) → Other other → Holds other ⊎ (other ≡ cell)) → ((child : Cell) → Holds child → IsDemandedChild p cell child → ⊥) → AreSwept p second Other
     swept_settled cases none = record {
-      problem = children.problem ∙ itself.problem ∙ swept.problem;
-      demanded = λ other marked. ⊎_elim (swept.demanded other) (λ child. Child cell other (swept.demanded cell is_marked) child) (marked_cases other marked);
-      begun = λ demanded. marked_still (axiom_cell p) (swept.begun demanded);
+      problem = children.problem ∙ swept.problem;
+      demanded = λ other marked. ⊎_elim (swept.demanded other) (λ child. Child cell other (swept.demanded cell (inl in_its_row)) child) ((children.exact other).0 marked);
+      begun = λ demanded. (children.exact (axiom_cell p)).1 (inl (swept.begun demanded));
       settled = λ other is marked. ⊎_elim
           (λ before. ⊎_elim
-          (λ was. settled_later second third (IsDemandedChild p cell) children other (settled_later first second (λ it. it ≡ cell) itself other (swept.settled other before was)))
-          (λ child. absurd (none other before child)) (marked_cases other marked))
-          (λ e. subst (IsSettled third) (sym e) cell_settled) (cases other is);
+          (λ was. settled_later first second (IsDemandedChild p cell) children other (swept.settled other before was))
+          (λ child. absurd (none other before child)) ((children.exact other).0 marked))
+          (λ e. subst (IsSettled second) (sym e) cell_settled) (cases other is);
     }
+
+-- what is gathered at a start stays gathered while more is marked from there
+pub still_gathered : (from : ℕ) (old new : CellMarks) (Holds : Cell → Type 0) → AreGathered old from → AreMarkedFrom from old new Holds → AreGathered new from
+still_gathered from old new Holds gathered more cell begins marked =
+    ⊎_elim (λ was. more.marked.rows_stay cell (gathered cell begins was)) (λ holds. more.begun cell begins holds) ((more.marked.exact cell).0 marked)
+
+-- what is gathered changes nothing else
+pub swept_gathered : (p : PosedProblem) (old new : CellMarks) (Holds : Cell → Type 0) → AreSwept p old Holds → AreMarkedToo old new (λ cell. ⊥) → AreSwept p new Holds
+swept_gathered p old new Holds swept same =
+    let was : (cell : Cell) → IsMarked new cell → IsMarked old cell = λ cell marked. ⊎_elim (λ before. before) (λ none. absurd none) ((same.exact cell).0 marked) in
+    record {
+      problem = same.problem ∙ swept.problem;
+      demanded = λ cell marked. swept.demanded cell (was cell marked);
+      begun = λ demanded. (same.exact (axiom_cell p)).1 (inl (swept.begun demanded));
+      settled = λ cell holds marked. settled_later old new (λ it. ⊥) same cell (swept.settled cell holds (was cell marked));
+    }
+
+pub gathered_now : (from : ℕ) (old new : CellMarks) → AreMarkedToo old new (λ cell. ⊥) → AreInRows new (λ cell. (cell.from ≡ from) × IsMarked old cell) → AreGathered new from
+gathered_now from old new same rows cell begins marked = rows cell (begins, ⊎_elim (λ before. before) (λ none. absurd none) ((same.exact cell).0 marked))
 
 -- ---- the cells of a span
 
@@ -117,18 +121,49 @@ module _ (p : PosedProblem) (rules : List ℕ) (from to : ℕ) where
 
 -- ---- the ends of a start
 
--- no counted cell ends between two places
-pub next_end : (p : PosedProblem) (from below behind : ℕ) → ((cell : Cell) → Counted p cell → cell.from ≡ from → cell.to < below → cell.to < behind) → (cell : Cell) → Counted p cell → IsBeforeEnd from behind cell → IsBeforeEnd from below cell
-next_end p from below behind told cell counted (inl early) = inl early
-next_end p from below behind told cell counted (inr (begins, later)) =
-    ⊎_elim (λ before. let l = told cell counted begins before in absurd (omega arith)) (λ past. inr (begins, past)) (cases_lt cell.to below)
+module _ (p : PosedProblem) (counted : (cell : Cell) → IsDemanded p cell → Counted p cell) (marks : CellMarks) (rules : List ℕ) (from behind : ℕ) (ranked : AreRanked p rules) (gathered : AreGathered marks from) (swept : AreSwept p marks (IsBeforeEnd from behind)) where
+  -- a marked cell that begins here is told by its span
+  span_told : (cell : Cell) → cell.from ≡ from → IsMarked marks cell → IsSpanMarked marks rules from cell.to
+  span_told cell begins marked =
+      let M : ℕ → Type 0 = λ start. IsMarkedInRow marks (record { rule = cell.rule; from = start; to = cell.to }) in
+      (cell.rule, ranked.all cell.rule (counted cell (swept.demanded cell marked)).rule, subst M begins (gathered cell begins marked))
 
-pub first_end : (p : PosedProblem) (from below behind : ℕ) → length p.word < below → ((cell : Cell) → Counted p cell → cell.from ≡ from → cell.to < below → cell.to < behind) → (cell : Cell) → Counted p cell → IsBeforeEnd from behind cell → IsBeforeStart from cell
-first_end p from below behind past told cell counted (inl early) = early
-first_end p from below behind past told cell counted (inr (begins, later)) = let l = told cell counted begins (omega (arith, counted.in_word)) in absurd (omega arith)
+  -- no cell that begins here is marked between two ends
+  pub swept_down_to : (to : ℕ) → ((other : ℕ) → to < other → other < behind → IsSpanMarked marks rules from other → ⊥) → AreSwept p marks (IsBeforeEnd from (to + 1))
+  swept_down_to to none = record {
+    problem = swept.problem;
+    demanded = swept.demanded;
+    begun = swept.begun;
+    settled = λ cell before marked. ⊎_elim
+        (λ early. swept.settled cell (inl early) marked)
+        (λ (begins, later). ⊎_elim
+        (λ between. absurd (none cell.to (omega arith) between (span_told cell begins marked)))
+        (λ past. swept.settled cell (inr (begins, past)) marked)
+        (cases_lt cell.to behind)) before;
+  }
 
-pub last_end : (from behind : ℕ) → behind ≡ 0 → (cell : Cell) → IsBeforeStart (from + 1) cell → IsBeforeEnd from behind cell
-last_end from behind none cell early = ⊎_elim (λ before. inl before) (λ here. inr (omega arith, omega arith)) (cases_lt cell.from from)
+  -- no cell that begins here is marked before the last end
+  pub swept_start : ((to : ℕ) → to < behind → IsSpanMarked marks rules from to → ⊥) → AreSwept p marks (IsBeforeStart (from + 1))
+  swept_start none = record {
+    problem = swept.problem;
+    demanded = swept.demanded;
+    begun = swept.begun;
+    settled = λ cell before marked. ⊎_elim
+        (λ early. swept.settled cell (inl early) marked)
+        (λ here.
+        let begins : cell.from ≡ from = omega arith in
+        ⊎_elim
+        (λ low. absurd (none cell.to low (span_told cell begins marked)))
+        (λ past. swept.settled cell (inr (begins, past)) marked)
+        (cases_lt cell.to behind))
+        (cases_lt cell.from from);
+  }
+
+-- behind the word nothing ends
+pub swept_from_past : (p : PosedProblem) (counted : (cell : Cell) → IsDemanded p cell → Counted p cell) (marks : CellMarks) (from past : ℕ) → length p.word < past → AreSwept p marks (IsBeforeStart from) → AreSwept p marks (IsBeforeEnd from past)
+swept_from_past p counted marks from past whole swept =
+    swept_fewer p counted marks (IsBeforeStart from) (IsBeforeEnd from past)
+    (λ cell is before. ⊎_elim (λ early. early) (λ (begins, later). absurd (omega (arith, later, is.in_word, whole))) before) swept
 
 -- ---- the whole sweep
 
@@ -137,21 +172,16 @@ root_demanded p counted =
     let same : length p.word - 0 ≡ length p.word = omega arith in
     Axiom (subst (IsWithinSizes p.grammar p.grammar.axiom) same counted.size)
 
--- a table without marks
-pub none_marked : (table : Table Bool) → AreCells table → ((cell : Cell) → Counted table.problem cell → in_row table cell ≡ Some false) → ((cell : Cell) → Counted table.problem cell → in_column table cell ≡ Some false) → (cell : Cell) → IsMarked table cell → ⊥
-none_marked table cells rows columns cell (inl row) = let e = rows cell ((cells.rows_are cell).0 (ap is_some row)) in absurd cc
-none_marked table cells rows columns cell (inr column) = let e = columns cell ((cells.columns_are cell).0 (ap is_some column)) in absurd cc
-
 -- what is marked first: nothing, or the axiom's cell
-pub swept_nothing : (p : PosedProblem) (table : Table Bool) → table.problem ≡ p → ((cell : Cell) → IsMarked table cell → ⊥) → (IsDemanded p (axiom_cell p) → ⊥) → AreSwept p table (IsBeforeStart 0)
-swept_nothing p table same none undemanded = record {
+pub swept_nothing : (p : PosedProblem) (marks : CellMarks) → marks.problem ≡ p → ((cell : Cell) → IsMarked marks cell → ⊥) → (IsDemanded p (axiom_cell p) → ⊥) → AreSwept p marks (IsBeforeStart 0)
+swept_nothing p marks same none undemanded = record {
   problem = same;
   demanded = λ cell marked. absurd (none cell marked);
   begun = λ demanded. absurd (undemanded demanded);
   settled = λ cell before marked. absurd (none cell marked);
 }
 
-pub swept_root : (p : PosedProblem) (first second : Table Bool) → first.problem ≡ p → ((cell : Cell) → IsMarked first cell → ⊥) → Counted p (axiom_cell p) → AreMarkedToo first second (λ other. other ≡ axiom_cell p) → AreSwept p second (IsBeforeStart 0)
+pub swept_root : (p : PosedProblem) (first second : CellMarks) → first.problem ≡ p → ((cell : Cell) → IsMarked first cell → ⊥) → Counted p (axiom_cell p) → AreMarkedToo first second (λ other. other ≡ axiom_cell p) → AreSwept p second (IsBeforeStart 0)
 swept_root p first second same none counted marked = record {
   problem = marked.problem ∙ same;
   demanded = λ cell now. ⊎_elim (λ was. absurd (none cell was)) (λ e. subst (IsDemanded p) (sym e) (root_demanded p counted)) ((marked.exact cell).0 now);
@@ -159,17 +189,14 @@ swept_root p first second same none counted marked = record {
   settled = λ cell before now. absurd (omega arith);
 }
 
-module _ (p : PosedProblem) (counted : (cell : Cell) → IsDemanded p cell → Counted p cell) (table : Table Bool) (past : ℕ) (whole : length p.word < past) (swept : AreSwept p table (IsBeforeStart past)) where
-  demanded_marked : (cell : Cell) → IsDemanded p cell → IsMarked table cell
+module _ (p : PosedProblem) (counted : (cell : Cell) → IsDemanded p cell → Counted p cell) (marks : CellMarks) (past : ℕ) (whole : length p.word < past) (swept : AreSwept p marks (IsBeforeStart past)) where
+  demanded_marked : (cell : Cell) → IsDemanded p cell → IsMarked marks cell
   demanded_marked cell (Axiom sizes) = swept.begun (Axiom sizes)
   demanded_marked it (Child cell child demanded is) =
       let cell_counted = counted cell demanded in
       (swept.settled cell (omega (arith, cell_counted.in_order, cell_counted.in_word)) (demanded_marked cell demanded)).children child (subst (λ q. IsDemandedChild q cell child) (sym swept.problem) is)
 
-  pub all_marked : (cell : Cell) → IsMarked table cell ↔ IsDemanded p cell
-  all_marked cell = (swept.demanded cell, demanded_marked cell)
-
-  pub all_in_rows : (cell : Cell) → (in_row table cell ≡ Some true) ↔ IsDemanded p cell
+  pub all_in_rows : (cell : Cell) → IsMarkedInRow marks cell ↔ IsDemanded p cell
   all_in_rows cell = (
     λ row. swept.demanded cell (inl row),
     λ demanded.

@@ -1,14 +1,15 @@
 -- What the fields of a solution stand for.
-use Rattle.std.specs.Prelude.{◌≡◌, ◌↔◌, true, Some}
+use Rattle.std.specs.Prelude.{◌≡◌, ◌↔◌}
 use Rattle.adp_model.specs.declared.cell.Cell.{Cell}
 use Rattle.adp_model.specs.Demand.{IsDemanded, IsDemandedCount}
-use Rattle.split_lines.specs.Entries.{HasEntry, in_row}
+use Rattle.split_lines.specs.Entries.{HasEntry}
+use Rattle.split_lines.specs.Marks.{IsMarkedInRow}
 use Rattle.seq_reference.specs.declared.solved.Solved.TheInside.{Inside}
 
 -- the demanded cells and no others are marked in their rows, their scores are entered, and the number of these cells
 -- is told
 pub record AreSolved (fields : Inside) : Type 0 where
   pub same_problem : fields.scores.problem ≡ fields.lines
-  pub marked : (cell : Cell) → (in_row fields.marks cell ≡ Some true) ↔ IsDemanded fields.lines cell
+  pub marked : (cell : Cell) → IsMarkedInRow fields.marks cell ↔ IsDemanded fields.lines cell
   pub scored : (cell : Cell) → IsDemanded fields.lines cell → HasEntry fields.scores cell
   pub counted : IsDemandedCount fields.lines fields.cells

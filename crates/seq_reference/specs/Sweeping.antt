@@ -1,10 +1,10 @@
 -- The sweep that marks the demanded cells: by starts upwards, then by ends downwards, then by ranks downwards.
-use Rattle.std.specs.Prelude.{◌≡◌, ℕ, ◌+◌, ◌<◌, ◌≤◌, ◌⊎◌, Bool, true, Some, List, length, slice_index}
+use Rattle.std.specs.Prelude.{◌≡◌, ℕ, ◌+◌, ◌<◌, ◌≤◌, ◌⊎◌, List, length, slice_index}
 use Rattle.std.specs.List.{Contains}
 use Rattle.adp_model.specs.declared.cell.Cell.{Cell}
 use Rattle.adp_model.specs.PosedProblem.{PosedProblem, axiom_cell}
 use Rattle.adp_model.specs.Demand.{IsDemandedChild, IsDemanded}
-use Rattle.split_lines.specs.Entries.{Table, IsMarked, in_row}
+use Rattle.split_lines.specs.Marks.{CellMarks, IsMarked, IsMarkedInRow}
 
 -- all rules of a problem, so that on one span a cell demands only cells of rules that stand before its own
 pub record AreRanked (p : PosedProblem) (rules : List ℕ) : Type 0 where
@@ -28,15 +28,19 @@ IsBeforeRule rules from to number cell =
     ⊎ ((cell.from ≡ from) × (cell.to ≡ to)
     × ((other : ℕ) × (number ≤ other) × (other < length rules) × (slice_index rules other ≡ cell.rule)))
 
+-- of the cells that begin here those that are marked are marked in their rows
+abbrev pub AreGathered : CellMarks → ℕ → Type 0
+AreGathered marks from = (cell : Cell) → cell.from ≡ from → IsMarked marks cell → IsMarkedInRow marks cell
+
 -- the cell is marked in its row, and its demanded children are marked
-pub record IsSettled (table : Table Bool) (cell : Cell) : Type 0 where
-  pub marked : in_row table cell ≡ Some true
-  pub children : (child : Cell) → IsDemandedChild table.problem cell child → IsMarked table child
+pub record IsSettled (marks : CellMarks) (cell : Cell) : Type 0 where
+  pub marked : IsMarkedInRow marks cell
+  pub children : (child : Cell) → IsDemandedChild marks.problem cell child → IsMarked marks child
 
 -- only demanded cells are marked, the axiom's where it is demanded, and of the cells of which it holds those that are
 -- marked are settled
-pub record AreSwept (p : PosedProblem) (table : Table Bool) (Holds : Cell → Type 0) : Type 0 where
-  pub problem : table.problem ≡ p
-  pub demanded : (cell : Cell) → IsMarked table cell → IsDemanded p cell
-  pub begun : IsDemanded p (axiom_cell p) → IsMarked table (axiom_cell p)
-  pub settled : (cell : Cell) → Holds cell → IsMarked table cell → IsSettled table cell
+pub record AreSwept (p : PosedProblem) (marks : CellMarks) (Holds : Cell → Type 0) : Type 0 where
+  pub problem : marks.problem ≡ p
+  pub demanded : (cell : Cell) → IsMarked marks cell → IsDemanded p cell
+  pub begun : IsDemanded p (axiom_cell p) → IsMarked marks (axiom_cell p)
+  pub settled : (cell : Cell) → Holds cell → IsMarked marks cell → IsSettled marks cell

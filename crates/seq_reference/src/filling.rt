@@ -1,51 +1,35 @@
-ghost use Rattle.std.specs.Prelude.{◌≡◌, ◌↔◌, ◌+◌, ◌<◌, ◌≤◌, IfOk, Some, length, true};
+ghost use Rattle.std.specs.Prelude.{◌≡◌, ◌↔◌, ◌+◌, IfOk};
 ghost use Rattle.adp_model.specs.declared.cell.Cell.{Cell};
-ghost use Rattle.adp_model.specs.Cells.{IsCounted};
 ghost use Rattle.adp_model.specs.Demand.{IsDemanded};
-ghost use Rattle.split_lines.specs.Entries.{HasEntry, in_row};
+ghost use Rattle.split_lines.specs.Entries.{HasEntry};
+ghost use Rattle.split_lines.specs.Marks.{IsMarkedInRow};
 ghost use Rattle.seq_reference.specs.Sweeping.{AreRanked};
-ghost use Rattle.seq_reference.specs.Filling.{AreFilled, IsFilledBefore, IsFromStart};
+ghost use Rattle.seq_reference.specs.Filling.{AreFilled, AreKept, IsFilledBefore, IsFromStart, IsShorterWithin, IsWithin};
 
 use crate::rank_order::rules_by_rank;
 use adp_model::Cell;
 use adp_model::laws::demand::{demanded_cells_are_counted, demanded_children_are_below};
-use split_lines::{Lines, Scores, Table, cell_score};
+use split_lines::{Lines, Marks, Scores, cell_score};
 use std::alloc::{AllocError, Global};
 
-/// A place from `least` on and no later than `past`, before which no counted cell ends that begins at `from` and ends
-/// at `least` or later.
-fn next_end(marks: &Table<'_, bool>, rules: &[u32], from: u16, least: u16, past: u16) -> u16
-    requires ranked { AreRanked marks.now.problem rules.now }
-    requires in_order { least ≤ past }
-    ensures behind { least ≤ result }
-    ensures within { result ≤ past }
-    ensures next { (cell : Cell) → IsCounted marks.now.problem.grammar (length marks.now.problem.word) cell
-        → cell.from ≡ from → least ≤ cell.to → cell.to < past → result ≤ cell.to }
-{
-    let mut next = past;
-    for rule in rules {
-        let ends = marks.ends(*rule, from);
-        let first = ends.start.max(least);
-        if first < ends.end {
-            next = first.min(next);
-        }
-    }
-    next
-}
+/// How many starts are filled together. Each end touches the columns of its rules once for all of them: with one start
+/// at a time the columns of a long word would pass through the caches once for each start.
+const BLOCK: u16 = 16;
 
 /// Fills in the scores of the demanded cells of a span, by rising ranks.
 fn fill_span(
     lines: &Lines<'_>,
     rules: &[u32],
-    marks: &Table<'_, bool>,
+    marks: &Marks<'_>,
     from: u16,
     to: u16,
     scores: &mut Scores<'_>,
 )
     requires ranked { AreRanked lines.now rules.now }
-    requires marked { (cell : Cell) → (in_row marks.now cell ≡ Some true) ↔ IsDemanded lines.now cell }
-    requires filled { AreFilled lines.now scores.old (IsFilledBefore from to) }
-    ensures { AreFilled lines.now scores.new (IsFilledBefore from (to + 1)) }
+    requires marked { (cell : Cell) → IsMarkedInRow marks.now cell ↔ IsDemanded lines.now cell }
+    requires filled { AreFilled lines.now scores.old (IsShorterWithin from to) }
+    ensures filled { AreFilled lines.now scores.new (IsWithin from to) }
+    ensures kept { AreKept scores.old scores.new }
 {
     lines.problem().admissible();
     demanded_cells_are_counted();
@@ -63,40 +47,59 @@ fn fill_span(
     }
 }
 
-/// Fills in the scores of the demanded cells that begin at `from`, by rising ends.
-fn fill_start(
+/// Fills in the scores of the demanded cells that end at `to` and begin from `first` on and before `past`, by falling
+/// starts.
+fn fill_end(
     lines: &Lines<'_>,
     rules: &[u32],
-    marks: &Table<'_, bool>,
-    from: u16,
+    marks: &Marks<'_>,
+    first: u16,
+    past: u16,
+    to: u16,
     scores: &mut Scores<'_>,
 )
     requires ranked { AreRanked lines.now rules.now }
-    requires same_problem { marks.now.problem ≡ lines.now }
-    requires marked { (cell : Cell) → (in_row marks.now cell ≡ Some true) ↔ IsDemanded lines.now cell }
-    requires filled { AreFilled lines.now scores.old (IsFromStart (from + 1)) }
-    ensures { AreFilled lines.now scores.new (IsFromStart from) }
+    requires marked { (cell : Cell) → IsMarkedInRow marks.now cell ↔ IsDemanded lines.now cell }
+    requires filled { AreFilled lines.now scores.old (IsFilledBefore first past to) }
+    ensures { AreFilled lines.now scores.new (IsFilledBefore first past (to + 1)) }
 {
-    let problem = lines.problem();
-    problem.admissible();
-    demanded_cells_are_counted();
-    let positions = problem.word.bytes().len() as u16 + 1;
-    let mut to = next_end(marks, rules, from, 0, positions);
-    while to < positions {
+    for from in (first..past).rev() {
         fill_span(lines, rules, marks, from, to, scores);
-        to = next_end(marks, rules, from, to + 1, positions);
+    }
+}
+
+/// Fills in the scores of the demanded cells that begin from `first` on and before `past`, by rising ends.
+fn fill_block(
+    lines: &Lines<'_>,
+    rules: &[u32],
+    marks: &Marks<'_>,
+    first: u16,
+    past: u16,
+    scores: &mut Scores<'_>,
+)
+    requires ranked { AreRanked lines.now rules.now }
+    requires marked { (cell : Cell) → IsMarkedInRow marks.now cell ↔ IsDemanded lines.now cell }
+    requires filled { AreFilled lines.now scores.old (IsFromStart past) }
+    ensures { AreFilled lines.now scores.new (IsFromStart first) }
+{
+    lines.problem().admissible();
+    demanded_cells_are_counted();
+    let mut least = first;
+    while let Some(to) = marks.next_marked(rules, first, past, least) {
+        fill_end(lines, rules, marks, first, past, to, scores);
+        least = to + 1;
     }
 }
 
 /// The scores of the demanded cells, which are marked in their rows. Fails for want of memory alone. Its time is in
-/// proportion to the counted cells, times rules, and to the places of the demanded cells' lines.
+/// proportion to the demanded cells, times rules, and to the places of their lines.
 pub fn filled_scores<'a>(
     alloc: Global,
     lines: &Lines<'a>,
-    marks: &Table<'a, bool>,
+    marks: &Marks<'a>,
 ) -> Result<Scores<'a>, AllocError>
     requires same_problem { marks.now.problem ≡ lines.now }
-    requires marked { (cell : Cell) → (in_row marks.now cell ≡ Some true) ↔ IsDemanded lines.now cell }
+    requires marked { (cell : Cell) → IsMarkedInRow marks.now cell ↔ IsDemanded lines.now cell }
     ensures problem { IfOk result (λ scores. scores.problem ≡ lines.now) }
     ensures scored { IfOk result (λ scores. (cell : Cell) → IsDemanded lines.now cell → HasEntry scores cell) }
 {
@@ -105,8 +108,9 @@ pub fn filled_scores<'a>(
     demanded_cells_are_counted();
     let rules = rules_by_rank(alloc, problem)?;
     let mut scores = Scores::new(alloc, problem)?;
-    for from in (0..problem.word.bytes().len() as u16 + 1).rev() {
-        fill_start(lines, &rules, marks, from, &mut scores);
+    for block in (0..problem.word.bytes().len() as u16 / BLOCK + 1).rev() {
+        let first = block * BLOCK;
+        fill_block(lines, &rules, marks, first, first + BLOCK, &mut scores);
     }
     Ok(scores)
 }

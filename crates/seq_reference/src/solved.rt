@@ -2,19 +2,20 @@ ghost use Rattle.std.specs.Prelude.{◌≡◌, ◌↔◌, IfSome, IsSome, Some, 
 ghost use Rattle.adp_model.specs.declared.cell.Cell.{Cell};
 ghost use Rattle.adp_model.specs.Answers.{IsAnswer};
 ghost use Rattle.adp_model.specs.Demand.{IsDemanded, IsDemandedCount};
-ghost use Rattle.split_lines.specs.Entries.{HasEntry, in_row};
+ghost use Rattle.split_lines.specs.Entries.{HasEntry};
+ghost use Rattle.split_lines.specs.Marks.{IsMarkedInRow};
 
 use crate::answering::cell_answer;
 use adp_model::laws::demand::demanded_cells_are_counted;
 use adp_model::{Answer, Answers, Cell};
-use split_lines::{Lines, Scores, Table};
+use split_lines::{Lines, Marks, Scores};
 use std::marker::Model;
 
 /// The answers of a problem's demanded cells. Contracts see it as the problem.
 #[derive(Drop)]
 pub struct Solved<'a> {
     lines: Lines<'a>,
-    marks: Table<'a, bool>,
+    marks: Marks<'a>,
     scores: Scores<'a>,
     cells: u64,
 }
@@ -35,12 +36,12 @@ impl<'a> Solved<'a> {
     /// The solution with these marks in rows and scores of the demanded cells, and their number.
     pub(crate) fn new(
         lines: Lines<'a>,
-        marks: Table<'a, bool>,
+        marks: Marks<'a>,
         scores: Scores<'a>,
         cells: u64,
     ) -> Solved<'a>
         requires same_problem { scores.problem ≡ lines }
-        requires marked { (cell : Cell) → (in_row marks cell ≡ Some true) ↔ IsDemanded lines cell }
+        requires marked { (cell : Cell) → IsMarkedInRow marks cell ↔ IsDemanded lines cell }
         requires scored { (cell : Cell) → IsDemanded lines cell → HasEntry scores cell }
         requires counted { IsDemandedCount lines cells }
         ensures { result ≡ lines.entry }

@@ -60,9 +60,6 @@ all_first class word from to l h =
 abbrev pub IsFirstOf : List (ℕ × ℤ) → List ℕ → ℕ → ℕ → Type 0
 IsFirstOf class word to first = (from : ℕ) → from ≤ to → AllIn class word from to ↔ (first ≤ from)
 
-pub first_of_none : (class : List (ℕ × ℤ)) (word : List ℕ) → IsFirstOf class word 0 0
-first_of_none class word = λ from l. (λ h. omega arith, λ h. all_of_none class word from 0 (omega arith))
-
 pub first_kept : (class : List (ℕ × ℤ)) (word : List ℕ) (to first : ℕ) → to < length word → IsFirstOf class word to first → IsIn class (get_or word to 0) → IsFirstOf class word (to + 1) first
 first_kept class word to first within is in_class = λ from l.
     let before : first ≤ to = (is to (omega arith)).0 (all_of_none class word to to (omega arith)) in
@@ -83,9 +80,6 @@ first_anew class word to within out = λ from l.
 -- up to this place all letters from `from` on are in the class, and up to none behind it
 abbrev pub IsLastOf : List (ℕ × ℤ) → List ℕ → ℕ → ℕ → Type 0
 IsLastOf class word from last = (to : ℕ) → from ≤ to → to ≤ length word → AllIn class word from to ↔ (to ≤ last)
-
-pub last_of_none : (class : List (ℕ × ℤ)) (word : List ℕ) → IsLastOf class word (length word) (length word)
-last_of_none class word = λ to l h. (λ all. h, λ short. all_of_none class word (length word) to h)
 
 pub last_kept : (class : List (ℕ × ℤ)) (word : List ℕ) (from last : ℕ) → from < length word → IsLastOf class word (from + 1) last → IsIn class (get_or word from 0) → IsLastOf class word from last
 last_kept class word from last within is in_class = λ to l h.

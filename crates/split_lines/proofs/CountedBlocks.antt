@@ -17,7 +17,7 @@ abbrev nothing : Block
 nothing = record { place = 0; first = 0; past = 0 }
 
 -- one more block
-one_more_laid : (blocks : List Block) (count : ℕ) (block : Block) → AreLaid blocks count → block.place ≡ count → AreLaid (blocks ++ block ∷ []) (count + size_of block)
+pub one_more_laid : (blocks : List Block) (count : ℕ) (block : Block) → AreLaid blocks count → block.place ≡ count → AreLaid (blocks ++ block ∷ []) (count + size_of block)
 one_more_laid blocks count block laid here = record {
   placed = λ number d l. elim (cases_lt number (length blocks)) [
     | inl before ↦

@@ -13,7 +13,7 @@ use Rattle.split_lines.specs.Spans.{Spans, Stands, size_of, block_at, place_of, 
 use Rattle.split_lines.specs.Layout.{cell_at, block_in, IsCountedBlock, AreCountedBlocks}
 use Rattle.split_lines.proofs.Values.{nothing, number_in, place_within, value_standing, standing_has, stands_where_some}
 
-near_within : (grammar : Grammar) (len : ℕ) (side : Side) (rule near far : ℕ) → IsCounted grammar len (cell_at side rule near far) → (rule < length grammar.rules) × (near ≤ len)
+pub near_within : (grammar : Grammar) (len : ℕ) (side : Side) (rule near far : ℕ) → IsCounted grammar len (cell_at side rule near far) → (rule < length grammar.rules) × (near ≤ len)
 near_within grammar len Rows rule near far counted = (counted.rule, omega (arith, counted.in_order, counted.in_word))
 near_within grammar len Columns rule near far counted = (counted.rule, counted.in_word)
 

@@ -1,15 +1,12 @@
 -- Flags of places: of all places of a list, and of those from the first of some to the last one.
-use Rattle.std.proofs.Common.{◌≡◌, ◌⊎◌, ◌↔◌, ℕ, zero, suc, ◌+◌, ◌-◌, ◌<◌, ◌≤◌, Bool, true, false, Some, List, [], ◌∷◌, length, get_or, take, drop, replicate, slice_get, sym, ap, subst, ◌∙◌, inl, inr, arith, length-take, length-drop}
+use Rattle.std.proofs.Common.{◌≡◌, ◌↔◌, ℕ, zero, suc, ◌+◌, ◌-◌, ◌<◌, ◌≤◌, Bool, true, false, Some, List, length, get_or, take, drop, replicate, slice_get, sym, ap, subst, ◌∙◌, inl, inr, arith, length-take, length-drop}
 use Rattle.std.specs.List.{AllAdjacentBelow, Contains}
 use Rattle.std.proofs.lemmas.List.{length-replicate}
 use Rattle.std.proofs.lemmas.Option.{slice_get_within, slice_get-get_or}
-use Rattle.std.proofs.lemmas.Bool.{cases_lt}
 use Rattle.split_lines.specs.Flags.{IsFlagged, AreFlagged}
-use Rattle.split_lines.specs.declared.grid.Block.{Block}
-use Rattle.split_lines.specs.Spans.{Spans, Stands, AreBlocks, AreSet, AreWritten, block_at, place_of}
+use Rattle.split_lines.specs.Spans.{AreSet}
 use Rattle.split_lines.specs.Matching.{AreFlagsOf}
 use Rattle.split_lines.proofs.Lists.{slice_get-take, slice_get-drop}
-use Rattle.split_lines.proofs.Values.{stands_between, index_within, low_in, place_is, are_written, set_like, with_values}
 use Rattle.split_lines.proofs.Tables.{contained_or_not}
 use Rattle.split_lines.proofs.WholeLines.{between_ends, first_stands, last_stands}
 
@@ -104,72 +101,3 @@ module _ (all part : List ℕ) (flags : List Bool) (told : AreFlagsOf (length fl
         exact = subst F (sym first_read) (λ place. (flagged_there place, flagged_back place));
         last = subst L (sym first_read) (λ _. subst (IsFlagged among first) (sym at_last) (flagged_there last last_in));
       }
-
--- ---- flags one by one
-
-pub flagged_within : (flags : List Bool) (first place : ℕ) → IsFlagged flags first place → place < first + length flags
-flagged_within flags first place is = omega (arith, slice_get_within flags (place - first) true is.1, is.0)
-
-pub flagged_or_not : (flags : List Bool) (first place : ℕ) → IsFlagged flags first place ⊎ (IsFlagged flags first place → ⊥)
-flagged_or_not flags first place =
-    elim (cases_lt place first) [
-      | inl before ↦ inr (λ is. omega (arith, before, is.0))
-      | inr behind ↦
-          elim (set_or_not flags (place - first)) [
-            | inl set ↦ inl (omega arith, set)
-            | inr unset ↦ inr (λ is. unset is.1)
-          ]
-    ]
-  where
-    set_or_not : (flags : List Bool) (number : ℕ) → (slice_get flags number ≡ Some true) ⊎ (slice_get flags number ≡ Some true → ⊥)
-    set_or_not [] number = inr (λ e. absurd cc)
-    set_or_not (true ∷ flags) zero = inl (λ i. Some true)
-    set_or_not (false ∷ flags) zero = inr (λ e. absurd cc)
-    set_or_not (flag ∷ flags) (suc number) = set_or_not flags number
-
--- the first place, where there is one
-module _ (places : List ℕ) (flags : List Bool) (told : AreFlagged places flags) (first : ℕ) (read : slice_get places 0 ≡ Some first) where
-  first_is : get_or places 0 0 ≡ first
-  first_is = let at = slice_get-get_or places 0 0 (slice_get_within places 0 first read) in cc
-
-  pub first_flagged : Contains places first
-  first_flagged = subst (Contains places) first_is (first_stands places (slice_get_within places 0 first read))
-
-  pub flagged_from : (place : ℕ) → Contains places place ↔ IsFlagged flags first place
-  flagged_from = subst (λ from. (place : ℕ) → Contains places place ↔ IsFlagged flags from place) first_is told.exact
-
-  pub last_flagged : 0 < length flags → Contains places (first + length flags - 1)
-  last_flagged some =
-      (flagged_from (first + length flags - 1)).1 (subst (λ from. IsFlagged flags from (from + length flags - 1)) first_is (told.last some))
-
--- ---- writes where flags are set
-
-module _ (spans : Spans Bool) (laid : AreBlocks spans) (rule near : ℕ) (block : Block) (is_block : block ≡ block_at spans rule near) (first : ℕ) (flags : List Bool)
-    (stands_first : Stands spans rule near first) (stands_last : Stands spans rule near (first + length flags - 1)) where
-  each_stands : (far : ℕ) → IsFlagged flags first far → Stands spans rule near far
-  each_stands far is = stands_between spans rule near first (first + length flags - 1) far stands_first stands_last is.0 (omega (arith, flagged_within flags first far is))
-
-  abbrev start : ℕ
-  start = block.place + (first - block.first)
-
-  pub flags_within : 0 < length flags → start + length flags ≤ length spans.values
-  flags_within some = omega (arith, index_within spans laid rule near block is_block (first + length flags - 1) stands_last, low_in spans laid rule near block is_block first stands_first)
-
-  place_flagged : (far : ℕ) → IsFlagged flags first far → start + (far - first) ≡ place_of spans rule near far
-  place_flagged far is =
-      omega (arith, place_is spans laid rule near block is_block far (each_stands far is), low_in spans laid rule near block is_block first stands_first, is.0)
-
-  pub flags_written : (values : List Bool) → AreSet spans.values values (IsFlagged flags start) true → AreWritten spans (with_values spans values) rule near (IsFlagged flags first) true
-  flags_written values set =
-      are_written spans laid rule near values (IsFlagged flags first) true each_stands
-      (set_like spans.values values (IsFlagged flags start) (λ at. (far : ℕ) × IsFlagged flags first far × (at ≡ place_of spans rule near far)) true
-      (λ at (far, is, e).
-      let same : at ≡ start + (far - first) = e ∙ sym (place_flagged far is) in
-      let number : far - first ≡ at - start = omega arith in
-      (omega arith, subst (λ n. slice_get flags n ≡ Some true) number is.1))
-      (λ at is.
-      let far : ℕ = first + (at - start) in
-      let number : at - start ≡ far - first = omega arith in
-      let flagged : IsFlagged flags first far = (omega arith, subst (λ n. slice_get flags n ≡ Some true) number is.1) in
-      let same : at ≡ start + (far - first) = omega (arith, is.0) in
-      (far, flagged, same ∙ place_flagged far flagged)) set)

@@ -1,20 +1,18 @@
--- Lists of tokens under their numbers, and kept lines, as both grow.
-use Rattle.std.proofs.Common.{◌≡◌, ℕ, ◌+◌, ◌<◌, ◌≤◌, Option, Some, None, Vec, Global, List, [], ◌∷◌, ◌++◌, length, drop, get_or, refl, sym, ap, subst, ◌∙◌, inl, inr, arith}
-use Rattle.std.specs.List.{AllByRecursion}
+-- Lists of tokens under their numbers, and what is kept of alternatives, as both grow.
+use Rattle.std.proofs.Common.{◌≡◌, ℕ, ◌+◌, ◌<◌, Option, Some, None, Vec, Global, List, [], ◌∷◌, ◌++◌, length, drop, get_or, refl, sym, ap, subst, ◌∙◌, inl, inr, arith}
 use Rattle.std.proofs.lemmas.Bool.{cases_lt}
-use Rattle.std.proofs.lemmas.List.{get_or_default, get_or_past, get_or_read, get_or_append_left, get_or_push, length_push}
+use Rattle.std.proofs.lemmas.List.{get_or_past, get_or_append_left, get_or_push, length_push}
 use Rattle.adp_model.specs.declared.grammar.Arg.{Arg}
-use Rattle.adp_model.specs.declared.grammar.Alt.{Alt}
 use Rattle.adp_model.specs.declared.grammar.Rule as rules
 use Rattle.adp_model.specs.declared.grammar.Grammar.{Grammar}
 use Rattle.adp_model.specs.PosedProblem.{PosedProblem}
-use Rattle.adp_model.specs.Parts.{alternatives_of, alternative_at, arguments_of}
-use Rattle.adp_model.specs.WellFormed.{IsKnown}
+use Rattle.adp_model.specs.Parts.{alternatives_of, arguments_of}
+use Rattle.split_lines.specs.declared.kept.KeptAlternative.{KeptAlternative}
 use Rattle.split_lines.specs.declared.lines.KeptLine.{KeptLine}
 use Rattle.split_lines.specs.declared.lines.Middle.{Middle}
 use Rattle.split_lines.specs.Matching.{AreMatches}
 use Rattle.split_lines.specs.Lines.{parts_by}
-use Rattle.split_lines.specs.LinesFields.{AreMiddles, HasAllOf, IsNumberOf, IsKept, IsKeptOrNone, AreKept, AreKeptOfRules}
+use Rattle.split_lines.specs.LinesFields.{AreMiddles, HasAllOf, IsNumberOf, IsKept, IsKeptOrNone, IsKeptOf, AreKept, AreKeptOfRules}
 use Rattle.split_lines.proofs.Growing.{each_more}
 
 -- one more list of tokens
@@ -36,9 +34,6 @@ number_of_last middles middle tokens number last are = record {
 
 -- ---- what was kept before is kept still
 
-pub has_all_of_itself : (middles : List Middle) → HasAllOf middles middles
-has_all_of_itself middles = record { longer = λ number l. l; same = λ number d l. refl }
-
 pub has_all-trans : (first second third : List Middle) → HasAllOf first second → HasAllOf second third → HasAllOf first third
 has_all-trans first second third one two = record {
   longer = λ number l. two.longer number (one.longer number l);
@@ -59,47 +54,33 @@ line_still p old new arguments (Some line) longer kept = record {
   tail = kept.tail;
 }
 
-pub lines_still : (p : PosedProblem) (old new : List Middle) (alternatives : List Alt) (count : ℕ) (lines : List (Option KeptLine)) → HasAllOf old new → AreKept p old alternatives count lines → AreKept p new alternatives count lines
-lines_still p old new alternatives count lines longer kept = record {
-  each = kept.each;
-  are = λ alternative d e l. line_still p old new (get_or alternatives alternative d).args (get_or lines alternative e) longer (kept.are alternative d e l);
+pub alternatives_still : (p : PosedProblem) (old new : List Middle) (rule count : ℕ) (kept : List KeptAlternative) → HasAllOf old new → AreKept p old rule count kept → AreKept p new rule count kept
+alternatives_still p old new rule count kept longer are = record {
+  each = are.each;
+  are = λ alternative d l.
+      let it = are.are alternative d l in
+      record { line = line_still p old new (arguments_of p.grammar rule alternative) (get_or kept alternative d).line longer it.line; parts = it.parts };
 }
 
--- one more line
-pub one_line_more : (p : PosedProblem) (middles : List Middle) (alternatives : List Alt) (count : ℕ) (lines : List (Option KeptLine)) (alternative : Alt) (line : Option KeptLine) → count < length alternatives → alternative ≡ get_or alternatives count alternative → AreKept p middles alternatives count lines → IsKeptOrNone p middles alternative.args line → AreKept p middles alternatives (count + 1) (lines ++ line ∷ [])
-one_line_more p middles alternatives count lines alternative line l is kept now = record {
-  each = length_push lines line ∙ ap (λ n. n + 1) kept.each;
-  are = λ k d e.
-      each_more (λ n it. IsKeptOrNone p middles (get_or alternatives n d).args it) lines count line kept.each (λ n e' l'. kept.are n d e' l')
-      (let P : Alt → Type 0 = λ it. IsKeptOrNone p middles it.args line in subst P (get_or_read alternatives count alternative l is d) now) k e;
+-- one more alternative
+pub one_alternative_more : (p : PosedProblem) (middles : List Middle) (rule count : ℕ) (kept : List KeptAlternative) (one : KeptAlternative) → AreKept p middles rule count kept → IsKeptOf p middles rule count one → AreKept p middles rule (count + 1) (kept ++ one ∷ [])
+one_alternative_more p middles rule count kept one are now = record {
+  each = length_push kept one ∙ ap (λ n. n + 1) are.each;
+  are = each_more (λ alternative it. IsKeptOf p middles rule alternative it) kept count one are.each are.are now;
 }
 
--- the lines of one more rule
-pub one_rule_more : (p : PosedProblem) (middles : List Middle) (count : ℕ) (lines : List (Vec (Option KeptLine) Global)) (row : Vec (Option KeptLine) Global) → AreKeptOfRules p middles count lines → AreKept p middles (alternatives_of p.grammar count) (length (alternatives_of p.grammar count)) row.items → AreKeptOfRules p middles (count + 1) (lines ++ row ∷ [])
-one_rule_more p middles count lines row kept now = record {
-  each = length_push lines row ∙ ap (λ n. n + 1) kept.each;
-  are = each_more (λ rule (it : Vec (Option KeptLine) Global). AreKept p middles (alternatives_of p.grammar rule) (length (alternatives_of p.grammar rule)) it.items) lines count row kept.each kept.are now;
+-- the alternatives of one more rule
+pub one_rule_more : (p : PosedProblem) (middles : List Middle) (count : ℕ) (lists : List (Vec KeptAlternative Global)) (list : Vec KeptAlternative Global) → AreKeptOfRules p middles count lists → AreKept p middles count (length (alternatives_of p.grammar count)) list.items → AreKeptOfRules p middles (count + 1) (lists ++ list ∷ [])
+one_rule_more p middles count lists list are now = record {
+  each = length_push lists list ∙ ap (λ n. n + 1) are.each;
+  are = each_more (λ rule (it : Vec KeptAlternative Global). AreKept p middles rule (length (alternatives_of p.grammar rule)) it.items) lists count list are.each are.are now;
 }
 
-pub rules_still : (p : PosedProblem) (old new : List Middle) (count : ℕ) (lines : List (Vec (Option KeptLine) Global)) → HasAllOf old new → AreKeptOfRules p old count lines → AreKeptOfRules p new count lines
-rules_still p old new count lines longer kept = record {
-  each = kept.each;
-  are = λ rule d l. lines_still p old new (alternatives_of p.grammar rule) (length (alternatives_of p.grammar rule)) (get_or lines rule d).items longer (kept.are rule d l);
+pub rules_still : (p : PosedProblem) (old new : List Middle) (count : ℕ) (lists : List (Vec KeptAlternative Global)) → HasAllOf old new → AreKeptOfRules p old count lists → AreKeptOfRules p new count lists
+rules_still p old new count lists longer are = record {
+  each = are.each;
+  are = λ rule d l. alternatives_still p old new rule (length (alternatives_of p.grammar rule)) (get_or lists rule d).items longer (are.are rule d l);
 }
-
--- ---- the arguments of a rule's alternatives
-
-pub all_known : (grammar : Grammar) (rule : ℕ) (alternatives : List Alt) → alternatives ≡ alternatives_of grammar rule → ((alternative : ℕ) → AllByRecursion (IsKnown grammar) (arguments_of grammar rule alternative)) → (k : ℕ) (d : Alt) → k < length alternatives → AllByRecursion (IsKnown grammar) (get_or alternatives k d).args
-all_known grammar rule alternatives are known k d l =
-    let at : get_or alternatives k d ≡ alternative_at grammar rule k = get_or_default alternatives k d (record { sign = 0; args = [] }) l ∙ ap (λ (them : List Alt). get_or them k (record { sign = 0; args = [] })) are in
-    let P : Alt → Type 0 = λ it. AllByRecursion (IsKnown grammar) it.args in
-    subst P (sym at) (known k)
-
-pub all_few : (grammar : Grammar) (rule : ℕ) (alternatives : List Alt) → alternatives ≡ alternatives_of grammar rule → ((alternative : ℕ) → length (arguments_of grammar rule alternative) ≤ 4) → (k : ℕ) (d : Alt) → k < length alternatives → length (get_or alternatives k d).args ≤ 4
-all_few grammar rule alternatives are few k d l =
-    let at : get_or alternatives k d ≡ alternative_at grammar rule k = get_or_default alternatives k d (record { sign = 0; args = [] }) l ∙ ap (λ (them : List Alt). get_or them k (record { sign = 0; args = [] })) are in
-    let P : Alt → Type 0 = λ it. length it.args ≤ 4 in
-    subst P (sym at) (few k)
 
 -- a rule that has alternatives is one of the grammar's
 pub rule_there : (grammar : Grammar) (rule alternative : ℕ) → alternative < length (alternatives_of grammar rule) → rule < length grammar.rules
@@ -111,12 +92,18 @@ rule_there grammar rule alternative l =
           absurd (omega arith)
     ]
 
--- what is kept of an alternative
-pub kept_at : (p : PosedProblem) (middles : List Middle) (lines : List (Vec (Option KeptLine) Global)) (rule alternative : ℕ) (row : Vec (Option KeptLine) Global) (line : Option KeptLine) → alternative < length (alternatives_of p.grammar rule) → AreKeptOfRules p middles (length p.grammar.rules) lines → row ≡ get_or lines rule row → line ≡ get_or row.items alternative line → IsKeptOrNone p middles (arguments_of p.grammar rule alternative) line
-kept_at p middles lines rule alternative row line l kept row_is line_is =
-    let R : Vec (Option KeptLine) Global → Type 0 = λ it. AreKept p middles (alternatives_of p.grammar rule) (length (alternatives_of p.grammar rule)) it.items in
-    let of_rule : R row = subst R (sym row_is) (kept.are rule row (rule_there p.grammar rule alternative l)) in
-    subst (IsKeptOrNone p middles (arguments_of p.grammar rule alternative)) (sym line_is) (of_rule.are alternative (record { sign = 0; args = [] }) line l)
+-- what is kept of the alternatives of a rule
+pub kept_of_rule : (p : PosedProblem) (middles : List Middle) (lists : List (Vec KeptAlternative Global)) (rule : ℕ) (list : Vec KeptAlternative Global) → rule < length p.grammar.rules → AreKeptOfRules p middles (length p.grammar.rules) lists → list ≡ get_or lists rule list → AreKept p middles rule (length (alternatives_of p.grammar rule)) list.items
+kept_of_rule p middles lists rule list l are is =
+    let K : Vec KeptAlternative Global → Type 0 = λ it. AreKept p middles rule (length (alternatives_of p.grammar rule)) it.items in
+    subst K (sym is) (are.are rule list l)
+
+-- what is kept of the line of an alternative
+pub kept_at : (p : PosedProblem) (middles : List Middle) (lists : List (Vec KeptAlternative Global)) (rule alternative : ℕ) (list : Vec KeptAlternative Global) (kept : KeptAlternative) → alternative < length (alternatives_of p.grammar rule) → AreKeptOfRules p middles (length p.grammar.rules) lists → list ≡ get_or lists rule list → kept ≡ get_or list.items alternative kept → IsKeptOrNone p middles (arguments_of p.grammar rule alternative) kept.line
+kept_at p middles lists rule alternative list kept l are list_is kept_is =
+    let of_rule = kept_of_rule p middles lists rule list (rule_there p.grammar rule alternative l) are list_is in
+    let L : KeptAlternative → Type 0 = λ it. IsKeptOrNone p middles (arguments_of p.grammar rule alternative) it.line in
+    subst L (sym kept_is) (of_rule.are alternative kept l).line
 
 -- where the middle of a kept line matches
 pub middle_at : (p : PosedProblem) (middles : List Middle) (arguments : List Arg) (line : KeptLine) (middle : Middle) → AreMiddles p middles → IsKept p middles arguments line → middle ≡ get_or middles line.middle middle → AreMatches p (parts_by (drop line.first arguments) line.between).middle middle.matches

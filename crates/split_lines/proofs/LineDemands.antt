@@ -16,9 +16,9 @@ use Rattle.yield_sizes.specs.Placing.{on_span, Cover, ArePlaces}
 use Rattle.split_lines.specs.Laid.{IsCellOf, Demands, IsFixed, LineParts, AreBoundaries}
 use Rattle.split_lines.specs.declared.lines.Line.{Line}
 use Rattle.split_lines.specs.Lines.{HasLine, IsLine, parts_by}
-use Rattle.split_lines.specs.Entries.{Table, AreMarkedToo}
+use Rattle.split_lines.specs.Marks.{CellMarks, AreMarkedFrom}
 use Rattle.split_lines.proofs.Splitting.{child_of_demands, demands_of_child}
-use Rattle.split_lines.proofs.Tables.{marked_like, marked_more}
+use Rattle.split_lines.proofs.MarkSteps.{marked_like, marked_more}
 
 module _ (p : PosedProblem) where
   -- arguments that demand a cell may have their letters
@@ -48,14 +48,14 @@ module _ (p : PosedProblem) where
   fixed_demands_none (token ∷ tokens) from to cell fixed (end, fits, inl (is, cover)) = no_cell token from end cell fixed.0 is
   fixed_demands_none (token ∷ tokens) from to cell fixed (end, fits, inr later) = fixed_demands_none tokens end to cell fixed.1 later
 
-  demands_behind : (tokens back : List Arg) (from to : ℕ) (cell : Cell) → AllByRecursion IsFixed tokens → Demands p (tokens ++ back) from to cell → (middle : ℕ) × Cover p tokens from middle × Demands p back middle to cell
+  pub demands_behind : (tokens back : List Arg) (from to : ℕ) (cell : Cell) → AllByRecursion IsFixed tokens → Demands p (tokens ++ back) from to cell → (middle : ℕ) × Cover p tokens from middle × Demands p back middle to cell
   demands_behind [] back from to cell fixed demands = (from, refl, demands)
   demands_behind (token ∷ tokens) back from to cell fixed (end, fits, inl (is, cover)) = absurd (no_cell token from end cell fixed.0 is)
   demands_behind (token ∷ tokens) back from to cell fixed (end, fits, inr later) =
       let parts = demands_behind tokens back end to cell fixed.1 later in
       (parts.0, (end, fits, parts.1), parts.2)
 
-  demands_join : (tokens back : List Arg) (from middle to : ℕ) (cell : Cell) → Cover p tokens from middle → Demands p back middle to cell → Demands p (tokens ++ back) from to cell
+  pub demands_join : (tokens back : List Arg) (from middle to : ℕ) (cell : Cell) → Cover p tokens from middle → Demands p back middle to cell → Demands p (tokens ++ back) from to cell
   demands_join [] back from middle to cell here demands = subst (λ at. Demands p back at to cell) (sym here) demands
   demands_join (token ∷ tokens) back from middle to cell (end, fits, others) demands = (end, fits, inr (demands_join tokens back end middle to cell others demands))
 
@@ -198,22 +198,22 @@ module _ (p : PosedProblem) (argument : Arg) (others : List Arg) (from to low en
   demands_keep : (cell : Cell) → DemandsBelow p argument others from to low end cell → DemandsBelow p argument others from to low (end + 1) cell
   demands_keep cell (at, l, m, fits, some) = (at, l, omega arith, fits, some)
 
-  module _ (fits : FitsSpan p (on_span argument from end)) (above : low ≤ end) (first second third : Table Bool) (before : AreMarkedToo first second (DemandsBelow p argument others from to low end)) (here : AreMarkedToo second third (Demands p others end to)) where
+  module _ (fits : FitsSpan p (on_span argument from end)) (above : low ≤ end) (begin : ℕ) (first second third : CellMarks) (before : AreMarkedFrom begin first second (DemandsBelow p argument others from to low end)) (here : AreMarkedFrom begin second third (Demands p others end to)) where
     -- the others may not have the letters behind this end: nothing was marked
-    pub marked_none : (Cover p others end to → ⊥) → AreMarkedToo first third (DemandsBelow p argument others from to low (end + 1))
+    pub marked_none : (Cover p others end to → ⊥) → AreMarkedFrom begin first third (DemandsBelow p argument others from to low (end + 1))
     marked_none none =
-        marked_like first third (λ cell. DemandsBelow p argument others from to low end cell ⊎ Demands p others end to cell) (DemandsBelow p argument others from to low (end + 1))
+        marked_like begin first third (λ cell. DemandsBelow p argument others from to low end cell ⊎ Demands p others end to cell) (DemandsBelow p argument others from to low (end + 1))
         (λ cell some. ⊎_elim (demands_keep cell) (λ demands. absurd (none (cover_of_demands p others end to cell demands))) some)
         (λ cell demands. ⊎_elim (λ was. inl was) (λ now. ⊎_elim (λ (is, cover). absurd (none cover)) (λ later. inr later) now) (demands_cases cell demands))
-        (marked_more first second third (DemandsBelow p argument others from to low end) (Demands p others end to) before here)
+        (marked_more begin first second third (DemandsBelow p argument others from to low end) (Demands p others end to) before here)
 
-    pub marked_some : (fourth : Table Bool) → Cover p others end to → AreMarkedToo third fourth (IsCellOf argument from end) → AreMarkedToo first fourth (DemandsBelow p argument others from to low (end + 1))
+    pub marked_some : (fourth : CellMarks) → Cover p others end to → AreMarkedFrom begin third fourth (IsCellOf argument from end) → AreMarkedFrom begin first fourth (DemandsBelow p argument others from to low (end + 1))
     marked_some fourth cover last =
-        marked_like first fourth (λ cell. (DemandsBelow p argument others from to low end cell ⊎ Demands p others end to cell) ⊎ IsCellOf argument from end cell) (DemandsBelow p argument others from to low (end + 1))
+        marked_like begin first fourth (λ cell. (DemandsBelow p argument others from to low end cell ⊎ Demands p others end to cell) ⊎ IsCellOf argument from end cell) (DemandsBelow p argument others from to low (end + 1))
         (λ cell some. ⊎_elim (λ early. ⊎_elim (demands_keep cell) (λ later. (end, above, omega arith, fits, inr later)) early) (λ is. (end, above, omega arith, fits, inl (is, cover))) some)
         (λ cell demands. ⊎_elim (λ was. inl (inl was)) (λ now. ⊎_elim (λ (is, _). inr is) (λ later. inl (inr later)) now) (demands_cases cell demands))
-        (marked_more first third fourth (λ cell. DemandsBelow p argument others from to low end cell ⊎ Demands p others end to cell) (IsCellOf argument from end)
-        (marked_more first second third (DemandsBelow p argument others from to low end) (Demands p others end to) before here) last)
+        (marked_more begin first third fourth (λ cell. DemandsBelow p argument others from to low end cell ⊎ Demands p others end to cell) (IsCellOf argument from end)
+        (marked_more begin first second third (DemandsBelow p argument others from to low end) (Demands p others end to) before here) last)
 
   pub covers_none : (was : Bool) → IsTrue was ↔ CoversBelow p argument others from to low end → (Cover p others end to → ⊥) → IsTrue was ↔ CoversBelow p argument others from to low (end + 1)
   covers_none was told none = (
@@ -254,9 +254,9 @@ module _ (p : PosedProblem) (argument : Arg) (others : List Arg) (from to : ℕ)
     λ (end, fits, cover). let within = are.none_missed end fits cover in told.1 (end, within.0, omega (arith, within.1), fits, cover),
   )
 
-  pub all_marked : (first second : Table Bool) → AreMarkedToo first second (DemandsBelow p argument others from to places.start past) → AreMarkedToo first second (Demands p (argument ∷ others) from to)
-  all_marked first second marked =
-      marked_like first second (DemandsBelow p argument others from to places.start past) (Demands p (argument ∷ others) from to)
+  pub all_marked : (begin : ℕ) (first second : CellMarks) → AreMarkedFrom begin first second (DemandsBelow p argument others from to places.start past) → AreMarkedFrom begin first second (Demands p (argument ∷ others) from to)
+  all_marked begin first second marked =
+      marked_like begin first second (DemandsBelow p argument others from to places.start past) (Demands p (argument ∷ others) from to)
       (λ cell (end, l, m, fits, some). (end, fits, some))
       (λ cell (end, fits, some).
       let cover = ⊎_elim (λ (is, cover). cover) (λ later. cover_of_demands p others end to cell later) some in
@@ -272,21 +272,21 @@ DemandsByFirst p cell count child =
     (alternative : ℕ) × (alternative < count) × Demands p (arguments_of p.grammar cell.rule alternative) cell.from cell.to child
 
 module _ (p : PosedProblem) (cell : Cell) where
-  pub one_more_alternative : (count : ℕ) (first second third : Table Bool) → AreMarkedToo first second (DemandsByFirst p cell count) → AreMarkedToo second third (Demands p (arguments_of p.grammar cell.rule count) cell.from cell.to)
-      → AreMarkedToo first third (DemandsByFirst p cell (count + 1))
-  one_more_alternative count first second third before here =
-      marked_like first third (λ child. DemandsByFirst p cell count child ⊎ Demands p (arguments_of p.grammar cell.rule count) cell.from cell.to child) (DemandsByFirst p cell (count + 1))
+  pub one_more_alternative : (begin count : ℕ) (first second third : CellMarks) → AreMarkedFrom begin first second (DemandsByFirst p cell count) → AreMarkedFrom begin second third (Demands p (arguments_of p.grammar cell.rule count) cell.from cell.to)
+      → AreMarkedFrom begin first third (DemandsByFirst p cell (count + 1))
+  one_more_alternative begin count first second third before here =
+      marked_like begin first third (λ child. DemandsByFirst p cell count child ⊎ Demands p (arguments_of p.grammar cell.rule count) cell.from cell.to child) (DemandsByFirst p cell (count + 1))
       (λ child some. ⊎_elim (λ (alternative, l, demands). (alternative, omega arith, demands)) (λ demands. (count, omega arith, demands)) some)
       (λ child (alternative, l, demands).
       ⊎_elim (λ early. inl (alternative, early, demands))
       (λ same. let e : alternative ≡ count = omega arith in inr (subst (λ n. Demands p (arguments_of p.grammar cell.rule n) cell.from cell.to child) e demands))
       (cases_lt alternative count))
-      (marked_more first second third (DemandsByFirst p cell count) (Demands p (arguments_of p.grammar cell.rule count) cell.from cell.to) before here)
+      (marked_more begin first second third (DemandsByFirst p cell count) (Demands p (arguments_of p.grammar cell.rule count) cell.from cell.to) before here)
 
-  pub all_alternatives : (few : (alternative : ℕ) → length (arguments_of p.grammar cell.rule alternative) ≤ 4) (first second : Table Bool) → AreMarkedToo first second (DemandsByFirst p cell (length (alternatives_of p.grammar cell.rule)))
-      → AreMarkedToo first second (IsDemandedChild p cell)
-  all_alternatives few first second marked =
-      marked_like first second (DemandsByFirst p cell (length (alternatives_of p.grammar cell.rule))) (IsDemandedChild p cell)
+  pub all_alternatives : (few : (alternative : ℕ) → length (arguments_of p.grammar cell.rule alternative) ≤ 4) (begin : ℕ) (first second : CellMarks) → AreMarkedFrom begin first second (DemandsByFirst p cell (length (alternatives_of p.grammar cell.rule)))
+      → AreMarkedFrom begin first second (IsDemandedChild p cell)
+  all_alternatives few begin first second marked =
+      marked_like begin first second (DemandsByFirst p cell (length (alternatives_of p.grammar cell.rule))) (IsDemandedChild p cell)
       (λ child (alternative, l, demands). child_of_demands p cell alternative child l (few alternative) demands)
       (λ child (alternative, cuts, viable, stands). (alternative, viable.in_range, demands_of_child p cell alternative cuts child (some_arguments (arguments_of p.grammar cell.rule alternative) cell.from (ends_by cell cuts) stands) (few alternative) viable stands))
       marked

@@ -10,7 +10,7 @@ use Rattle.split_lines.specs.Laid.{IsFixed}
 use Rattle.split_lines.specs.Lines.{parts_by, IsLastOpen, HasLine}
 
 -- an argument among fixed ones
-fixed_at : (arguments : List Arg) (k : ℕ) (d : Arg) → AllByRecursion IsFixed arguments → k < length arguments → IsFixed (get_or arguments k d)
+pub fixed_at : (arguments : List Arg) (k : ℕ) (d : Arg) → AllByRecursion IsFixed arguments → k < length arguments → IsFixed (get_or arguments k d)
 fixed_at arguments k d fixed l = All-from_recursion IsFixed arguments fixed k d l
 
 -- the parts make up the arguments
@@ -52,16 +52,10 @@ line_there all first second last before =
     }
 
 -- the first argument of a line is of open length
-first_there : (all : List Arg) (first between : ℕ) → HasLine (drop first all) between → IsFixed (get_or all first (Rule 0)) → ⊥
+pub first_there : (all : List Arg) (first between : ℕ) → HasLine (drop first all) between → IsFixed (get_or all first (Rule 0)) → ⊥
 first_there all first between line fixed =
     let at : get_or (drop first all) 0 (Rule 0) ≡ get_or all first (Rule 0) = get_or-drop first all 0 (Rule 0) ∙ ap (λ n. get_or all n (Rule 0)) (omega arith) in
     line.first_open (subst IsFixed (sym at) fixed)
-
--- where no argument is of open length, there is no line
-pub no_line_of_none : (all : List Arg) → AllByRecursion IsFixed all → (first between : ℕ) → HasLine (drop first all) between → ⊥
-no_line_of_none all fixed first between line =
-    let l : first < length all = omega (arith, line.several, length-drop first all) in
-    first_there all first between line (fixed_at all first (Rule 0) fixed l)
 
 -- and none where one is
 pub no_line_of_one : (all : List Arg) (second : ℕ) → IsLastOpen all second → AllByRecursion IsFixed (take second all) → (first between : ℕ) → HasLine (drop first all) between → ⊥

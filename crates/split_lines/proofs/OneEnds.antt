@@ -10,13 +10,13 @@ use Rattle.adp_model.specs.Splits.{FitsSpan}
 use Rattle.adp_model.specs.FirstSplit.{IsValue}
 use Rattle.yield_sizes.specs.Placing.{on_span, Cover, AreEnds}
 use Rattle.split_lines.specs.Laid.{IsCellOf, Demands, IsFixed}
-use Rattle.split_lines.specs.Entries.{Table, AreMarkedToo}
+use Rattle.split_lines.specs.Marks.{CellMarks, AreMarkedFrom}
 use Rattle.split_lines.specs.Totals.{HasTotal, IsGreatestOf}
 use Rattle.split_lines.proofs.Dividing.{cover_forward}
 use Rattle.split_lines.proofs.Tokens.{fixed_span}
 use Rattle.split_lines.proofs.Greatest.{greatest_same}
 use Rattle.split_lines.proofs.Totalling.{OneScore, HasTotalAt, values_cover, total_at, at_total, greatest_at}
-use Rattle.split_lines.proofs.Tables.{marked_like, none_marked}
+use Rattle.split_lines.proofs.MarkSteps.{marked_like, none_marked}
 use Rattle.split_lines.proofs.LineDemands.{cover_of_demands, no_cell}
 
 -- the end of a token, no later than the last place, is told
@@ -47,8 +47,8 @@ module _ (p : PosedProblem) (argument : Arg) (others : List Arg) (from to : ℕ)
   pub cover_nowhere : Cover p (argument ∷ others) from to → ⊥
   cover_nowhere (end, fits, cover) = none end fits cover
 
-  pub marked_nowhere : (marks : Table Bool) → AreMarkedToo marks marks (Demands p (argument ∷ others) from to)
-  marked_nowhere marks = none_marked marks (Demands p (argument ∷ others) from to) (λ cell demands. cover_nowhere (cover_of_demands p (argument ∷ others) from to cell demands))
+  pub marked_nowhere : (begin : ℕ) (marks : CellMarks) → AreMarkedFrom begin marks marks (Demands p (argument ∷ others) from to)
+  marked_nowhere begin marks = none_marked begin marks (Demands p (argument ∷ others) from to) (λ cell demands. cover_nowhere (cover_of_demands p (argument ∷ others) from to cell demands))
 
   pub total_nowhere : (HasScore : Cell → ℤ → Type 0) (factor : ℤ) (factors : List ℤ) → IsGreatestOf (HasTotal p HasScore (argument ∷ others) (factor ∷ factors) from to) None
   total_nowhere HasScore factor factors number total = cover_nowhere (values_cover p HasScore (argument ∷ others) from to total.0 total.1)
@@ -66,9 +66,9 @@ module _ (p : PosedProblem) (argument : Arg) (others : List Arg) (from to end : 
       let cover = ⊎_elim (λ (is, cover). cover) (λ later. cover_of_demands p others other to cell later) some in
       subst (λ at. (IsCellOf argument from at cell × Cover p others at to) ⊎ Demands p others at to cell) (only other fits' cover) some
 
-  pub marked_behind : IsFixed argument → (old new : Table Bool) → AreMarkedToo old new (Demands p others end to) → AreMarkedToo old new (Demands p (argument ∷ others) from to)
-  marked_behind fixed old new marked =
-      marked_like old new (Demands p others end to) (Demands p (argument ∷ others) from to)
+  pub marked_behind : IsFixed argument → (begin : ℕ) (old new : CellMarks) → AreMarkedFrom begin old new (Demands p others end to) → AreMarkedFrom begin old new (Demands p (argument ∷ others) from to)
+  marked_behind fixed begin old new marked =
+      marked_like begin old new (Demands p others end to) (Demands p (argument ∷ others) from to)
       (λ cell later. (end, fits, inr later))
       (λ cell demands. ⊎_elim (λ (is, cover). absurd (no_cell p argument from end cell fixed is)) (λ later. later) (demands_from cell demands))
       marked
@@ -130,9 +130,9 @@ module _ (p : PosedProblem) (argument : Arg) (from to : ℕ) where
   pub last_misses : (FitsSpan p (on_span argument from to) → ⊥) → (end : ℕ) → FitsSpan p (on_span argument from end) → Cover p [] end to → ⊥
   last_misses none end fits cover = none (subst (λ at. FitsSpan p (on_span argument from at)) cover fits)
 
-  pub last_marked : FitsSpan p (on_span argument from to) → (old new : Table Bool) → AreMarkedToo old new (IsCellOf argument from to) → AreMarkedToo old new (Demands p (argument ∷ []) from to)
-  last_marked fits old new marked =
-      marked_like old new (IsCellOf argument from to) (Demands p (argument ∷ []) from to)
+  pub last_marked : FitsSpan p (on_span argument from to) → (begin : ℕ) (old new : CellMarks) → AreMarkedFrom begin old new (IsCellOf argument from to) → AreMarkedFrom begin old new (Demands p (argument ∷ []) from to)
+  last_marked fits begin old new marked =
+      marked_like begin old new (IsCellOf argument from to) (Demands p (argument ∷ []) from to)
       (λ cell is. (to, fits, inl (is, refl)))
       (λ cell demands. ⊎_elim (λ (is, cover). is) (λ none. absurd none) (demands_from p argument [] from to to fits last_ends cell demands))
       marked

@@ -1,11 +1,11 @@
 -- The places at which an argument may begin.
-use Rattle.std.proofs.Common.{◌≡◌, ℕ, ◌+◌, ◌-◌, ◌≤◌, ◌↔◌, max, Option, Some, IfSome, Bool, true, false, List, ◌++◌, length, take, drop, sym, ap, subst, ◌∙◌, arith, eqb, length-take, length-drop}
+use Rattle.std.proofs.Common.{◌≡◌, ℕ, ◌+◌, ◌-◌, ◌≤◌, ◌↔◌, max, Option, IfSome, Bool, true, false, List, ◌++◌, length, take, drop, sym, ap, subst, ◌∙◌, arith, eqb, length-take, length-drop}
 use Rattle.std.specs.List.{AllByRecursion, ends_with}
 use Rattle.std.proofs.lemmas.List.{length-take-le, drop-take, drop-drop, drop_at, take-append-drop}
 use Rattle.std.proofs.lemmas.Bool.{false≢true}
 use Rattle.std.proofs.lemmas.Bool.Decides.{Decides-eqb}
 use Rattle.std.proofs.lemmas.Slice.Eq.{ends_is}
-use Rattle.adp_model.specs.declared.grammar.Arg.TheVariants.{Rule, Literal, Letter, Run}
+use Rattle.adp_model.specs.declared.grammar.Arg.TheVariants.{Rule, Literal, Run}
 use Rattle.adp_model.specs.PosedProblem.{PosedProblem, IsSpan}
 use Rattle.adp_model.specs.Parts.{letters_of}
 use Rattle.adp_model.specs.Sizes.{IsWithinSizes}
@@ -60,18 +60,6 @@ run_starts_at p class low first to most behind start past high span from_first e
       );
       from_first = omega (arith, start_is);
       before = omega (arith, past_is);
-    }
-
--- a letter is a run of one
-pub letter_starts_at : (p : PosedProblem) (class first to start end : ℕ) → AreStarts p (Run class 1 (Some 1)) first to (record { start = start; end = end }) → AreStarts p (Letter class) first to (record { start = start; end = end })
-letter_starts_at p class first to start end starts =
-    record {
-      exact = λ from after. (
-        λ fits. (starts.exact from after).0 (fits.0, (omega (arith, fits.1.0), omega (arith, fits.1.0), fits.1.1)),
-        λ between. let fits = (starts.exact from after).1 between in (fits.0, (omega (arith, fits.1.0, fits.1.1), fits.1.2)),
-      );
-      from_first = starts.from_first;
-      before = starts.before;
     }
 
 -- the last letters of a span of the word

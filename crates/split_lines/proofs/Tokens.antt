@@ -1,5 +1,5 @@
 -- Tokens of fixed length, and what they cover.
-use Rattle.std.proofs.Common.{◌≡◌, ◌↔◌, ℕ, min, ◌+◌, ◌≤◌, Bool, true, List, [], ◌∷◌, length, ap, arith}
+use Rattle.std.proofs.Common.{◌≡◌, ℕ, min, ◌+◌, ◌≤◌, List, [], ◌∷◌, length, ap, arith}
 use Rattle.adp_model.specs.declared.grammar.Arg.{Arg}
 use Rattle.adp_model.specs.declared.grammar.Arg.TheVariants.{Rule, Literal, Letter, Run}
 use Rattle.adp_model.specs.PosedProblem.{PosedProblem}
@@ -32,12 +32,3 @@ more_letters p token later first rest all fixed others first_is all_is from to h
     let two = others h.0 to h.2 in
     let within = cover_within p later h.0 to h.1.0.in_word h.2 in
     omega (arith, one, two, within)
-
-pub no_letters_of_none : (p : PosedProblem) (tokens : List Arg) → length tokens ≡ 0 → HaveLetters p tokens 0
-no_letters_of_none p [] l from to h = omega arith
-no_letters_of_none p (token ∷ tokens) l from to h = absurd (omega arith)
-
--- no token covers a span without letters, and no other
-pub none_covers : (p : PosedProblem) (tokens : List Arg) (from to : ℕ) (test : Bool) → length tokens ≡ 0 → ((test ≡ true) ↔ (from ≡ to)) → (test ≡ true) ↔ Cover p tokens from to
-none_covers p [] from to test l same = same
-none_covers p (token ∷ tokens) from to test l same = absurd (omega arith)

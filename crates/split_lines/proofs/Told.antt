@@ -13,10 +13,6 @@ use Rattle.split_lines.specs.Entries.{no_candidate}
 use Rattle.split_lines.specs.Totals.{turned}
 use Rattle.split_lines.specs.Packing.{Width, IsProper, AreProperSpans, told, told_list, told_spans}
 
-pub some_told : (f : ℤ → ℤ) (found : Option ℤ) → IsSome found → IsSome (option_map f found)
-some_told f None some = absurd cc
-some_told f (Some number) some = refl
-
 pub told_some : (f : ℤ → ℤ) (found : Option ℤ) → IsSome (option_map f found) → IsSome found
 told_some f None some = absurd cc
 told_some f (Some number) some = refl

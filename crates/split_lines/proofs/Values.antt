@@ -36,13 +36,6 @@ module _ {V : Type 0} (spans : Spans V) (rule near far : ℕ) where
       let true_test = stands_told.1 (s.near_in, (s.low, s.high)) in
       ap (λ b. cond b (slice_get spans.values (place_of spans rule near far)) None) true_test
 
-  pub value_missing : (Stands spans rule near far → ⊥) → value_at spans rule near far ≡ None
-  value_missing none =
-      elim (cases_Bool (ltb near spans.positions && (leb (block_at spans rule near).first far && ltb far (block_at spans rule near).past))) [
-        | inl there ↦ let all = stands_told.0 there in absurd (none (record { near_in = all.0; low = all.1.0; high = all.1.1 }))
-        | inr missing ↦ ap (λ b. cond b (slice_get spans.values (place_of spans rule near far)) None) missing
-      ]
-
   pub standing_value : (value : V) → value_at spans rule near far ≡ Some value → Stands spans rule near far
   standing_value value e =
       elim (cases_Bool (ltb near spans.positions && (leb (block_at spans rule near).first far && ltb far (block_at spans rule near).past))) [
@@ -89,13 +82,6 @@ slice_get-set_other (first ∷ values) zero zero value apart = absurd (apart ref
 slice_get-set_other (first ∷ values) zero (suc other) value apart = refl
 slice_get-set_other (first ∷ values) (suc place) zero value apart = refl
 slice_get-set_other (first ∷ values) (suc place) (suc other) value apart = slice_get-set_other values place other value (λ e. apart (ap suc e))
-
-pub one_set : {V : Type 0} (values : List V) (place : ℕ) (value : V) → AreSet values (set values place value) (λ other. other ≡ place) value
-one_set values place value = record {
-  as_many = length-set values place value;
-  there = λ other e l. subst (λ at. slice_get (set values place value) at ≡ Some value) (sym e) (slice_get-set_same values place value (omega arith));
-  others = λ other apart. slice_get-set_other values place other value (λ e. apart (sym e));
-}
 
 -- the spans with other values
 abbrev pub with_values : {V : Type 0} → Spans V → List V → Spans V
@@ -228,28 +214,3 @@ set_like old new Here There value to from set_here = record {
 module _ {V : Type 0} (spans : Spans V) (laid : AreBlocks spans) (rule near : ℕ) (block : Block) (is_block : block ≡ block_at spans rule near) (fars : List ℕ) (shift : ℕ) (each : (far : ℕ) → Contains fars far → Stands spans rule near (far + shift)) where
   place_moved : (far : ℕ) → Contains fars far → place_of spans rule near (far + shift) ≡ far + (block.place + shift) - block.first
   place_moved far is = omega (arith, place_is spans laid rule near block is_block (far + shift) (each far is), low_in spans laid rule near block is_block (far + shift) (each far is))
-
-  pub low_moved : (far : ℕ) → Contains fars far → block.first ≤ far + (block.place + shift)
-  low_moved far is = omega (arith, low_in spans laid rule near block is_block (far + shift) (each far is))
-
-  pub place_moved_within : (far : ℕ) → Contains fars far → far + (block.place + shift) - block.first < length spans.values
-  place_moved_within far is = omega (arith, place_moved far is, place_within spans rule near (far + shift) laid (each far is))
-
-  pub written_each : (values : List V) (value : V) → AreSet spans.values values (λ at. (far : ℕ) × Contains fars far × (at ≡ far + (block.place + shift) - block.first)) value
-      → AreWritten spans (with_values spans values) rule near (λ place. (far : ℕ) × Contains fars far × (place ≡ far + shift)) value
-  written_each values value now =
-      are_written spans laid rule near values (λ place. (far : ℕ) × Contains fars far × (place ≡ far + shift)) value
-      (λ place (far, is, e). subst (λ x. Stands spans rule near x) (sym e) (each far is))
-      (set_like spans.values values
-      (λ at. (far : ℕ) × Contains fars far × (at ≡ far + (block.place + shift) - block.first))
-      (λ at. (place : ℕ) × ((far : ℕ) × Contains fars far × (place ≡ far + shift)) × (at ≡ place_of spans rule near place)) value
-      (λ at (place, (far, is, e), p). (far, is, p ∙ ap (λ x. place_of spans rule near x) e ∙ place_moved far is))
-      (λ at (far, is, p). (far + shift, (far, is, refl), p ∙ sym (place_moved far is))) now)
-
--- no value is written where there is no span
-pub none_written : {V : Type 0} (spans : Spans V) (rule near : ℕ) (IsFar : ℕ → Type 0) (value : V) → ((far : ℕ) → IsFar far → ⊥) → AreWritten spans spans rule near IsFar value
-none_written spans rule near IsFar value none = record {
-  same = record { positions = refl; blocks = refl; as_many = refl };
-  there = λ far is. absurd (none far is);
-  others = λ other_rule other_near other_far apart. refl;
-}

@@ -34,11 +34,12 @@ AreProperNumbers (Medium numbers) = AreProper medium numbers.now
 AreProperNumbers (Long numbers) = AreProper long numbers.now
 AreProperNumbers (Whole numbers) = Unit {0}
 
--- the argument is a rule, and its factor times a score is the score, turned
-pub record IsPlain (argument : Arg) (factor : ℤ) (goal : Goal) : Type 0 where
+-- the argument is a rule, and the scale is its factor, turned: the scale times a number that was turned is the factor
+-- times the score
+pub record IsScaled (argument : Arg) (factor : ℤ) (goal : Goal) (scale : ℤ) : Type 0 where
   pub rule : ℕ
   pub is_rule : argument ≡ Rule rule
-  pub factor_is : factor ≡ turned goal (pos 1)
+  pub scale_is : scale ≡ turned goal factor
 
 -- the tokens add nothing to a total, whatever letters they match
 abbrev pub IsWorthless : Arg → ℤ → Type 0

@@ -1,5 +1,5 @@
--- What is kept of cells in rows, by starts, and in columns, by ends: marks, and scores.
-use Rattle.std.specs.Prelude.{◌≡◌, ◌⊎◌, ◌↔◌, ℕ, ℤ, negsuc, ◌^◌, ◌-◌, Bool, true, Option, Some, None, MatchOption, IsSome, length, if◌then◌else◌}
+-- What is kept of cells in rows, by starts, and in columns, by ends: scores.
+use Rattle.std.specs.Prelude.{◌≡◌, ◌↔◌, ℕ, ℤ, negsuc, ◌^◌, ◌-◌, Option, Some, None, MatchOption, IsSome, length, if◌then◌else◌}
 use Rattle.std.specs.Ordering.{int_eq}
 use Rattle.adp_model.specs.declared.cell.Cell.{Cell}
 use Rattle.adp_model.specs.declared.cell.Answer.TheVariants.{NoCandidate}
@@ -33,16 +33,6 @@ pub record AreCells {V : Type 0} (table : Table V) : Type 0 where
   pub placed : (cell : Cell) (place : ℕ) → IsCounted table.problem.grammar (length table.problem.word) cell
       → IsPlaceOf table.problem.grammar (length table.problem.word) cell place
       → place_of table.rows cell.rule cell.from cell.to ≡ place
-
--- the cell is marked in its row or in its column
-abbrev pub IsMarked : Table Bool → Cell → Type 0
-IsMarked table cell = (in_row table cell ≡ Some true) ⊎ (in_column table cell ≡ Some true)
-
--- the cells that were marked and those of which it holds are marked now, and no others; marks in rows stay
-pub record AreMarkedToo (old new : Table Bool) (Holds : Cell → Type 0) : Type 0 where
-  pub problem : new.problem ≡ old.problem
-  pub exact : (cell : Cell) → IsMarked new cell ↔ (IsMarked old cell ⊎ Holds cell)
-  pub rows_stay : (cell : Cell) → in_row old cell ≡ Some true → in_row new cell ≡ Some true
 
 -- the entry of a cell that has no candidate: a number that no score is
 abbrev pub no_candidate : ℤ

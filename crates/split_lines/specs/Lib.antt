@@ -1,13 +1,16 @@
 pub mod ArgumentEntries
 pub mod Begins
+pub mod Bits
 pub mod ClassFields
 pub mod Classes
 pub mod Entries
 pub mod Flags
+pub mod Kept
 pub mod Laid
 pub mod Layout
 pub mod Lines
 pub mod LinesFields
+pub mod Marks
 pub mod Matching
 pub mod Packing
 pub mod Rows
@@ -15,3 +18,4 @@ pub mod ScoresFields
 pub mod Spans
 pub mod Sums
 pub mod Totals
+pub mod WordBits

@@ -2,12 +2,13 @@
 use Rattle.std.specs.Prelude.{◌≡◌, ℕ, ◌<◌, Option, MatchOption, Vec, List, length, drop, slice_index_or}
 use Rattle.std.specs.Global.{Global}
 use Rattle.adp_model.specs.declared.grammar.Arg.{Arg}
-use Rattle.adp_model.specs.declared.grammar.Alt.{Alt}
 use Rattle.adp_model.specs.PosedProblem.{PosedProblem}
-use Rattle.adp_model.specs.Parts.{alternatives_of}
+use Rattle.adp_model.specs.Parts.{alternatives_of, arguments_of}
+use Rattle.split_lines.specs.declared.kept.KeptAlternative.{KeptAlternative}
 use Rattle.split_lines.specs.declared.lines.KeptLine.{KeptLine}
 use Rattle.split_lines.specs.declared.lines.Middle.{Middle}
 use Rattle.split_lines.specs.declared.lines.Lines.TheInside.{Inside}
+use Rattle.split_lines.specs.Kept.{IsAlternative}
 use Rattle.split_lines.specs.Matching.{HaveLetters, AreMatches}
 use Rattle.split_lines.specs.Lines.{parts_by, HasLine}
 
@@ -39,23 +40,28 @@ abbrev pub IsKeptOrNone : PosedProblem → List Middle → List Arg → Option K
 IsKeptOrNone p middles arguments line =
     MatchOption line ((first between : ℕ) → HasLine (drop first arguments) between → ⊥) (IsKept p middles arguments)
 
--- the lines of alternatives
-pub record AreKept (p : PosedProblem) (middles : List Middle) (alternatives : List Alt) (count : ℕ)
-    (lines : List (Option KeptLine)) : Type 0 where
-  pub each : length lines ≡ count
-  pub are : (alternative : ℕ) (d : Alt) (e : Option KeptLine) → alternative < count
-      → IsKeptOrNone p middles (slice_index_or alternatives alternative d).args (slice_index_or lines alternative e)
+-- what is kept of the alternative of this number
+pub record IsKeptOf (p : PosedProblem) (middles : List Middle) (rule alternative : ℕ) (kept : KeptAlternative)
+    : Type 0 where
+  pub line : IsKeptOrNone p middles (arguments_of p.grammar rule alternative) kept.line
+  pub parts : IsAlternative p rule alternative kept
 
--- the lines of the first so many rules
+-- what is kept of the first so many alternatives of a rule
+pub record AreKept (p : PosedProblem) (middles : List Middle) (rule count : ℕ) (kept : List KeptAlternative)
+    : Type 0 where
+  pub each : length kept ≡ count
+  pub are : (alternative : ℕ) (d : KeptAlternative) → alternative < count
+      → IsKeptOf p middles rule alternative (slice_index_or kept alternative d)
+
+-- what is kept of the alternatives of the first so many rules
 pub record AreKeptOfRules (p : PosedProblem) (middles : List Middle) (count : ℕ)
-    (lines : List (Vec (Option KeptLine) Global)) : Type 0 where
-  pub each : length lines ≡ count
-  pub are : (rule : ℕ) (d : Vec (Option KeptLine) Global) → rule < count
-      → AreKept p middles (alternatives_of p.grammar rule) (length (alternatives_of p.grammar rule))
-      (slice_index_or lines rule d).items
+    (kept : List (Vec KeptAlternative Global)) : Type 0 where
+  pub each : length kept ≡ count
+  pub are : (rule : ℕ) (d : Vec KeptAlternative Global) → rule < count
+      → AreKept p middles rule (length (alternatives_of p.grammar rule)) (slice_index_or kept rule d).items
 
--- the lines of all rules
+-- what is kept of all alternatives
 pub record AreLines (fields : Inside) : Type 0 where
   pub middles_are : AreMiddles fields.tables fields.middles.items
-  pub lines_are : AreKeptOfRules fields.tables fields.middles.items
-      (length fields.tables.grammar.rules) fields.lines.items
+  pub alternatives_are : AreKeptOfRules fields.tables fields.middles.items
+      (length fields.tables.grammar.rules) fields.alternatives.items

@@ -5,6 +5,7 @@ use Rattle.adp_model.specs.declared.grammar.Arg.{Arg}
 use Rattle.adp_model.specs.declared.grammar.Arg.TheVariants.{Rule, Literal, Letter, Run}
 use Rattle.adp_model.specs.PosedProblem.{PosedProblem}
 use Rattle.yield_sizes.specs.Placing.{Cover}
+use Rattle.split_lines.specs.Flags.{AreBits}
 use Rattle.split_lines.specs.declared.matches.Matches.{Matches}
 
 -- how many letters a token of fixed length has
@@ -34,11 +35,13 @@ pub record AreFlagsOf (count : ℕ) (places : List ℕ) (flags : List Bool) : Ty
   pub each : length flags ≡ count
   pub told : (place : ℕ) → Contains places place ↔ (slice_get flags place ≡ Some true)
 
--- how many letters the tokens have, where they match, how many of these places come before each place, and for each
--- place whether it is one of these
+-- how many letters the tokens have, where they match, how many of these places come before each place, for each place
+-- whether it is one of these, and the same as bits of these places and of those behind the letters
 pub record AreMatches (p : PosedProblem) (tokens : List Arg) (matches : Matches) : Type 0 where
   pub letters : HaveLetters p tokens matches.letters
   pub places : AreMatchPlaces p tokens matches.letters (length p.word + 1) matches.places.items
   pub each : length matches.before.items ≡ length p.word + 2
   pub before : AreCounts matches.places.items matches.before.items
   pub flags : AreFlagsOf (length p.word + 1) matches.places.items matches.flags.items
+  pub here : AreBits matches.places.items 0 matches.here.items
+  pub behind : AreBits matches.places.items matches.letters matches.behind.items

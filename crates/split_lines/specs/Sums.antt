@@ -1,40 +1,58 @@
 -- Sums of two numbers of a width.
-use Rattle.std.specs.Prelude.{◌≡◌, ℕ, ◌+◌, ◌-◌, ◌<◌, ◌≤◌, ℤ, ◌+ℤ◌, Bool, true, Some, List, length, slice_get}
+use Rattle.std.specs.Prelude.{◌≡◌, ℕ, ◌+◌, ◌-◌, ◌<◌, ◌≤◌, ℤ, ◌+ℤ◌, ◌*ℤ◌, nat_abs, Bool, true, Some, List, length, slice_get}
 use Rattle.std.specs.List.{Contains}
+use Rattle.adp_model.specs.ProblemFields.{greatest_score}
 use Rattle.split_lines.specs.declared.sums.Places.{Places}
+use Rattle.split_lines.specs.declared.sums.Scales.{Scales}
 use Rattle.split_lines.specs.Packing.{Width}
 
--- there are two numbers at these places, neither of them marks that there is no candidate, and this is their sum
-pub record HasSum (width : Width) (firsts seconds : List ℤ) (i j : ℕ) (sum : ℤ) : Type 0 where
+-- there are two numbers at this place, neither of them marks that there is no candidate, and this is their sum
+pub record HasSum (width : Width) (firsts seconds : List ℤ) (k : ℕ) (sum : ℤ) : Type 0 where
   pub first : ℤ
   pub second : ℤ
-  pub first_there : slice_get firsts i ≡ Some first
-  pub second_there : slice_get seconds j ≡ Some second
+  pub first_there : slice_get firsts k ≡ Some first
+  pub second_there : slice_get seconds k ≡ Some second
   pub first_scores : first ≡ width.mark → ⊥
   pub second_scores : second ≡ width.mark → ⊥
   pub is : sum ≡ (first +ℤ second)
 
--- where the number before a place of a boundary stands among others, and where the one behind it stands
-abbrev pub number_before : Places → ℕ → ℕ
-number_before places place = place - places.before
+-- the same, where this is their sum after each was multiplied by its factor
+pub record HasScaledSum (mark : ℤ) (scales : Scales) (firsts seconds : List ℤ) (k : ℕ) (sum : ℤ) : Type 0 where
+  pub first : ℤ
+  pub second : ℤ
+  pub first_there : slice_get firsts k ≡ Some first
+  pub second_there : slice_get seconds k ≡ Some second
+  pub first_scores : first ≡ mark → ⊥
+  pub second_scores : second ≡ mark → ⊥
+  pub is : sum ≡ ((scales.before *ℤ first) +ℤ (scales.behind *ℤ second))
 
-abbrev pub number_behind : Places → ℕ → ℕ
-number_behind places place = place + places.letters - places.behind
+-- where the numbers for a place of a boundary stand among others
+abbrev pub number_at : Places → ℕ → ℕ
+number_at places place = place - places.first
 
 -- there are two numbers for each place of the boundary
 pub record HaveNumbers (places : Places) (firsts seconds : List ℤ) : Type 0 where
-  pub from_first : (place : ℕ) → Contains places.at.now place → places.before ≤ place
-  pub first : (place : ℕ) → Contains places.at.now place → number_before places place < length firsts
-  pub from_second : (place : ℕ) → Contains places.at.now place → places.behind ≤ place + places.letters
-  pub second : (place : ℕ) → Contains places.at.now place → number_behind places place < length seconds
+  pub from_first : (place : ℕ) → Contains places.at.now place → places.first ≤ place
+  pub before : (place : ℕ) → Contains places.at.now place → number_at places place < length firsts
+  pub behind : (place : ℕ) → Contains places.at.now place → number_at places place < length seconds
 
 -- at some place of the boundary the sum is this one
 abbrev pub HasSumAt : Width → Places → List ℤ → List ℤ → ℤ → Type 0
 HasSumAt width places firsts seconds sum =
-    (place : ℕ) × Contains places.at.now place
-    × HasSum width firsts seconds (number_before places place) (number_behind places place) sum
+    (place : ℕ) × Contains places.at.now place × HasSum width firsts seconds (number_at places place) sum
+
+abbrev pub HasScaledSumAt : ℤ → Scales → Places → List ℤ → List ℤ → ℤ → Type 0
+HasScaledSumAt mark scales places firsts seconds sum =
+    (place : ℕ) × Contains places.at.now place × HasScaledSum mark scales firsts seconds (number_at places place) sum
+
+-- at no place of the boundary the products that are added up are greater together than the greatest score
+abbrev pub AreLowSums : ℤ → Scales → Places → List ℤ → List ℤ → Type 0
+AreLowSums mark scales places firsts seconds =
+    (place : ℕ) (sum : ℤ) → Contains places.at.now place
+    → (it : HasScaledSum mark scales firsts seconds (number_at places place) sum)
+    → nat_abs (scales.before *ℤ it.first) + nat_abs (scales.behind *ℤ it.second) ≤ greatest_score
 
 -- two numbers side by side that are flagged have this sum
 abbrev pub HasFlaggedSum : Width → List Bool → List ℤ → List ℤ → ℤ → Type 0
 HasFlaggedSum width flags firsts seconds sum =
-    (k : ℕ) × (slice_get flags k ≡ Some true) × HasSum width firsts seconds k k sum
+    (k : ℕ) × (slice_get flags k ≡ Some true) × HasSum width firsts seconds k sum

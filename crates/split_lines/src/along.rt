@@ -1,6 +1,6 @@
 //! The greatest total along a line.
 
-ghost use Rattle.std.specs.Prelude.{◌≡◌, ℕ, ◌-◌, ◌+◌, ◌<◌, ◌≤◌, ◌^◌, [], ◌∷◌, ◌++◌, IsTrue, false, length};
+ghost use Rattle.std.specs.Prelude.{◌≡◌, ℕ, ◌-◌, ◌+◌, ◌<◌, ◌≤◌, ◌^◌, [], ◌∷◌, ◌++◌, IfSome, IsTrue, false, length};
 ghost use Rattle.std.specs.List.{AllByRecursion, Contains};
 ghost use Rattle.adp_model.specs.declared.cell.Cell.{Cell};
 ghost use Rattle.adp_model.specs.PosedProblem.{IsSpan};
@@ -10,7 +10,7 @@ ghost use Rattle.yield_sizes.specs.Placing.{on_span, Cover};
 ghost use Rattle.split_lines.specs.Flags.{AreFlagged};
 ghost use Rattle.split_lines.specs.Laid.{IsFixed, Demands, AreBoundaries};
 ghost use Rattle.split_lines.specs.Lines.{HasLine, IsLine, parts_by};
-ghost use Rattle.split_lines.specs.ArgumentEntries.{AreProperNumbers, AreWorthless, IsPlain, entries_of};
+ghost use Rattle.split_lines.specs.ArgumentEntries.{AreProperNumbers, AreWorthless, IsScaled, entries_of};
 ghost use Rattle.split_lines.specs.Entries.{HasEntry};
 ghost use Rattle.split_lines.specs.Rows.{HasEntryAt};
 ghost use Rattle.split_lines.specs.Totals.{AreLow, AreWeighted, HasTotal, IsGreatestOf};
@@ -19,9 +19,9 @@ use crate::argument_values::{Entries, Numbers, token_value, value_among};
 use crate::layout::Side;
 use crate::lines::{Boundary, Line, Lines};
 use crate::matches::fixed_length;
-use crate::numbers::{greater, turned};
+use crate::numbers::greater;
 use crate::scores::Scores;
-use crate::sums::{Places, greatest_long, greatest_medium, greatest_short};
+use crate::sums::{Places, Scales, greatest_long, greatest_medium, greatest_short};
 use adp_model::laws::bounds::bounds_are_sound;
 use adp_model::laws::order::answer_is_unique;
 use adp_model::{Arg, Goal};
@@ -82,18 +82,20 @@ fn fixed_total(lines: &Lines<'_>, tokens: &[Arg], factors: &[i64], from: u16, to
     factor * token_value(lines, token, from, end) + fixed_total(lines, tokens, factors, end, to)
 }
 
-/// Whether the argument is a rule, and its factor times a score is the score, turned.
-fn is_plain(argument: &Arg, factor: i64, goal: Goal) -> bool
-    ensures { IsTrue result → IsPlain argument.now factor goal }
+/// The factor of a rule, turned, which is the factor of numbers that were turned; `None` for a token, and where it does
+/// not fit.
+fn scale_of(argument: &Arg, factor: i64, goal: Goal) -> Option<i64>
+    ensures { IfSome result (λ scale. IsScaled argument.now factor goal scale) }
 {
-    match argument {
-        Arg::Rule(_) => factor == turned(goal, 1),
-        _ => false,
+    match (argument, goal) {
+        (Arg::Rule(_), Goal::Least) => factor.checked_neg(),
+        (Arg::Rule(_), Goal::Greatest) => Some(factor),
+        _ => None,
     }
 }
 
 /// Whether the tokens add nothing to a total, whatever letters they match.
-fn are_worthless(tokens: &[Arg], factors: &[i64]) -> bool
+pub fn are_worthless(tokens: &[Arg], factors: &[i64]) -> bool
     ensures { IsTrue result → AreWorthless tokens.now factors.now }
 {
     let (Some((token, tokens)), Some((factor, factors))) = (
@@ -106,7 +108,8 @@ fn are_worthless(tokens: &[Arg], factors: &[i64]) -> bool
 }
 
 /// The same, where tokens that do not weigh anything add nothing.
-fn between_total(
+#[inline]
+pub fn between_total(
     lines: &Lines<'_>,
     tokens: &[Arg],
     factors: &[i64],
@@ -225,6 +228,7 @@ fn greatest_front(
         (arguments.first.now ∷ (arguments.middle.now ++ arguments.second.now ∷ []))
         (arguments.first_factor ∷ (arguments.middle_factors.now ++ arguments.second_factor ∷ []))
         from boundary.last }
+    requires common { column.first ≡ row.first + boundary.letters }
     requires row { (place : ℕ) → Contains boundary.places.now place
         → AtRule (HasEntryAt lines.now (entries_of row) row.first place) (on_span arguments.first.now from place) }
     requires column { (place : ℕ) → Contains boundary.places.now place
@@ -237,29 +241,31 @@ fn greatest_front(
         (arguments.entry.first_factor ∷ (arguments.entry.middle_factors.now ++ arguments.entry.second_factor ∷ []))
         from boundary.entry.last) result }
 {
-    if is_plain(arguments.first, arguments.first_factor, row.goal)
-        && is_plain(arguments.second, arguments.second_factor, column.goal)
-        && are_worthless(arguments.middle, arguments.middle_factors)
-    {
-        lines.problem().admissible();
-        answer_is_unique();
-        let places = Places {
-            at: boundary.places,
-            letters: boundary.letters,
-            before: row.first,
-            behind: column.first,
-        };
-        match (row.numbers, column.numbers) {
-            (Numbers::Short(first), Numbers::Short(second)) => {
-                return greatest_short(first, second, places, boundary.flags);
+    if let (Some(before), Some(behind)) = (
+        scale_of(arguments.first, arguments.first_factor, row.goal),
+        scale_of(arguments.second, arguments.second_factor, column.goal),
+    ) {
+        if are_worthless(arguments.middle, arguments.middle_factors) {
+            lines.problem().admissible();
+            bounds_are_sound();
+            answer_is_unique();
+            let places = Places {
+                at: boundary.places,
+                first: row.first,
+            };
+            let scales = Scales { before, behind };
+            match (row.numbers, column.numbers) {
+                (Numbers::Short(first), Numbers::Short(second)) => {
+                    return greatest_short(first, second, places, boundary.flags, scales);
+                }
+                (Numbers::Medium(first), Numbers::Medium(second)) => {
+                    return greatest_medium(first, second, places, scales);
+                }
+                (Numbers::Long(first), Numbers::Long(second)) => {
+                    return greatest_long(first, second, places, scales);
+                }
+                _ => {}
             }
-            (Numbers::Medium(first), Numbers::Medium(second)) => {
-                return greatest_medium(first, second, places);
-            }
-            (Numbers::Long(first), Numbers::Long(second)) => {
-                return greatest_long(first, second, places);
-            }
-            _ => {}
         }
     }
     greatest_valued(lines, arguments, boundary, from, row, column)

@@ -1,30 +1,33 @@
 //! The best score of a cell from those of its demanded children.
 
-ghost use Rattle.std.specs.Prelude.{◌≡◌, ℕ, ◌<◌, ◌↔◌, IsTrue, IfSome, MatchOption, List, length, drop};
+ghost use Rattle.std.specs.Prelude.{◌≡◌, ℕ, ◌<◌, ◌≤◌, ◌↔◌, IsTrue, IfSome, MatchOption, List, length, drop};
 ghost use Rattle.adp_model.specs.declared.cell.Answer.TheVariants.{NoCandidate};
 ghost use Rattle.adp_model.specs.declared.cell.Cell.{Cell};
 ghost use Rattle.adp_model.specs.PosedProblem.{IsSpan};
-ghost use Rattle.adp_model.specs.Parts.{algebra_of, alternatives_of};
+ghost use Rattle.adp_model.specs.Parts.{alternatives_of};
 ghost use Rattle.adp_model.specs.Answers.{IsAnswer};
 ghost use Rattle.adp_model.specs.Bellman.{HasBestScore};
 ghost use Rattle.adp_model.specs.FirstSplit.{IsScoredSplit};
 ghost use Rattle.adp_model.specs.Demand.{IsDemandedChild};
+ghost use Rattle.yield_sizes.specs.Placing.{Cover};
+ghost use Rattle.split_lines.specs.Kept.{IsAlternative};
 ghost use Rattle.split_lines.specs.Laid.{Demands};
 ghost use Rattle.split_lines.specs.Lines.{IsLine};
 ghost use Rattle.split_lines.specs.Entries.{HasEntry};
-ghost use Rattle.split_lines.specs.Totals.{AreLow, AreWeighted, HasTotal, HasTurnedScore, IsGreatestOf, turned};
+ghost use Rattle.split_lines.specs.Totals.{AreLow, AreWeighted, HasTotal, HasTurnedScore, IsGreatestOf};
 
-use crate::along::greatest_along;
+use crate::along::{between_total, greatest_along};
 use crate::argument_values::{argument_value, token_value};
+use crate::kept::KeptAlternative;
 use crate::lines::{Line, Lines, is_fixed, line_here};
-use crate::numbers::{greater, turned, turned_factors};
-use crate::parts::{alternatives, arguments, goal, term};
+use crate::numbers::{greater, turned};
+use crate::parts::goal;
 use crate::scores::Scores;
 use adp_model::laws::bellman::bellman;
 use adp_model::laws::bounds::{bounds_are_sound, words_keep_their_score_bound};
 use adp_model::laws::order::answer_is_unique;
 use adp_model::laws::well_formed::arguments_are_few_and_known;
-use adp_model::{Arg, Cell, Goal};
+use adp_model::{Arg, Cell};
 
 /// What the totals of an alternative's arguments are found from.
 #[derive(Clone, Copy)]
@@ -93,43 +96,79 @@ fn greatest_total(
     greatest
 }
 
-/// The best score that an alternative gives a cell, turned; `None` where it gives none.
-fn alternative_score(
+/// The best score that an alternative gives a cell whose first letters its tokens in front have up to `from`, turned;
+/// `None` where it gives none.
+#[inline(never)]
+fn score_behind(
     lines: &Lines<'_>,
     scores: &Scores<'_>,
     cell: Cell,
+    alternative: &KeptAlternative<'_>,
     alt: u8,
-    goal: Goal,
+    from: u16,
 ) -> Option<i64>
     requires same_problem { scores.now.problem ≡ lines.now }
-    requires goal { goal ≡ (algebra_of lines.now).goal }
     requires rule { cell.rule < length lines.now.grammar.rules }
     requires in_word { IsSpan lines.now.word cell.from cell.to }
-    requires alternative { alt < length (alternatives_of lines.now.grammar cell.rule) }
+    requires in_range { alt < length (alternatives_of lines.now.grammar cell.rule) }
+    requires alternative { IsAlternative lines.now cell.rule alt alternative.now }
     requires scored { (child : Cell) → IsDemandedChild lines.now cell child → HasEntry scores.now child }
+    requires within { from ≤ cell.to }
+    requires covers { Cover lines.now alternative.now.front.now cell.from from }
     ensures { IsGreatestOf (HasTurnedScore lines.now cell alt) result }
 {
-    let problem = lines.problem();
-    problem.admissible();
+    lines.problem().admissible();
     bounds_are_sound();
     words_keep_their_score_bound();
     answer_is_unique();
     arguments_are_few_and_known();
-    let arguments = arguments(problem, cell.rule, alt);
-    let term = term(problem, cell.rule, alt);
-    let factors = turned_factors(goal, term.factors.as_slice());
-    let factors = &factors[..arguments.len()];
-    let line = lines.line(cell.rule, alt);
+    let line = lines.line_behind(alternative, cell.rule, alt);
     let ahead = line.map_or(0, |line| line.first);
     let known = Known {
         lines,
         scores,
         line,
     };
-    let Some(total) = greatest_total(&known, ahead, arguments, factors, cell.from, cell.to) else {
+    let factors = alternative.other_factors();
+    let Some(rest) = greatest_total(&known, ahead, alternative.others, factors, from, cell.to)
+    else {
         return None;
     };
-    Some(turned(goal, term.constant) + total)
+    let front = between_total(
+        lines,
+        alternative.front,
+        alternative.front_factors(),
+        alternative.weighs,
+        cell.from,
+        from,
+    );
+    Some(alternative.constant + (front + rest))
+}
+
+/// The best score that an alternative gives a cell, turned; `None` where it gives none.
+#[inline(always)]
+fn alternative_score(
+    lines: &Lines<'_>,
+    scores: &Scores<'_>,
+    cell: Cell,
+    alternative: &KeptAlternative<'_>,
+    alt: u8,
+) -> Option<i64>
+    requires same_problem { scores.now.problem ≡ lines.now }
+    requires rule { cell.rule < length lines.now.grammar.rules }
+    requires in_word { IsSpan lines.now.word cell.from cell.to }
+    requires in_range { alt < length (alternatives_of lines.now.grammar cell.rule) }
+    requires alternative { IsAlternative lines.now cell.rule alt alternative.now }
+    requires scored { (child : Cell) → IsDemandedChild lines.now cell child → HasEntry scores.now child }
+    ensures { IsGreatestOf (HasTurnedScore lines.now cell alt) result }
+{
+    if alternative.has_other_length(cell.from, cell.to) {
+        return None;
+    }
+    match lines.front_end(alternative, cell.from, cell.to) {
+        Some(end) => score_behind(lines, scores, cell, alternative, alt, end),
+        None => None,
+    }
 }
 
 /// The best score of a cell, by the scores of its demanded children; `None` where it has no candidate. Takes no memory.
@@ -146,12 +185,12 @@ pub fn cell_score(lines: &Lines<'_>, scores: &Scores<'_>, cell: Cell) -> Option<
     bounds_are_sound();
     arguments_are_few_and_known();
     let goal = goal(problem);
+    let alternatives = lines.alternatives(cell.rule);
     let mut greatest = None;
-    for number in 0..alternatives(problem, cell.rule).len() {
-        greatest = greater(
-            greatest,
-            alternative_score(lines, scores, cell, number as u8, goal),
-        );
+    for number in 0..alternatives.len() {
+        let alternative = &alternatives[number];
+        let score = alternative_score(lines, scores, cell, alternative, number as u8);
+        greatest = greater(greatest, score);
     }
     let Some(total) = greatest else {
         return None;
@@ -177,7 +216,8 @@ pub fn gives_best(lines: &Lines<'_>, scores: &Scores<'_>, cell: Cell, alt: u8, b
     bounds_are_sound();
     arguments_are_few_and_known();
     let goal = goal(problem);
-    match alternative_score(lines, scores, cell, alt, goal) {
+    let alternative = &lines.alternatives(cell.rule)[alt as usize];
+    match alternative_score(lines, scores, cell, alternative, alt) {
         Some(total) => turned(goal, total) == best,
         None => false,
     }

@@ -1,13 +1,11 @@
 //! Values for spans of a word, side by side.
 
-ghost use Rattle.std.specs.Prelude.{◌≡◌, ◌↔◌, ℕ, ◌+◌, ◌-◌, ◌^◌, ◌<◌, ◌≤◌, IfOk, IsSome, Some, MatchOption, count_by, length, slice_get, true};
+ghost use Rattle.std.specs.Prelude.{◌≡◌, ℕ, ◌+◌, ◌-◌, ◌^◌, ◌<◌, ◌≤◌, IfOk, IsSome, Some, MatchOption, length, slice_get};
 ghost use Rattle.std.specs.List.{Contains};
-ghost use Rattle.split_lines.specs.Flags.{IsFlagged};
-ghost use Rattle.split_lines.specs.Spans.{AreLaid, AreSet, AreWritten, IsWritten, Stands, block_at, value_at};
+ghost use Rattle.split_lines.specs.Spans.{AreLaid, AreSet, IsWritten, Stands, block_at, value_at};
 
 use std::alloc::{AllocError, Global};
 use std::marker::Model;
-use std::ops::Range;
 
 /// The values of a rule and a near end: those of the far ends from `first` on and before `past` stand side by side
 /// from `place` on.
@@ -25,7 +23,7 @@ pub struct Grid<V> {
     positions: u32,
     /// Rule by rule.
     blocks: Vec<Block>,
-    values: Vec<V>,
+    pub(crate) values: Vec<V>,
 }
 
 impl<V> Model for Grid<V> {
@@ -65,7 +63,8 @@ impl<V: Copy> Grid<V> {
     }
 
     /// The block of a rule and a near end, where there is one.
-    fn block(&self, rule: u32, near: u16) -> Option<Block>
+    #[inline(always)]
+    pub(crate) fn block(&self, rule: u32, near: u16) -> Option<Block>
         ensures { MatchOption result ((far : ℕ) → Stands self.now rule near far → ⊥)
             (λ block. (near < self.now.positions) × (block ≡ block_at self.now rule near)) }
     {
@@ -77,6 +76,7 @@ impl<V: Copy> Grid<V> {
     }
 
     /// The value of a span, where it has one. Takes constant time and no memory.
+    #[inline]
     pub fn get(&self, rule: u32, near: u16, far: u16) -> Option<V>
         ensures { result ≡ value_at self.now rule near far }
     {
@@ -85,17 +85,6 @@ impl<V: Copy> Grid<V> {
             return None;
         }
         Some(self.values[block.place as usize + (far - block.first) as usize])
-    }
-
-    /// The far ends of the spans with this near end that have values. Takes constant time and no memory.
-    pub fn fars(&self, rule: u32, near: u16) -> Range<u16>
-        ensures { (far : ℕ) → IsSome (value_at self.now rule near far) ↔ ((result.start ≤ far) × (far < result.end)) }
-    {
-        let _ = &self.values;
-        match self.block(rule, near) {
-            Some(block) => block.first..block.past,
-            None => 0..0,
-        }
     }
 
     /// Gives a span that has a value another one. Takes constant time and no memory.
@@ -110,6 +99,7 @@ impl<V: Copy> Grid<V> {
 
     /// The values of the spans with this near end whose far ends lie from `first` on and before `past`. Takes constant
     /// time and no memory.
+    #[inline(always)]
     pub fn between(&self, rule: u32, near: u16, first: u16, past: u16) -> &[V]
         requires first { first < past → IsSome (value_at self.now rule near first) }
         requires last { first < past → IsSome (value_at self.now rule near (past - 1)) }
@@ -124,55 +114,6 @@ impl<V: Copy> Grid<V> {
         };
         let start = block.place as usize + (first - block.first) as usize;
         &self.values[start..start + (past - first) as usize]
-    }
-
-    /// Gives the spans with this near end whose far ends are these, each moved by `shift`, another value. Takes no
-    /// memory.
-    pub fn set_each(&mut self, rule: u32, near: u16, fars: &[u16], shift: u16, value: V)
-        requires { (far : ℕ) → Contains fars.now far → IsSome (value_at self.old rule near (far + shift)) }
-        ensures { AreWritten self.old self.new rule near
-            (λ place. (far : ℕ) × Contains fars.now far × (place ≡ far + shift)) value }
-    {
-        if let Some(block) = self.block(rule, near) {
-            let ahead = block.place as usize + shift as usize;
-            set_places(&mut self.values, fars, ahead, block.first, value);
-        }
-    }
-}
-
-impl Grid<bool> {
-    /// How many values are true. Takes no memory.
-    pub fn count(&self) -> u64
-        ensures { result ≡ count_by (λ mark. mark) self.now.values }
-    {
-        self.values.iter().filter(|mark| **mark).count() as u64
-    }
-
-    /// Makes the values of the spans with this near end true whose far ends are flagged: the flags are those of the far
-    /// ends from `first` on. Takes no memory.
-    pub fn set_flagged(&mut self, rule: u32, near: u16, first: u16, flags: &[bool])
-        requires first { 0 < length flags.now → IsSome (value_at self.old rule near first) }
-        requires last { 0 < length flags.now
-            → IsSome (value_at self.old rule near (first + length flags.now - 1)) }
-        ensures { AreWritten self.old self.new rule near (IsFlagged flags.now first) true }
-    {
-        if flags.is_empty() {
-            return;
-        }
-        if let Some(block) = self.block(rule, near) {
-            let start = block.place as usize + (first - block.first) as usize;
-            set_flagged(&mut self.values, start, flags);
-        }
-    }
-}
-
-/// Makes the values true that are flagged: the flags are those of the values from `start` on.
-fn set_flagged(values: &mut [bool], start: usize, flags: &[bool])
-    requires { start + length flags.now ≤ length values.old }
-    ensures { AreSet values.old values.new (IsFlagged flags.now start) true }
-{
-    for (number, flag) in flags.iter().enumerate() {
-        values[start + number] |= *flag;
     }
 }
 

@@ -1,10 +1,14 @@
 //! How the counted cells of a problem lie in rows and in columns.
 
-ghost use Rattle.std.specs.Prelude.{◌≡◌, ◌↔◌, ℕ, ◌+◌, ◌*◌, ◌^◌, ◌<◌, ◌≤◌, IfOk, IsTrue, Some, length, slice_get};
+ghost use Rattle.std.specs.Prelude.{◌≡◌, ◌↔◌, ℕ, ◌+◌, ◌*◌, ◌/◌, ◌^◌, ◌<◌, ◌≤◌, IfOk, IsSome, IsTrue, Some, length, slice_get};
 ghost use Rattle.adp_model.specs.Cells.{IsCounted};
 ghost use Rattle.yield_sizes.specs.CountedCells.{LeavesSpan};
-ghost use Rattle.split_lines.specs.Layout.{AreCountedBlocks, AreCountedFars};
+ghost use Rattle.split_lines.specs.Bits.{IsSet};
+ghost use Rattle.split_lines.specs.Layout.{AreCountedBlocks, AreCountedFars, cell_at};
+ghost use Rattle.split_lines.specs.Spans.{value_at};
+ghost use Rattle.split_lines.specs.WordBits.{AreWordBlocks, IsWordBlock};
 
+use crate::bits::WORD;
 use crate::grid::{Block, Grid};
 use adp_model::Problem;
 use adp_model::laws::sizes::sizes_are_the_checked_numbers;
@@ -147,4 +151,59 @@ pub fn counted_grid<V: Copy>(
     problem.admissible();
     let positions = problem.word.bytes().len() as u32 + 1;
     Grid::new(alloc, positions, blocks, count, value)
+}
+
+/// The block of the numbers that hold a bit for each far end of a block, 64 in a number, from `place` on.
+fn word_block(fars: Block, place: u32) -> Block
+    ensures place { result.place ≡ place }
+    ensures there { IsWordBlock fars result }
+{
+    if fars.first >= fars.past {
+        return Block {
+            place,
+            first: 0,
+            past: 0,
+        };
+    }
+    Block {
+        place,
+        first: fars.first / WORD,
+        past: (fars.past - 1) / WORD + 1,
+    }
+}
+
+/// Makes each block that of the numbers that hold a bit for each of its far ends, and tells how many numbers they have.
+fn lay_words(blocks: &mut [Block]) -> u32
+    requires { length blocks.old < 2 ^ 21 }
+    ensures { AreWordBlocks blocks.old result blocks.new }
+{
+    let mut place = 0;
+    for number in 0..blocks.len() {
+        let block = word_block(blocks[number], place);
+        blocks[number] = block;
+        place += u32::from(block.past - block.first);
+    }
+    place
+}
+
+/// The grid that has a number, 0, for each 64 far ends among which that of a counted cell lies. Fails for want of
+/// memory alone.
+pub fn word_grid(
+    alloc: Global,
+    problem: &Problem<'_>,
+    places: &Places<'_>,
+    side: Side,
+) -> Result<Grid<u64>, AllocError>
+    requires { places.now ≡ problem.now }
+    ensures there { IfOk result (λ grid. (rule near far : ℕ)
+        → IsCounted problem.now.grammar (length problem.now.word) (cell_at side rule near far)
+        → IsSome (value_at grid rule near (far / 64))) }
+    ensures none { IfOk result (λ grid. (rule near far : ℕ) → IsSet grid rule near far → ⊥) }
+{
+    problem.admissible();
+    numbers_fit_together();
+    let (mut blocks, _) = laid_blocks(alloc, problem, places, side)?;
+    let count = lay_words(&mut blocks);
+    let positions = problem.word.bytes().len() as u32 + 1;
+    Grid::new(alloc, positions, blocks, count, 0)
 }

@@ -5,12 +5,16 @@
 
 mod along;
 mod argument_values;
+mod bits;
 mod classes;
 mod filling;
 mod grid;
+mod kept;
 mod layout;
 mod lines;
+mod marked_spans;
 mod marking;
+mod marks;
 mod matches;
 mod numbers;
 mod packing;
@@ -26,5 +30,6 @@ pub use grid::{Block, Grid};
 pub use layout::Side;
 pub use lines::{Boundary, Line, Lines};
 pub use marking::mark_children;
+pub use marks::Marks;
 pub use scores::Scores;
 pub use table::Table;

@@ -1,9 +1,9 @@
 //! What is worked out of a problem once, for all its cells.
 
-ghost use Rattle.std.specs.Prelude.{◌≡◌, ℕ, ◌+◌, ◌-◌, ◌<◌, ◌≤◌, ◌↔◌, IfOk, IfSome, IsTrue, MatchOption, None, Some, List, ◌∷◌, drop, length, ◌==◌, if◌then◌else◌};
+ghost use Rattle.std.specs.Prelude.{◌≡◌, ℕ, ◌+◌, ◌-◌, ◌<◌, ◌≤◌, ◌↔◌, IfOk, IfSome, IsTrue, MatchOption, None, Some, List, ◌∷◌, drop, length, slice_index_or, ◌==◌, if◌then◌else◌};
 ghost use Rattle.std.specs.Bool.{OnTrue, OnFalse};
 ghost use Rattle.std.specs.Option.{option_copied};
-ghost use Rattle.std.specs.List.{All, AllByRecursion};
+ghost use Rattle.std.specs.List.{AllByRecursion};
 ghost use Rattle.adp_model.specs.declared.grammar.Arg.{Arg as Argument};
 ghost use Rattle.adp_model.specs.Parts.{alternatives_of, arguments_of, letters_of};
 ghost use Rattle.adp_model.specs.PosedProblem.{IsSpan};
@@ -11,18 +11,22 @@ ghost use Rattle.adp_model.specs.Splits.{FitsSpan, IsViable};
 ghost use Rattle.adp_model.specs.Tokens.{letters_between, total_weight};
 ghost use Rattle.adp_model.specs.Walk.{IsFirstVisited, IsNextVisited, IsLastVisited};
 ghost use Rattle.adp_model.specs.WellFormed.{IsKnown};
-ghost use Rattle.yield_sizes.specs.Placing.{ArePlaces, on_span};
+ghost use Rattle.yield_sizes.specs.Placing.{ArePlaces, Cover, on_span};
+ghost use Rattle.split_lines.specs.declared.kept.KeptAlternative.{KeptAlternative};
+ghost use Rattle.split_lines.specs.Kept.{AreInFront, IsAlternative};
 ghost use Rattle.split_lines.specs.Laid.{IsFixed, AreBoundaries};
 ghost use Rattle.split_lines.specs.Classes.{AreSums};
-ghost use Rattle.split_lines.specs.Flags.{AreFlagged};
+ghost use Rattle.split_lines.specs.Flags.{AreBitsAmong, AreFlagged};
 ghost use Rattle.split_lines.specs.Lines.{IsLine, IsLastOpen, HasLine, LeavesPlace, parts_by};
 ghost use Rattle.split_lines.specs.LinesFields.{AreMiddles, HasAllOf, IsNumberOf, IsKeptOrNone, AreKept};
 
 use crate::classes::ClassTables;
+use crate::kept::{KeptAlternative, front_end, kept_alternative};
 use crate::matches::{Matches, covers, fixed_letters};
+use crate::parts::{alternatives, arguments};
 use crate::spans::{self, starts};
 use adp_model::laws::well_formed::arguments_are_few_and_known;
-use adp_model::{Alt, Arg, Cell, Problem};
+use adp_model::{Arg, Cell, Problem};
 use std::alloc::{AllocError, Global};
 use std::marker::Model;
 use std::ops::Range;
@@ -47,11 +51,14 @@ pub struct Line<'l> {
 
 /// The boundary of a line on a span: the places at which it may stand, for each place from the first of these to the
 /// last one whether it is one of them, how many letters lie between it and the second argument, and where that one
-/// ends. Where the line can't have the span, there is no place.
+/// ends. Where the line can't have the span, there is no place. Bits tell the places too, and where the second argument
+/// begins: they are those of the whole word, 64 places in a number.
 #[derive(Clone, Copy)]
 pub struct Boundary<'l> {
     pub places: &'l [u16],
     pub flags: &'l [bool],
+    pub here: &'l [u64],
+    pub behind: &'l [u64],
     pub letters: u16,
     pub last: u16,
 }
@@ -73,6 +80,7 @@ pub struct KeptLine {
 }
 
 /// Whether the argument is a token of fixed length.
+#[inline(always)]
 pub fn is_fixed(argument: &Arg) -> bool
     ensures { IsTrue result ↔ IsFixed argument.now }
 {
@@ -178,31 +186,36 @@ fn kept_line<'a>(
     }))
 }
 
-/// The lines of the alternatives of a rule.
-fn kept_lines<'a>(
+/// The alternatives of a rule, as they are kept.
+fn kept_alternatives<'a>(
     alloc: Global,
-    tables: &ClassTables<'_>,
-    alternatives: &'a [Alt],
+    tables: &ClassTables<'a>,
+    rule: u32,
     middles: &mut Vec<Middle<'a>>,
-) -> Result<Vec<Option<KeptLine>>, AllocError>
-    requires known { All (λ alternative. AllByRecursion (IsKnown tables.now.grammar) alternative.args)
-        alternatives.now }
-    requires few { All (λ alternative. length alternative.args ≤ 4) alternatives.now }
+) -> Result<Vec<KeptAlternative<'a>>, AllocError>
+    requires rule { rule < length tables.now.grammar.rules }
     requires middles { AreMiddles tables.now middles.old.items }
     ensures middles { IfOk result (λ _. AreMiddles tables.now middles.new.items) }
-    ensures kept { IfOk result (λ _. HasAllOf middles.old.items middles.new.items) }
-    ensures lines { IfOk result
-        (λ lines. AreKept tables.now middles.new.items alternatives.now (length alternatives.now) lines.items) }
+    ensures longer { IfOk result (λ _. HasAllOf middles.old.items middles.new.items) }
+    ensures kept { IfOk result
+        (λ kept. AreKept tables.now middles.new.items rule
+        (length (alternatives_of tables.now.grammar rule)) kept.items) }
 {
-    let mut lines = Vec::with_capacity(alloc, alternatives.len())?;
-    for alternative in alternatives {
-        let line = kept_line(alloc, tables, alternative.args.as_slice(), middles)?;
-        lines.push(line)?;
+    let problem = tables.problem();
+    problem.admissible();
+    arguments_are_few_and_known();
+    let count = alternatives(problem, rule).len();
+    let mut kept = Vec::with_capacity(alloc, count)?;
+    for number in 0..count {
+        let alt = number as u8;
+        let line = kept_line(alloc, tables, arguments(problem, rule, alt), middles)?;
+        kept.push(kept_alternative(problem, rule, alt, line))?;
     }
-    Ok(lines)
+    Ok(kept)
 }
 
 /// The line, where none of the arguments comes before it.
+#[inline(always)]
 pub fn line_here<'s, 'l>(line: Option<&'s Line<'l>>, ahead: u8) -> Option<&'s Line<'l>>
     ensures { option_copied result ≡ (if ahead == 0 then option_copied line.entry else None) }
 {
@@ -215,7 +228,7 @@ pub struct Lines<'a> {
     tables: ClassTables<'a>,
     middles: Vec<Middle<'a>>,
     /// For each rule, for each of its alternatives.
-    lines: Vec<Vec<Option<KeptLine>>>,
+    alternatives: Vec<Vec<KeptAlternative<'a>>>,
 }
 
 impl<'a> Model for Lines<'a> {
@@ -232,24 +245,24 @@ impl<'a> Model for Lines<'a> {
 
 impl<'a> Lines<'a> {
     /// Works it out, in time for each alternative, and for each letter of the word once for each class and once for
-    /// each list of tokens. Memory is 20 bytes for each class and letter, and three to five for each list and letter.
+    /// each list of tokens. Memory is 20 bytes for each class and letter, three to five for each list and letter, and
+    /// about a hundred for each alternative.
     pub fn new(alloc: Global, problem: &'a Problem<'a>) -> Result<Lines<'a>, AllocError>
         ensures { IfOk result (λ lines. lines ≡ problem.now) }
     {
-        arguments_are_few_and_known();
         problem.admissible();
         let tables = ClassTables::new(alloc, problem)?;
         let mut middles = Vec::new(alloc);
-        let rules = problem.grammar.rules.as_slice();
-        let mut lines = Vec::with_capacity(alloc, rules.len())?;
-        for rule in rules {
-            let kept = kept_lines(alloc, &tables, rule.alts.as_slice(), &mut middles)?;
-            lines.push(kept)?;
+        let count = problem.grammar.rules.as_slice().len();
+        let mut alternatives = Vec::with_capacity(alloc, count)?;
+        for rule in 0..count {
+            let kept = kept_alternatives(alloc, &tables, rule as u32, &mut middles)?;
+            alternatives.push(kept)?;
         }
         Ok(Lines {
             tables,
             middles,
-            lines,
+            alternatives,
         })
     }
 
@@ -268,12 +281,62 @@ impl<'a> Lines<'a> {
             ((first between : ℕ) → HasLine (drop first (arguments_of self.now.grammar rule alt)) between → ⊥)
             (λ line. IsLine self.now (drop line.first (arguments_of self.now.grammar rule alt)) line) }
     {
-        let kept = self.lines[rule as usize][alt as usize]?;
+        let kept = self.alternatives[rule as usize][alt as usize].line?;
         Some(Line {
             first: kept.first,
             between: kept.between,
             tail: kept.tail,
             middle: &self.middles[kept.middle].matches,
+        })
+    }
+
+    /// The alternatives of a rule, as they are kept. Takes constant time and no memory.
+    #[inline]
+    pub(crate) fn alternatives(&self, rule: u32) -> &[KeptAlternative<'a>]
+        requires { rule < length self.now.grammar.rules }
+        ensures each { length result.now ≡ length (alternatives_of self.now.grammar rule) }
+        ensures are { (alternative : ℕ) (d : KeptAlternative) → alternative < length result.now
+            → IsAlternative self.now rule alternative (slice_index_or result.now alternative d) }
+    {
+        let _ = &self.tables;
+        &self.alternatives[rule as usize]
+    }
+
+    /// Where the tokens in front of an alternative end that begin at `from`, where they match there and end at `to` or
+    /// before. Takes constant time, but for the letters of literals, and no memory.
+    #[inline(always)]
+    pub(crate) fn front_end(
+        &self,
+        alternative: &KeptAlternative<'_>,
+        from: u16,
+        to: u16,
+    ) -> Option<u16>
+        requires front { AreInFront self.now alternative.now }
+        requires span { IsSpan self.now.word from to }
+        ensures { (end : ℕ) → (result ≡ Some end) ↔ ((end ≤ to) × Cover self.now alternative.now.front.now from end) }
+    {
+        self.problem().admissible();
+        let end = front_end(&self.tables, alternative, from as usize, to as usize)?;
+        Some(end as u16)
+    }
+
+    /// The line of an alternative, with the number of its first argument among those behind the tokens in front. Takes
+    /// constant time and no memory.
+    pub(crate) fn line_behind(
+        &self,
+        alternative: &KeptAlternative<'_>,
+        rule: u32,
+        alt: u8,
+    ) -> Option<Line<'_>>
+        requires in_range { alt < length (alternatives_of self.now.grammar rule) }
+        requires alternative { IsAlternative self.now rule alt alternative.now }
+        ensures { IfSome result (λ line. IsLine self.now (drop line.first alternative.now.others.now) line) }
+    {
+        alternative.line?;
+        let line = self.line(rule, alt)?;
+        Some(Line {
+            first: line.first - alternative.front.len() as u8,
+            ..line
         })
     }
 
@@ -318,6 +381,8 @@ impl<'a> Lines<'a> {
         ensures boundaries { AreBoundaries self.now (parts_by arguments.now line.entry.between) from to
             result.letters result.last result.places.now }
         ensures flags { AreFlagged result.places.now result.flags.now }
+        ensures here { AreBitsAmong result.places.now 0 result.here.now }
+        ensures behind { AreBitsAmong result.places.now result.letters result.behind.now }
     {
         self.problem().admissible();
         let range = self.range(line, arguments, from as usize, to as usize);
@@ -325,6 +390,8 @@ impl<'a> Lines<'a> {
         Boundary {
             places,
             flags: line.middle.flags_among(places),
+            here: &line.middle.here,
+            behind: &line.middle.behind,
             letters: line.middle.letters,
             last: to.saturating_sub(line.tail),
         }
@@ -346,6 +413,7 @@ impl<'a> Lines<'a> {
 
     /// Whether an argument may have the letters from `from` to `to`. Takes constant time, but for the letters of a
     /// literal, and no memory.
+    #[inline(always)]
     pub(crate) fn fits(&self, argument: &Arg, from: u16, to: u16) -> bool
         requires known { IsKnown self.now.grammar argument.now }
         requires span { IsSpan self.now.word from to }

@@ -1,14 +1,15 @@
 //! Where tokens of fixed length match.
 
-ghost use Rattle.std.specs.Prelude.{◌≡◌, ◌↔◌, ℕ, ◌+◌, ◌<◌, ◌≤◌, IfOk, IsTrue, length};
+ghost use Rattle.std.specs.Prelude.{◌≡◌, ◌↔◌, ℕ, ◌+◌, ◌^◌, ◌<◌, ◌≤◌, IfOk, IsTrue, length};
 ghost use Rattle.std.specs.List.{AllAdjacentBelow, AllByRecursion, Contains};
 ghost use Rattle.adp_model.specs.PosedProblem.{IsSpan};
 ghost use Rattle.adp_model.specs.WellFormed.{IsKnown};
 ghost use Rattle.yield_sizes.specs.Placing.{Cover};
 ghost use Rattle.split_lines.specs.Laid.{IsFixed};
-ghost use Rattle.split_lines.specs.Flags.{AreFlagged};
+ghost use Rattle.split_lines.specs.Flags.{AreBits, AreFlagged};
 ghost use Rattle.split_lines.specs.Matching.{fixed_length, HaveLetters, AreCounts, AreFlagsOf, AreMatches};
 
+use crate::bits::{WORD, set_each};
 use crate::classes::ClassTables;
 use crate::grid::set_places;
 use crate::parts::letters;
@@ -26,6 +27,10 @@ pub struct Matches {
     pub before: Vec<u16>,
     /// For each place of the word whether they match there.
     pub flags: Vec<bool>,
+    /// The same as bits, 64 places in a number.
+    pub here: Vec<u64>,
+    /// Bits of the places behind their letters.
+    pub behind: Vec<u64>,
 }
 
 /// How many letters a token of fixed length has.
@@ -81,8 +86,21 @@ fn flags_of(alloc: Global, count: usize, places: &[u16]) -> Result<Vec<bool>, Al
     Ok(flags)
 }
 
+/// Bits for so many places, of which those of these places are set, each moved by `shift`. Fails for want of memory
+/// alone.
+fn bits_of(alloc: Global, count: usize, places: &[u16], shift: u16) -> Result<Vec<u64>, AllocError>
+    requires count { count ≤ 2 ^ 16 }
+    requires within { (place : ℕ) → Contains places.now place → place + shift < count }
+    ensures { IfOk result (λ bits. AreBits places.now shift bits.items) }
+{
+    let mut bits = vec![in alloc; 0; count / WORD as usize + 1]?;
+    set_each(&mut bits, 0, 0, places, shift);
+    Ok(bits)
+}
+
 impl Matches {
-    /// Where the tokens match. Memory is three bytes for each place of the word, and two more where they match.
+    /// Where the tokens match. Memory is three bytes and two bits for each place of the word, and two bytes more where
+    /// they match.
     pub fn new(
         alloc: Global,
         tables: &ClassTables<'_>,
@@ -105,12 +123,17 @@ impl Matches {
             }
         }
         before.push(places.len() as u16)?;
+        let letters = width as u16;
         let flags = flags_of(alloc, len + 1, &places)?;
+        let here = bits_of(alloc, len + 1, &places, 0)?;
+        let behind = bits_of(alloc, len + 1, &places, letters)?;
         Ok(Matches {
-            letters: width as u16,
+            letters,
             places,
             before,
             flags,
+            here,
+            behind,
         })
     }
 

@@ -1,7 +1,8 @@
-//! Scores in few bits. A number of a width stands for a score that was turned, so that a better one is greater, or marks
-//! that there is no candidate. Sums of two such numbers have the same bits, and are lowest where one of them is the mark.
+//! Scores in few bits. A number of a width stands for a score that was turned, so that a better one is greater, or
+//! marks that there is no candidate. Sums of two such numbers have the same bits, and are lowest where one of them is
+//! the mark.
 
-ghost use Rattle.std.specs.Prelude.{◌≡◌, ◌<◌, ◌≤◌, ◌^◌, IfSome, nat_abs, unwrap_or};
+ghost use Rattle.std.specs.Prelude.{◌≡◌, ◌<◌, ◌≤◌, ◌^◌, ℤ, IfSome, nat_abs, unwrap_or};
 ghost use Rattle.split_lines.specs.Entries.{no_candidate, score_of_entry};
 ghost use Rattle.split_lines.specs.Packing.{IsProper, long, medium, short, told};
 
@@ -28,6 +29,39 @@ pub const LONG_MARK: i64 = -0x4000_0000_0000_0000;
 
 /// The greatest absolute value of a score in 64 bits that was turned.
 pub const LONG_LIMIT: i64 = 0x1000_0000_0000_0000;
+
+/// A number of a width.
+pub trait Number: Copy {
+    ghost value: { Self → ℤ };
+
+    /// The number in 64 bits.
+    fn wide(self) -> i64
+        ensures { result ≡ value self };
+}
+
+impl Number for i16 {
+    ghost value = { λ number. number };
+
+    fn wide(self) -> i64 {
+        i64::from(self)
+    }
+}
+
+impl Number for i32 {
+    ghost value = { λ number. number };
+
+    fn wide(self) -> i64 {
+        i64::from(self)
+    }
+}
+
+impl Number for i64 {
+    ghost value = { λ number. number };
+
+    fn wide(self) -> i64 {
+        self
+    }
+}
 
 /// The score that an entry tells.
 pub fn score_of(entry: i64) -> Option<i64>

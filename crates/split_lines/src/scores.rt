@@ -59,6 +59,7 @@ impl<'a> Model for Scores<'a> {
 }
 
 /// The numbers of an argument's cells with this near end, from one far end to another; none where it is a token.
+#[inline(always)]
 fn numbers_between<'s, V: Copy>(
     grid: &'s Grid<V>,
     argument: &Arg,
@@ -130,6 +131,7 @@ impl<'a> Scores<'a> {
     }
 
     /// The entries of an argument's cells with this near end, from one far end to another; none where it is a token.
+    #[inline(always)]
     pub(crate) fn entries(
         &self,
         side: Side,

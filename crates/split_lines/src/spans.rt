@@ -45,6 +45,7 @@ pub fn token_end(tables: &ClassTables<'_>, token: &Arg, from: usize, last: usize
 }
 
 /// Whether an argument may have the letters from `from` to `to`.
+#[inline(always)]
 pub fn fits(tables: &ClassTables<'_>, argument: &Arg, from: usize, to: usize) -> bool
     requires known { IsKnown tables.now.grammar argument.now }
     requires span { IsSpan tables.now.word from to }

@@ -1,32 +1,88 @@
 //! The greatest sum of numbers before and behind the places of a boundary.
 
-ghost use Rattle.std.specs.Prelude.{◌≡◌, ℕ, ◌<◌, ◌≤◌, length, if◌then◌else◌};
+ghost use Rattle.std.specs.Prelude.{◌≡◌, ℕ, pos, ◌+◌, ◌<◌, ◌≤◌, ◌⊎◌, ◌+ℤ◌, ◌*ℤ◌, IsTrue, nat_abs, length, map, if◌then◌else◌};
 ghost use Rattle.std.specs.List.{AllAdjacentBelow};
+ghost use Rattle.adp_model.specs.ProblemFields.{greatest_score};
+ghost use Rattle.split_lines.specs.Entries.{no_candidate};
 ghost use Rattle.split_lines.specs.Packing.{AreProper, long, medium, short};
 ghost use Rattle.split_lines.specs.Flags.{AreFlagged};
-ghost use Rattle.split_lines.specs.Sums.{HasFlaggedSum, HasSum, HasSumAt, HaveNumbers};
+ghost use Rattle.split_lines.specs.Sums.{AreLowSums, HasFlaggedSum, HasScaledSumAt, HasSum, HasSumAt, HaveNumbers};
 ghost use Rattle.split_lines.specs.Totals.{IsGreatestOf};
 
-use crate::packing::{LONG_LIMIT, LONG_MARK, MEDIUM_LIMIT, MEDIUM_MARK, SHORT_LIMIT, SHORT_MARK};
+use crate::packing::{
+    LONG_LIMIT, LONG_MARK, MEDIUM_LIMIT, MEDIUM_MARK, NO_CANDIDATE, Number, SHORT_LIMIT,
+    SHORT_MARK, score_of,
+};
 
 /// Where one number in so many, or fewer of them, stands at a place, these are read one by one, and else all are.
 const SPARSE: usize = 6;
 
-/// The places of a boundary behind which so many letters lie, in order. Numbers before it are those for places from
-/// `before` on, and numbers behind it are those for places from `behind` on.
+/// The places of a boundary, in order. Numbers before them and numbers behind them are those for the places from
+/// `first` on.
 #[derive(Clone, Copy)]
 pub struct Places<'l> {
     pub at: &'l [u16],
-    pub letters: u16,
-    pub before: u16,
-    pub behind: u16,
+    pub first: u16,
+}
+
+/// The factors of the numbers before the places and of those behind them.
+#[derive(Clone, Copy)]
+pub struct Scales {
+    pub before: i64,
+    pub behind: i64,
+}
+
+impl Scales {
+    /// Whether they leave numbers as they are.
+    fn are_plain(self) -> bool
+        ensures { IsTrue result → (self.before ≡ pos 1) × (self.behind ≡ pos 1) }
+    {
+        self.before == 1 && self.behind == 1
+    }
+
+    /// The sum of two numbers, each times its factor, as an entry: lowest where one of them is the mark.
+    fn sum(self, mark: i64, before: i64, behind: i64) -> i64
+        requires low { (before ≡ mark → ⊥) → (behind ≡ mark → ⊥)
+            → nat_abs (self.before *ℤ before) + nat_abs (self.behind *ℤ behind) ≤ greatest_score }
+        ensures marked { (before ≡ mark) ⊎ (behind ≡ mark) → result ≡ no_candidate }
+        ensures scored { (before ≡ mark → ⊥) → (behind ≡ mark → ⊥)
+            → result ≡ ((self.before *ℤ before) +ℤ (self.behind *ℤ behind)) }
+    {
+        if before == mark || behind == mark {
+            NO_CANDIDATE
+        } else {
+            self.before * before + self.behind * behind
+        }
+    }
+}
+
+/// The greatest sum of numbers at the places, each times its factor.
+fn greatest_scaled<N: Number>(
+    first: &[N],
+    second: &[N],
+    mark: i64,
+    places: Places<'_>,
+    scales: Scales,
+) -> Option<i64>
+    requires have { HaveNumbers places (map N.value first.now) (map N.value second.now) }
+    requires low { AreLowSums mark scales places (map N.value first.now) (map N.value second.now) }
+    ensures { IsGreatestOf (HasScaledSumAt mark scales places.entry (map N.value first.now) (map N.value second.now))
+        result }
+{
+    let mut greatest = NO_CANDIDATE;
+    for place in places.at {
+        let number = *place as usize - places.first as usize;
+        let (before, behind) = (first[number].wide(), second[number].wide());
+        greatest = greatest.max(scales.sum(mark, before, behind));
+    }
+    score_of(greatest)
 }
 
 /// The greatest sum of numbers of 16 bits side by side.
 fn greatest_aligned_short(first: &[i16], second: &[i16]) -> Option<i64>
     requires first { AreProper short first.now }
     requires second { AreProper short second.now }
-    ensures { IsGreatestOf (λ sum. (k : ℕ) × HasSum short first.now second.now k k sum) result }
+    ensures { IsGreatestOf (λ sum. (k : ℕ) × HasSum short first.now second.now k sum) result }
 {
     let mut greatest = SHORT_MARK;
     for (a, b) in first.iter().zip(second) {
@@ -48,9 +104,8 @@ fn greatest_scattered_short(first: &[i16], second: &[i16], places: Places<'_>) -
 {
     let mut greatest = SHORT_MARK;
     for place in places.at {
-        let a = first[(*place - places.before) as usize];
-        let b = second[*place as usize + places.letters as usize - places.behind as usize];
-        greatest = greatest.max(a + b);
+        let number = *place as usize - places.first as usize;
+        greatest = greatest.max(first[number] + second[number]);
     }
     if greatest < -2 * SHORT_LIMIT {
         None
@@ -85,21 +140,26 @@ fn greatest_flagged_short(first: &[i16], second: &[i16], flags: &[bool]) -> Opti
     }
 }
 
-/// The greatest sum of numbers of 16 bits before and behind the places, which are flagged too, from the first of them to
-/// the last one.
+/// The greatest sum of numbers of 16 bits before and behind the places, each times its factor. The places are flagged
+/// too, from the first of them to the last one.
 pub fn greatest_short(
     first: &[i16],
     second: &[i16],
     places: Places<'_>,
     flags: &[bool],
+    scales: Scales,
 ) -> Option<i64>
     requires first { AreProper short first.now }
     requires second { AreProper short second.now }
     requires have { HaveNumbers places first.now second.now }
     requires rising { AllAdjacentBelow (λ (a b : ℕ). a < b) places.at.now (length places.at.now) }
     requires flags { AreFlagged places.at.now flags.now }
-    ensures { IsGreatestOf (HasSumAt short places.entry first.now second.now) result }
+    requires low { AreLowSums short.mark scales places first.now second.now }
+    ensures { IsGreatestOf (HasScaledSumAt short.mark scales places.entry first.now second.now) result }
 {
+    if !scales.are_plain() {
+        return greatest_scaled(first, second, i64::from(SHORT_MARK), places, scales);
+    }
     let (count, span) = (places.at.len(), flags.len());
     if first.len() != span || second.len() != span || span / SPARSE >= count {
         greatest_scattered_short(first, second, places)
@@ -114,7 +174,7 @@ pub fn greatest_short(
 fn greatest_aligned_medium(first: &[i32], second: &[i32]) -> Option<i64>
     requires first { AreProper medium first.now }
     requires second { AreProper medium second.now }
-    ensures { IsGreatestOf (λ sum. (k : ℕ) × HasSum medium first.now second.now k k sum) result }
+    ensures { IsGreatestOf (λ sum. (k : ℕ) × HasSum medium first.now second.now k sum) result }
 {
     let mut greatest = MEDIUM_MARK;
     for (a, b) in first.iter().zip(second) {
@@ -136,9 +196,8 @@ fn greatest_scattered_medium(first: &[i32], second: &[i32], places: Places<'_>) 
 {
     let mut greatest = MEDIUM_MARK;
     for place in places.at {
-        let a = first[(*place - places.before) as usize];
-        let b = second[*place as usize + places.letters as usize - places.behind as usize];
-        greatest = greatest.max(a + b);
+        let number = *place as usize - places.first as usize;
+        greatest = greatest.max(first[number] + second[number]);
     }
     if greatest < -2 * MEDIUM_LIMIT {
         None
@@ -147,14 +206,23 @@ fn greatest_scattered_medium(first: &[i32], second: &[i32], places: Places<'_>) 
     }
 }
 
-/// The greatest sum of numbers of 32 bits before and behind the places.
-pub fn greatest_medium(first: &[i32], second: &[i32], places: Places<'_>) -> Option<i64>
+/// The greatest sum of numbers of 32 bits before and behind the places, each times its factor.
+pub fn greatest_medium(
+    first: &[i32],
+    second: &[i32],
+    places: Places<'_>,
+    scales: Scales,
+) -> Option<i64>
     requires first { AreProper medium first.now }
     requires second { AreProper medium second.now }
     requires have { HaveNumbers places first.now second.now }
     requires rising { AllAdjacentBelow (λ (a b : ℕ). a < b) places.at.now (length places.at.now) }
-    ensures { IsGreatestOf (HasSumAt medium places.entry first.now second.now) result }
+    requires low { AreLowSums medium.mark scales places first.now second.now }
+    ensures { IsGreatestOf (HasScaledSumAt medium.mark scales places.entry first.now second.now) result }
 {
+    if !scales.are_plain() {
+        return greatest_scaled(first, second, i64::from(MEDIUM_MARK), places, scales);
+    }
     if first.len() == places.at.len() && second.len() == places.at.len() {
         greatest_aligned_medium(first, second)
     } else {
@@ -166,7 +234,7 @@ pub fn greatest_medium(first: &[i32], second: &[i32], places: Places<'_>) -> Opt
 fn greatest_aligned_long(first: &[i64], second: &[i64]) -> Option<i64>
     requires first { AreProper long first.now }
     requires second { AreProper long second.now }
-    ensures { IsGreatestOf (λ sum. (k : ℕ) × HasSum long first.now second.now k k sum) result }
+    ensures { IsGreatestOf (λ sum. (k : ℕ) × HasSum long first.now second.now k sum) result }
 {
     let mut greatest = LONG_MARK;
     for (a, b) in first.iter().zip(second) {
@@ -188,9 +256,8 @@ fn greatest_scattered_long(first: &[i64], second: &[i64], places: Places<'_>) ->
 {
     let mut greatest = LONG_MARK;
     for place in places.at {
-        let a = first[(*place - places.before) as usize];
-        let b = second[*place as usize + places.letters as usize - places.behind as usize];
-        greatest = greatest.max(a + b);
+        let number = *place as usize - places.first as usize;
+        greatest = greatest.max(first[number] + second[number]);
     }
     if greatest < -2 * LONG_LIMIT {
         None
@@ -199,14 +266,23 @@ fn greatest_scattered_long(first: &[i64], second: &[i64], places: Places<'_>) ->
     }
 }
 
-/// The greatest sum of numbers of 64 bits before and behind the places.
-pub fn greatest_long(first: &[i64], second: &[i64], places: Places<'_>) -> Option<i64>
+/// The greatest sum of numbers of 64 bits before and behind the places, each times its factor.
+pub fn greatest_long(
+    first: &[i64],
+    second: &[i64],
+    places: Places<'_>,
+    scales: Scales,
+) -> Option<i64>
     requires first { AreProper long first.now }
     requires second { AreProper long second.now }
     requires have { HaveNumbers places first.now second.now }
     requires rising { AllAdjacentBelow (λ (a b : ℕ). a < b) places.at.now (length places.at.now) }
-    ensures { IsGreatestOf (HasSumAt long places.entry first.now second.now) result }
+    requires low { AreLowSums long.mark scales places first.now second.now }
+    ensures { IsGreatestOf (HasScaledSumAt long.mark scales places.entry first.now second.now) result }
 {
+    if !scales.are_plain() {
+        return greatest_scaled(first, second, LONG_MARK, places, scales);
+    }
     if first.len() == places.at.len() && second.len() == places.at.len() {
         greatest_aligned_long(first, second)
     } else {

@@ -1,11 +1,11 @@
 -- The places at which an argument may end.
-use Rattle.std.proofs.Common.{◌≡◌, ℕ, ◌+◌, ◌-◌, ◌≤◌, ◌↔◌, Option, Some, IfSome, Bool, true, false, List, ◌++◌, length, take, drop, refl, sym, ap, subst, ◌∙◌, arith, eqb, length-take, length-drop, length-append}
+use Rattle.std.proofs.Common.{◌≡◌, ℕ, ◌+◌, ◌-◌, ◌≤◌, ◌↔◌, Option, IfSome, Bool, true, false, List, ◌++◌, length, take, drop, refl, sym, ap, subst, ◌∙◌, arith, eqb, length-take, length-drop, length-append}
 use Rattle.std.specs.List.{AllByRecursion, starts_with}
 use Rattle.std.proofs.lemmas.List.{take-take, take_at, take-append-drop}
 use Rattle.std.proofs.lemmas.Bool.{false≢true}
 use Rattle.std.proofs.lemmas.Bool.Decides.{Decides-eqb}
 use Rattle.std.proofs.lemmas.Slice.Eq.{starts_is}
-use Rattle.adp_model.specs.declared.grammar.Arg.TheVariants.{Rule, Literal, Letter, Run}
+use Rattle.adp_model.specs.declared.grammar.Arg.TheVariants.{Rule, Literal, Run}
 use Rattle.adp_model.specs.PosedProblem.{PosedProblem, IsSpan}
 use Rattle.adp_model.specs.Parts.{letters_of}
 use Rattle.adp_model.specs.Sizes.{IsWithinSizes}
@@ -84,18 +84,6 @@ run_ends_at p class low from last most end high span after within exact class_en
       );
       behind = omega arith;
       up_to_last = omega arith;
-    }
-
--- a letter is a run of one
-pub letter_ends_at : (p : PosedProblem) (class from last start end : ℕ) → AreEnds p (Run class 1 (Some 1)) from last (record { start = start; end = end }) → AreEnds p (Letter class) from last (record { start = start; end = end })
-letter_ends_at p class from last start end ends =
-    record {
-      exact = λ to before. (
-        λ fits. (ends.exact to before).0 (fits.0, (omega (arith, fits.1.0), omega (arith, fits.1.0), fits.1.1)),
-        λ between. let fits = (ends.exact to before).1 between in (fits.0, (omega (arith, fits.1.0, fits.1.1), fits.1.2)),
-      );
-      behind = ends.behind;
-      up_to_last = ends.up_to_last;
     }
 
 -- a literal may end at one place, if it stands there

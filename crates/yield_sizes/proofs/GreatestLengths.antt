@@ -362,12 +362,6 @@ greatest_found grammar known named lengths all rule l = go (get_or known rule No
     go None e = never_known grammar known named all rule l e
     go (Some size) e = lengths.have rule size e
 
-pub nothing_found : (grammar : Grammar) (known : List (Option ℕ)) → length known ≡ length grammar.rules → ((rule : ℕ) → get_or known rule None ≡ None) → AreGreatestLengths grammar known
-nothing_found grammar known long none = record {
-  each = long;
-  have = λ rule size e. let nothing = none rule in absurd (cc);
-}
-
 -- ---- a round over the rules
 
 -- a round from the old lengths, past the first rules
@@ -376,14 +370,6 @@ pub record IsExtension (grammar : Grammar) (old known : List (Option ℕ)) (coun
   pub less : found ≡ true → unknown_left known < unknown_left old
   pub same : found ≡ false → known ≡ old
   pub none : found ≡ false → (rule : ℕ) → rule < count → get_or known rule None ≡ None → rule_greatest known (alternatives_of grammar rule) ≡ None
-
-pub extension_begins : (grammar : Grammar) (old : List (Option ℕ)) → AreGreatestLengths grammar old → IsExtension grammar old old 0 false
-extension_begins grammar old lengths = record {
-  lengths = lengths;
-  less = λ e. absurd (cc);
-  same = λ e. refl;
-  none = λ e rule l. absurd (omega arith);
-}
 
 -- a rule that is known, or of which nothing is found
 pub extension_same : (grammar : Grammar) (old known : List (Option ℕ)) (count : ℕ) (found : Bool) → IsExtension grammar old known count found → (get_or known count None ≡ None → rule_greatest known (alternatives_of grammar count) ≡ None) → IsExtension grammar old known (count + 1) found
@@ -410,6 +396,3 @@ extension_more grammar old known count size found in_order productive extension 
       same = λ e. absurd (cc);
       none = λ e rule k. absurd (cc);
     }
-
-pub extension_ends : (grammar : Grammar) (old known : List (Option ℕ)) (count : ℕ) (found : Bool) → IsExtension grammar old known count found → length grammar.rules ≤ count → found ≡ false → AreAllKnown grammar known
-extension_ends grammar old known count found extension l e = record { all = λ rule k. extension.none e rule (omega arith) }

@@ -318,14 +318,6 @@ pub record IsRound (grammar : Grammar) (most : ℕ) (old known : List (Option �
   pub same : fell ≡ false → known ≡ old
   pub none : fell ≡ false → (rule : ℕ) → rule < count → lesser (get_or known rule None) (rule_least most known (alternatives_of grammar rule)) ≡ get_or known rule None
 
-pub round_begins : (grammar : Grammar) (most : ℕ) (old : List (Option ℕ)) → AreLengths grammar most old → IsRound grammar most old old 0 false
-round_begins grammar most old lengths = record {
-  lengths = lengths;
-  less = λ e. absurd (cc);
-  same = λ e. refl;
-  none = λ e rule l. absurd (omega arith);
-}
-
 pub round_same : (grammar : Grammar) (most : ℕ) (old known : List (Option ℕ)) (count : ℕ) (fell : Bool) → IsRound grammar most old known count fell → lesser (get_or known count None) (rule_least most known (alternatives_of grammar count)) ≡ get_or known count None → IsRound grammar most old known (count + 1) fell
 round_same grammar most old known count fell round here = record {
   lengths = round.lengths;
@@ -355,9 +347,6 @@ round_fell grammar most old known count fell in_order round l differs =
             none = λ e rule k. absurd (cc);
           })
     ]
-
-pub round_ends : (grammar : Grammar) (most : ℕ) (old known : List (Option ℕ)) (count : ℕ) (fell : Bool) → IsRound grammar most old known count fell → length grammar.rules ≤ count → fell ≡ false → AreLeast grammar most known
-round_ends grammar most old known count fell round l e = record { least = λ rule k. round.none e rule (omega arith) }
 
 -- ---- what the lengths tell
 

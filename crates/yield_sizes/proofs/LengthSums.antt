@@ -1,28 +1,9 @@
 -- How many letters arguments may have, and the places that this leaves to the one before them.
-use Rattle.std.proofs.Common.{◌≡◌, ℕ, ◌+◌, ◌-◌, ◌≤◌, min, max, List, [], ◌∷◌, length, refl, subst, arith}
+use Rattle.std.proofs.Common.{◌≡◌, ℕ, ◌+◌, ◌-◌, ◌≤◌, min, max, List, [], ◌∷◌, refl, arith}
 use Rattle.adp_model.specs.declared.grammar.Arg.{Arg}
 use Rattle.adp_model.specs.PosedProblem.{PosedProblem}
-use Rattle.adp_model.specs.Splits.{FitsSpan}
-use Rattle.yield_sizes.specs.Placing.{on_span, AreLengths, AreEnds, ArePlaces}
+use Rattle.yield_sizes.specs.Placing.{AreLengths, AreEnds, ArePlaces}
 use Rattle.yield_sizes.proofs.Dividing.{cover_forward}
-
--- one argument whose spans have these lengths
-pub one_length : (p : PosedProblem) (argument : Arg) (most least greatest kept_least kept_greatest : ℕ) → ((from to : ℕ) → to - from ≤ most → FitsSpan p (on_span argument from to) → (least ≤ to - from) × (to - from ≤ greatest)) → kept_least ≡ min least (most + 1) → kept_greatest ≡ min greatest most → AreLengths p (argument ∷ []) most kept_least kept_greatest
-one_length p argument most least greatest kept_least kept_greatest bounds least_is greatest_is =
-    record {
-      bounds = λ from to short h.
-          let fits : FitsSpan p (on_span argument from to) = subst (λ c. FitsSpan p (on_span argument from c)) h.2 h.1 in
-          let b = bounds from to short fits in
-          (omega (arith, b.0), omega (arith, b.1));
-      least_kept = omega arith;
-      greatest_kept = omega arith;
-    }
-
--- no argument
-pub no_length : (p : PosedProblem) (arguments : List Arg) (most : ℕ) → length arguments ≡ 0 → AreLengths p arguments most 0 0
-no_length p [] most l =
-    record { bounds = λ from to short h. (omega arith, omega arith); least_kept = omega arith; greatest_kept = omega arith }
-no_length p (argument ∷ arguments) most l = absurd (omega arith)
 
 -- one more before others
 pub more_lengths : (p : PosedProblem) (argument : Arg) (arguments : List Arg) (most least greatest others_least others_greatest : ℕ) → AreLengths p (argument ∷ []) most least greatest → AreLengths p arguments most others_least others_greatest → AreLengths p (argument ∷ arguments) most (least + others_least) (greatest + others_greatest)

@@ -11,6 +11,7 @@ use adp_model::{Arg, Problem};
 use std::ops::Range;
 
 /// The last place up to `last` where a span from `from` on may end that has at most so many letters.
+#[inline(always)]
 fn last_end(from: usize, last: usize, most: Option<u32>) -> usize
     requires in_order { from ≤ last }
     requires short { last < 2 ^ 16 }
@@ -25,6 +26,7 @@ fn last_end(from: usize, last: usize, most: Option<u32>) -> usize
 }
 
 /// Where the rule may end.
+#[inline(always)]
 fn rule_ends(problem: &Problem<'_>, rule: u32, from: usize, last: usize) -> Range<usize>
     requires known { rule < length problem.now.grammar.rules }
     requires span { IsSpan problem.now.word from last }
@@ -49,6 +51,7 @@ fn begins_with(letters: &[u8], text: &[u8]) -> bool
 }
 
 /// Where the literal may end.
+#[inline(never)]
 fn literal_ends(problem: &Problem<'_>, text: &[u8], from: usize, last: usize) -> Range<usize>
     requires span { IsSpan problem.now.word from last }
     requires short { last < 2 ^ 16 }
@@ -62,6 +65,7 @@ fn literal_ends(problem: &Problem<'_>, text: &[u8], from: usize, last: usize) ->
 }
 
 /// Where a run of letters of the class may end.
+#[inline(never)]
 fn run_ends<M: Matcher>(
     matcher: &M,
     class: u32,
@@ -80,6 +84,7 @@ fn run_ends<M: Matcher>(
 }
 
 /// Where an argument that begins at `from` may end, up to `last`. Takes no memory.
+#[inline(always)]
 pub fn argument_ends<M: Matcher>(
     matcher: &M,
     argument: &Arg,

@@ -25,8 +25,8 @@ pub trait Matcher {
         requires span { IsSpan (posed self.now).word from last }
         ensures { IsClassEnd (posed self.now) class from last result };
 
-    /// A place from `start` on and before `end`, such that the arguments of an alternative from this number on may begin
-    /// at no place before it; `None` only where they may begin at none of these places. Takes no memory.
+    /// A place from `start` on and before `end`, such that the arguments of an alternative from this number on may
+    /// begin at no place before it; `None` only where they may begin at none of these places. Takes no memory.
     fn next_place(
         &self,
         rule: u32,

@@ -39,6 +39,7 @@ pub fn arguments<'a>(problem: &Problem<'a>, rule: u32, alt: u8) -> &'a [Arg]
 }
 
 /// The least and the greatest size of a rule.
+#[inline(always)]
 pub fn rule_sizes(problem: &Problem<'_>, rule: u32) -> (u32, Option<u32>)
     requires { rule < length problem.now.grammar.rules }
     ensures { (len : ℕ) → IsWithinSizes problem.now.grammar rule len

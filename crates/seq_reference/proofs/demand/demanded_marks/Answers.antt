@@ -2,7 +2,7 @@ use Rattle.std.proofs.Common.{◌≡◌, length, ap, subst, ◌∙◌, arith}
 use Rattle.adp_model.specs.declared.cell.Cell.{Cell}
 use Rattle.adp_model.specs.PosedProblem.{PosedProblem}
 use Rattle.adp_model.specs.Demand.{IsDemanded}
-use Rattle.seq_reference.proofs.Sweeps.{Counted, all_marked, all_in_rows}
+use Rattle.seq_reference.proofs.Sweeps.{Counted, all_in_rows}
 use Rattle.seq_reference.proofs.demand.demanded_marks.Goals as goal
 use Rattle.seq_reference.proofs.demand.demanded_marks.Goals.{After-bytes}
 
@@ -13,11 +13,6 @@ counted c =
 
 letters : (c : After-bytes) → length c.bytes.result.now ≡ length c.args.lines.now.word
 letters c = ap length c.bytes.ensures.bytes ∙ ap (λ (q : PosedProblem). length q.word) (c.problem.view_is ∙ c.problem-problem.ensures)
-
-pub returns-clause-marked : goal.returns-clause-marked
-returns-clause-marked c =
-    let before = (goal.at.returns-clause-marked c).After-bytes in
-    all_marked c.args.lines.now (counted before) c.loop-from.marks c.loop-from.from (omega (arith, letters before, c.loop-from-test.false)) c.loop-from.invariant
 
 pub returns-clause-rows : goal.returns-clause-rows
 returns-clause-rows c =

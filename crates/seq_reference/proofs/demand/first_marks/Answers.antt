@@ -1,10 +1,10 @@
-use Rattle.std.proofs.Common.{◌≡◌, false, Some, length, sym, ap, subst, ◌∙◌}
+use Rattle.std.proofs.Common.{◌≡◌, length, sym, ap, subst, ◌∙◌}
 use Rattle.std.proofs.lemmas.Bool.{false≢true}
 use Rattle.adp_model.specs.declared.cell.Cell.{Cell}
 use Rattle.adp_model.specs.PosedProblem.{PosedProblem, axiom_cell}
 use Rattle.adp_model.specs.Demand.{IsDemanded}
-use Rattle.split_lines.specs.Entries.{IsMarked, AreMarkedToo, in_row, in_column}
-use Rattle.seq_reference.proofs.Sweeps.{Counted, none_marked, swept_nothing, swept_root}
+use Rattle.split_lines.specs.Marks.{IsMarked, AreMarkedToo}
+use Rattle.seq_reference.proofs.Sweeps.{Counted, swept_nothing, swept_root}
 use Rattle.seq_reference.proofs.demand.first_marks.Goals as goal
 use Rattle.seq_reference.proofs.demand.first_marks.Goals.{After-bytes}
 
@@ -20,11 +20,7 @@ same_problem : (c : After-bytes) → c.in_ok-marks.marks.problem ≡ c.args.line
 same_problem c = c.in_ok-marks.ensures.problem ∙ c.problem-problem.ensures
 
 unmarked : (c : After-bytes) → (cell : Cell) → IsMarked c.in_ok-marks.marks cell → ⊥
-unmarked c =
-    let marks = c.in_ok-marks.marks in
-    let R : PosedProblem → Type 0 = λ p. (cell : Cell) → Counted p cell → in_row marks cell ≡ Some false in
-    let K : PosedProblem → Type 0 = λ p. (cell : Cell) → Counted p cell → in_column marks cell ≡ Some false in
-    none_marked marks c.cells.ensures (subst R (sym c.in_ok-marks.ensures.problem) c.in_ok-marks.ensures.rows) (subst K (sym c.in_ok-marks.ensures.problem) c.in_ok-marks.ensures.columns)
+unmarked c = c.in_ok-marks.ensures.none
 
 pub returns-then-not-counts : goal.returns-then-not-counts
 returns-then-not-counts c =

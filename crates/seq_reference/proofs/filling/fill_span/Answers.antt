@@ -7,7 +7,7 @@ use Rattle.adp_model.specs.Answers.{IsAnswer}
 use Rattle.adp_model.specs.Bellman.{HasBestScore}
 use Rattle.adp_model.specs.Demand.{IsDemandedChild, IsBelow, IsDemanded, Child}
 use Rattle.split_lines.specs.Entries.{Table}
-use Rattle.seq_reference.specs.Filling.{AreFilled, IsFilledBefore, IsFilledBeforeRule}
+use Rattle.seq_reference.specs.Filling.{AreFilled, AreKept, IsFilledBeforeRule, IsShorterWithin, IsWithin}
 use Rattle.seq_reference.proofs.Sweeps.{Counted, visited}
 use Rattle.seq_reference.proofs.Fills.{filled_fewer, filled_past, filled_kept, fill_cases, child_before, none_filled, all_filled}
 use Rattle.seq_reference.proofs.filling.fill_span.Goals as goal
@@ -30,8 +30,11 @@ pub loop-rule-init : goal.loop-rule-init
 loop-rule-init c =
     let p = c.args.lines.now in
     let before = (goal.at.loop-rule-init c).After-demanded_children_are_below in
-    filled_fewer p (counted before) c.args.scores.now (IsFilledBefore c.args.from c.args.to) (IsFilledBeforeRule c.args.rules.now c.args.from c.args.to 0)
-    (λ cell _. none_filled p c.args.rules.now c.args.from c.args.to cell) c.requires.filled
+    record {
+      filled = filled_fewer p (counted before) c.args.scores.now (IsShorterWithin c.args.from c.args.to) (IsFilledBeforeRule c.args.rules.now c.args.from c.args.to 0)
+          (λ cell _. none_filled p c.args.rules.now c.args.from c.args.to cell) c.requires.filled;
+      kept = λ cell entry. entry;
+    }
 
 pub cell_score-score-requires-clause-rule : goal.cell_score-score-requires-clause-rule
 cell_score-score-requires-clause-rule c =
@@ -54,7 +57,7 @@ cell_score-score-requires-clause-scored c = λ child is.
     let before = (goal.at.cell_score-score-requires-clause-scored c).After-demanded_children_are_below in
     let cell = visited c.args.lines.now c.args.rules.now c.args.from c.args.to (get_or c.args.rules.now c.loop-rule.rule-index 0) in
     let demanded = Child cell child ((c.requires.marked cell).0 (c.if-is_marked_in_row.ensures.0 refl)) is in
-    c.loop-rule.invariant.entries child demanded
+    c.loop-rule.invariant.filled.entries child demanded
     (child_before p rules c.args.from c.args.to number (get_or rules number 0) refl c.loop-rule-test.true c.requires.ranked c.admissible.ensures.ranks (below before) child (counted before child demanded) is)
 
 pub keep-requires-clause-counted : goal.keep-requires-clause-counted
@@ -62,13 +65,13 @@ keep-requires-clause-counted c =
     let before = (goal.at.keep-requires-clause-counted c).After-demanded_children_are_below in
     let cell = visited c.args.lines.now c.args.rules.now c.args.from c.args.to (get_or c.args.rules.now c.loop-rule.rule-index 0) in
     let C : PosedProblem → Type 0 = λ q. Counted q cell in
-    subst C (sym c.loop-rule.invariant.problem) (counted before cell ((c.requires.marked cell).0 (c.if-is_marked_in_row.ensures.0 refl)))
+    subst C (sym c.loop-rule.invariant.filled.problem) (counted before cell ((c.requires.marked cell).0 (c.if-is_marked_in_row.ensures.0 refl)))
 
 pub keep-requires-clause-right : goal.keep-requires-clause-right
 keep-requires-clause-right c =
     let cell = visited c.args.lines.now c.args.rules.now c.args.from c.args.to (get_or c.args.rules.now c.loop-rule.rule-index 0) in
     let R : PosedProblem → Type 0 = λ q. MatchOption c.cell_score-score.result (IsAnswer q cell NoCandidate) (HasBestScore q cell) in
-    subst R (sym c.loop-rule.invariant.problem) c.cell_score-score.ensures
+    subst R (sym c.loop-rule.invariant.filled.problem) c.cell_score-score.ensures
 
 pub loop-rule-preserved : goal.loop-rule-preserved
 loop-rule-preserved c =
@@ -80,21 +83,28 @@ loop-rule-preserved c =
     let before = (goal.at.loop-rule-preserved c).After-demanded_children_are_below in
     let rule = get_or rules number 0 in
     let cell = visited p rules from to rule in
-    let F : Table ℤ → Type 0 = λ scores. AreFilled p scores (IsFilledBeforeRule rules from to (number + 1)) in
+    let F : Table ℤ → Type 0 = λ scores. record {
+      filled : AreFilled p scores (IsFilledBeforeRule rules from to (number + 1));
+      kept : AreKept c.args.scores.now scores;
+    } in
     elim c.if-is_marked_in_row.branch [
       | then-is_marked_in_row w ↦
-          subst F (sym w.scores-is)
-          (filled_kept p (counted before) cell c.loop-rule.scores w.keep.new.self (IsFilledBeforeRule rules from to number) (IsFilledBeforeRule rules from to (number + 1))
-          c.loop-rule.invariant w.keep.ensures.problem w.keep.ensures.kept w.keep.ensures.others (fill_cases p rules from to number rule refl))
+          subst F (sym w.scores-is) (record {
+            filled = filled_kept p (counted before) cell c.loop-rule.scores w.keep.new.self (IsFilledBeforeRule rules from to number) (IsFilledBeforeRule rules from to (number + 1))
+                c.loop-rule.invariant.filled w.keep.ensures.problem w.keep.ensures.kept w.keep.ensures.others (fill_cases p rules from to number rule refl);
+            kept = λ other entry. w.keep.ensures.others other (c.loop-rule.invariant.kept other entry);
+          })
       | else-is_marked_in_row w ↦
-          subst F (sym w.scores-is)
-          (filled_past p (counted before) cell c.loop-rule.scores (IsFilledBeforeRule rules from to number) (IsFilledBeforeRule rules from to (number + 1))
-          c.loop-rule.invariant (λ demanded. let yes = c.is_marked_in_row.ensures.1 ((c.requires.marked cell).1 demanded) in let no = w.if-is_marked_in_row.false in absurd cc) (fill_cases p rules from to number rule refl))
+          subst F (sym w.scores-is) (record {
+            filled = filled_past p (counted before) cell c.loop-rule.scores (IsFilledBeforeRule rules from to number) (IsFilledBeforeRule rules from to (number + 1))
+                c.loop-rule.invariant.filled (λ demanded. let yes = c.is_marked_in_row.ensures.1 ((c.requires.marked cell).1 demanded) in let no = w.if-is_marked_in_row.false in absurd cc) (fill_cases p rules from to number rule refl);
+            kept = c.loop-rule.invariant.kept;
+          })
     ]
 
-pub returns : goal.returns
-returns c =
+pub returns-clause-filled : goal.returns-clause-filled
+returns-clause-filled c =
     let p = c.args.lines.now in
-    let before = (goal.at.returns c).After-demanded_children_are_below in
-    filled_fewer p (counted before) c.loop-rule.scores (IsFilledBeforeRule c.args.rules.now c.args.from c.args.to c.loop-rule.rule-index) (IsFilledBefore c.args.from (c.args.to + 1))
-    (all_filled p c.args.rules.now c.args.from c.args.to c.requires.ranked c.loop-rule.rule-index (omega (arith, c.loop-rule-test.false))) c.loop-rule.invariant
+    let before = (goal.at.returns-clause-filled c).After-demanded_children_are_below in
+    filled_fewer p (counted before) c.loop-rule.scores (IsFilledBeforeRule c.args.rules.now c.args.from c.args.to c.loop-rule.rule-index) (IsWithin c.args.from c.args.to)
+    (all_filled p c.args.rules.now c.args.from c.args.to c.requires.ranked c.loop-rule.rule-index (omega (arith, c.loop-rule-test.false))) c.loop-rule.invariant.filled

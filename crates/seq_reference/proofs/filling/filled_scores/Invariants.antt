@@ -1,5 +1,7 @@
+use Rattle.std.proofs.Common.{◌*◌}
+use Rattle.seq_reference.specs.declared.filling.TheConstants.{BLOCK}
 use Rattle.seq_reference.specs.Filling.{AreFilled, IsFromStart}
 use Rattle.seq_reference.proofs.filling.filled_scores.Given as goal
 
-abbrev pub invariant-loop-from : goal.invariant-loop-from
-invariant-loop-from l = AreFilled l.lines l.scores (IsFromStart l.from)
+abbrev pub invariant-loop-block : goal.invariant-loop-block
+invariant-loop-block l = AreFilled l.lines l.scores (IsFromStart (l.block * BLOCK))

@@ -1,5 +1,5 @@
 use Rattle.adp_model.specs.Bellman.{HasBestScore}
-use Rattle.split_lines.proofs.PlainTotals.{worthless_total}
+use Rattle.split_lines.proofs.ScaledTotals.{worthless_total}
 use Rattle.split_lines.proofs.along.between_total.Goals as goal
 
 pub returns-else-weigh : goal.returns-else-weigh

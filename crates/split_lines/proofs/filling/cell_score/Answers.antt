@@ -14,13 +14,13 @@ use Rattle.split_lines.proofs.Scoring.{HasScoreBefore, score_found}
 use Rattle.split_lines.proofs.Formed.{fits, alternatives_few}
 use Rattle.split_lines.proofs.Alternatives.{score_low}
 use Rattle.split_lines.proofs.filling.cell_score.Goals as goal
-use Rattle.split_lines.proofs.filling.cell_score.Goals.{After-goal-goal, After-alternatives-number-end}
+use Rattle.split_lines.proofs.filling.cell_score.Goals.{After-goal-goal, After-alternatives-alternatives}
 
 admissible : (c : After-goal-goal) → IsAdmissible c.args.lines.now
 admissible c = let A : PosedProblem → Type 0 = IsAdmissible in subst A c.problem-problem.ensures c.admissible.ensures
 
-count_is : (c : After-alternatives-number-end) → length c.alternatives-number-end.result.now ≡ length (alternatives_of c.args.lines.now.grammar c.args.cell.rule)
-count_is c = ap length (c.alternatives-number-end.ensures ∙ ap (λ (p : PosedProblem). alternatives_of p.grammar c.args.cell.rule) c.problem-problem.ensures)
+count_is : (c : After-alternatives-alternatives) → length c.alternatives-alternatives.result.now ≡ length (alternatives_of c.args.lines.now.grammar c.args.cell.rule)
+count_is c = c.alternatives-alternatives.ensures.each
 
 goal_is : (c : After-goal-goal) → c.goal-goal.result ≡ (algebra_of c.args.lines.now).goal
 goal_is c = c.goal-goal.ensures ∙ ap (λ (p : PosedProblem). (algebra_of p).goal) c.problem-problem.ensures
@@ -28,13 +28,13 @@ goal_is c = c.goal-goal.ensures ∙ ap (λ (p : PosedProblem). (algebra_of p).go
 pub overflow_cast-number : goal.overflow_cast-number
 overflow_cast-number c =
     let at = (goal.at.overflow_cast-number c).After-goal-goal in
-    let at' = (goal.at.overflow_cast-number c).After-alternatives-number-end in
+    let at' = (goal.at.overflow_cast-number c).After-alternatives-alternatives in
     let few = alternatives_few c.args.lines.now.grammar (admissible at).checked.well_formed c.args.cell.rule c.requires.rule in
     omega (arith, few, count_is at', c.loop-number-test.true)
 
 pub loop-number-preserved : goal.loop-number-preserved
 loop-number-preserved c =
-    before_more (HasTurnedScore c.args.lines.now c.args.cell) c.loop-number.number c.loop-number.greatest c.loop-number.invariant c.alternative_score.result c.greater-greatest.result c.alternative_score.ensures c.greater-greatest.ensures
+    before_more (HasTurnedScore c.args.lines.now c.args.cell) c.loop-number.number c.loop-number.greatest c.loop-number.invariant c.alternative_score-score.result c.greater-greatest.result c.alternative_score-score.ensures c.greater-greatest.ensures
 
 -- behind the loop the greatest is found
 found : (c : After-goal-goal) (count : ℕ) (greatest : Option ℤ) → count ≡ length (alternatives_of c.args.lines.now.grammar c.args.cell.rule) → IsGreatestOf (HasScoreBefore c.args.lines.now c.args.cell count) greatest
@@ -50,7 +50,7 @@ found c count greatest e is result told =
 pub returns-in_default : goal.returns-in_default
 returns-in_default c =
     let at = (goal.at.returns-in_default c).After-goal-goal in
-    let at' = (goal.at.returns-in_default c).After-alternatives-number-end in
+    let at' = (goal.at.returns-in_default c).After-alternatives-alternatives in
     let count : c.loop-number.number ≡ length (alternatives_of c.args.lines.now.grammar c.args.cell.rule) = omega (arith, count_is at', c.loop-number-test.false, c.loop-number.auto.number-end) in
     let here : IsGreatestOf (HasScoreBefore c.args.lines.now c.args.cell c.loop-number.number) None = subst (IsGreatestOf (HasScoreBefore c.args.lines.now c.args.cell c.loop-number.number)) c.in_default.is c.loop-number.invariant in
     found at c.loop-number.number None count here None refl
@@ -58,7 +58,7 @@ returns-in_default c =
 pub turned-requires : goal.turned-requires
 turned-requires c =
     let at = (goal.at.turned-requires c).After-goal-goal in
-    let at' = (goal.at.turned-requires c).After-alternatives-number-end in
+    let at' = (goal.at.turned-requires c).After-alternatives-alternatives in
     let p = c.args.lines.now in
     let count : c.loop-number.number ≤ length (alternatives_of p.grammar c.args.cell.rule) = omega (arith, count_is at', c.loop-number-test.false, c.loop-number.auto.number-end) in
     let here : IsGreatestOf (HasScoreBefore p c.args.cell c.loop-number.number) (Some c.in-Some.total) = subst (IsGreatestOf (HasScoreBefore p c.args.cell c.loop-number.number)) c.in-Some.is c.loop-number.invariant in
@@ -68,7 +68,7 @@ turned-requires c =
 pub returns : goal.returns
 returns c =
     let at = (goal.at.returns c).After-goal-goal in
-    let at' = (goal.at.returns c).After-alternatives-number-end in
+    let at' = (goal.at.returns c).After-alternatives-alternatives in
     let p = c.args.lines.now in
     let count : c.loop-number.number ≡ length (alternatives_of p.grammar c.args.cell.rule) = omega (arith, count_is at', c.loop-number-test.false, c.loop-number.auto.number-end) in
     let here : IsGreatestOf (HasScoreBefore p c.args.cell c.loop-number.number) (Some c.in-Some.total) = subst (IsGreatestOf (HasScoreBefore p c.args.cell c.loop-number.number)) c.in-Some.is c.loop-number.invariant in

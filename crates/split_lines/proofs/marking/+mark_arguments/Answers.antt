@@ -10,9 +10,10 @@ use Rattle.adp_model.specs.Cells.{IsCounted}
 use Rattle.adp_model.specs.Splits.{FitsSpan}
 use Rattle.adp_model.specs.WellFormed.{IsKnown}
 use Rattle.yield_sizes.specs.Placing.{on_span, Cover}
-use Rattle.split_lines.specs.Laid.{Demands}
+use Rattle.split_lines.specs.Laid.{Demands, IsCellOf}
 use Rattle.split_lines.specs.Lines.{IsLine}
-use Rattle.split_lines.specs.Entries.{Table, AreMarkedToo}
+use Rattle.split_lines.specs.Marks.{CellMarks, AreMarkedFrom}
+use Rattle.split_lines.proofs.MarkSteps.{marked_in_rows}
 use Rattle.split_lines.proofs.Lists.{split_at_first}
 use Rattle.split_lines.proofs.LineDemands.{CoversBelow, DemandsBelow, line_now, line_later, marked_none, marked_some, covers_none, all_covered, all_marked}
 use Rattle.split_lines.proofs.OneEnds.{IsEndTold, none_ends, one_ends, cover_nowhere, cover_from, marked_nowhere, marked_behind, empty_without, last_misses, last_marked}
@@ -50,10 +51,13 @@ mark_arguments-requires-in-loop-end t c =
           (
             omega (arith, same_length, c.requires.few),
             (
-              record { in_order = omega (arith, places.up_to_last, c.loop-end-test.true); in_word = c.requires.span.in_word },
+              omega (arith, c.requires.begin, fits.0.in_order),
               (
-                c.loop-end.invariant.marked.problem ∙ c.requires.same_problem,
-                λ cell demands. counted cell (end, fits, inr demands),
+                record { in_order = omega (arith, places.up_to_last, c.loop-end-test.true); in_word = c.requires.span.in_word },
+                (
+                  c.loop-end.invariant.marked.marked.problem ∙ c.requires.same_problem,
+                  λ cell demands. counted cell (end, fits, inr demands),
+                ),
               ),
             ),
           ),
@@ -75,7 +79,7 @@ mark_argument-requires-then-mark_arguments t c =
     let D : List Arg → Type 0 = λ xs. (it : Cell) → Demands p xs c.args.from c.args.to it → IsCounted p.grammar (length p.word) it in
     let counted = subst D split c.requires.counted in
     let C : PosedProblem → Type 0 = λ q. IsCounted q.grammar (length q.word) cell in
-    let same = c.mark_arguments-in-loop-end.ensures.marked.problem ∙ c.loop-end.invariant.marked.problem ∙ c.requires.same_problem in
+    let same = c.mark_arguments-in-loop-end.ensures.marked.marked.problem ∙ c.loop-end.invariant.marked.marked.problem ∙ c.requires.same_problem in
     subst C (sym same) (counted cell (end, fits, inl (is, c.if-mark_arguments.ensures.laid.0 refl)))
 
 pub loop-end-preserved : goal.loop-end-preserved
@@ -93,20 +97,20 @@ loop-end-preserved t c =
     let fits = (c.places-ends.ensures argument others split).fit end c.loop-end.auto.end c.loop-end-test.true in
     let above = c.loop-end.auto.end in
     let was = c.loop-end.invariant in
-    let M : Table Bool → Type 0 = λ marks. AreMarkedToo c.args.marks.now marks (DemandsBelow p argument others from to low (end + 1)) in
+    let M : CellMarks → Type 0 = λ marks. AreMarkedFrom c.args.begin c.args.marks.now marks (DemandsBelow p argument others from to low (end + 1)) in
     let S : Bool → Type 0 = λ is_laid. IsTrue is_laid ↔ CoversBelow p argument others from to low (end + 1) in
     elim c.if-mark_arguments.branch [
       | then-mark_arguments w ↦
           let cover : Cover p others end to = w.if-mark_arguments.ensures.laid.0 refl in
           record {
             laid = subst S (sym w.is_laid-is) (λ _. (end, above, omega arith, fits, cover), λ _. refl);
-            marked = subst M (sym w.marks-is) (marked_some p argument others from to low end fits above c.args.marks.now c.loop-end.marks c.mark_arguments-in-loop-end.new.marks was.marked c.mark_arguments-in-loop-end.ensures.marked w.mark_argument-then-mark_arguments.new.marks cover w.mark_argument-then-mark_arguments.ensures);
+            marked = subst M (sym w.marks-is) (marked_some p argument others from to low end fits above c.args.begin c.args.marks.now c.loop-end.marks c.mark_arguments-in-loop-end.new.marks was.marked c.mark_arguments-in-loop-end.ensures.marked w.mark_argument-then-mark_arguments.new.marks cover (marked_in_rows c.args.begin c.mark_arguments-in-loop-end.new.marks w.mark_argument-then-mark_arguments.new.marks (IsCellOf argument from end) w.mark_argument-then-mark_arguments.ensures.marked w.mark_argument-then-mark_arguments.ensures.in_row));
           }
       | else-mark_arguments w ↦
           let none : Cover p others end to → ⊥ = λ cover. let yes = w.if-mark_arguments.ensures.laid.1 cover in absurd cc in
           record {
             laid = subst S (sym w.is_laid-is) (covers_none p argument others from to low end c.loop-end.is_laid was.laid none);
-            marked = subst M (sym w.marks-is) (marked_none p argument others from to low end fits above c.args.marks.now c.loop-end.marks c.mark_arguments-in-loop-end.new.marks was.marked c.mark_arguments-in-loop-end.ensures.marked none);
+            marked = subst M (sym w.marks-is) (marked_none p argument others from to low end fits above c.args.begin c.args.marks.now c.loop-end.marks c.mark_arguments-in-loop-end.new.marks was.marked c.mark_arguments-in-loop-end.ensures.marked none);
           }
     ]
 
@@ -131,8 +135,8 @@ returns-clause-marked t c =
     let some : 0 < length all = search rules in
     let split : all ≡ argument ∷ others = split_at_first all argument some c.index-arguments-0.is in
     let places = c.places-ends.ensures argument others split in
-    let T : List Arg → Type 0 = λ xs. AreMarkedToo c.args.marks.now c.loop-end.marks (Demands p xs c.args.from c.args.to) in
-    subst T (sym split) (all_marked p argument others c.args.from c.args.to c.places-ends.result c.loop-end.end places (omega arith) c.args.marks.now c.loop-end.marks c.loop-end.invariant.marked)
+    let T : List Arg → Type 0 = λ xs. AreMarkedFrom c.args.begin c.args.marks.now c.loop-end.marks (Demands p xs c.args.from c.args.to) in
+    subst T (sym split) (all_marked p argument others c.args.from c.args.to c.places-ends.result c.loop-end.end places (omega arith) c.args.begin c.args.marks.now c.loop-end.marks c.loop-end.invariant.marked)
 
 -- ---- a token in front
 
@@ -166,10 +170,13 @@ mark_arguments-requires t c =
           (
             omega (arith, same_length, c.requires.few),
             (
-              record { in_order = there.0; in_word = c.requires.span.in_word },
+              omega (arith, c.requires.begin, there.1.0.in_order),
               (
-                c.requires.same_problem,
-                λ cell demands. counted cell (end, there.1, inr demands),
+                record { in_order = there.0; in_word = c.requires.span.in_word },
+                (
+                  c.requires.same_problem,
+                  λ cell demands. counted cell (end, there.1, inr demands),
+                ),
               ),
             ),
           ),
@@ -209,8 +216,8 @@ returns-in-Some-token_end-clause-marked t c =
     let told : E (Some end) = subst E c.in-Some-token_end.is c.token_end.ensures in
     let there = (told end).0 (λ i. Some end) in
     let fixed = c.is_fixed.ensures.0 c.if-is_fixed.true in
-    let T : List Arg → Type 0 = λ xs. AreMarkedToo c.args.marks.now c.mark_arguments.new.marks (Demands p xs from to) in
-    subst T (sym split) (marked_behind p argument others from to end there.1 (one_ends p argument others from to end told) fixed c.args.marks.now c.mark_arguments.new.marks c.mark_arguments.ensures.marked)
+    let T : List Arg → Type 0 = λ xs. AreMarkedFrom c.args.begin c.args.marks.now c.mark_arguments.new.marks (Demands p xs from to) in
+    subst T (sym split) (marked_behind p argument others from to end there.1 (one_ends p argument others from to end told) fixed c.args.begin c.args.marks.now c.mark_arguments.new.marks c.mark_arguments.ensures.marked)
 
 pub returns-in-None-clause-laid : goal.returns-in-None-clause-laid
 returns-in-None-clause-laid t c =
@@ -239,8 +246,8 @@ returns-in-None-clause-marked t c =
     let split : all ≡ argument ∷ others = split_at_first all argument some c.index-arguments-0.is in
     let E : Option ℕ → Type 0 = IsEndTold p argument from to in
     let none = none_ends p argument others from to (subst E c.in-None.is c.token_end.ensures) in
-    let T : List Arg → Type 0 = λ xs. AreMarkedToo c.args.marks.now c.args.marks.now (Demands p xs from to) in
-    subst T (sym split) (marked_nowhere p argument others from to none c.args.marks.now)
+    let T : List Arg → Type 0 = λ xs. AreMarkedFrom c.args.begin c.args.marks.now c.args.marks.now (Demands p xs from to) in
+    subst T (sym split) (marked_nowhere p argument others from to none c.args.begin c.args.marks.now)
 
 -- ---- the last argument
 
@@ -257,8 +264,8 @@ returns-then-fits-clause-marked t c =
     let last : others ≡ [] = empty_without others (search rules) in
     let one : all ≡ argument ∷ [] = split ∙ ap (λ xs. argument ∷ xs) last in
     let fits = c.fits-fits.ensures.0 c.if-fits.true in
-    let T : List Arg → Type 0 = λ xs. AreMarkedToo c.args.marks.now c.mark_argument.new.marks (Demands p xs from to) in
-    subst T (sym one) (last_marked p argument from to fits c.args.marks.now c.mark_argument.new.marks c.mark_argument.ensures)
+    let T : List Arg → Type 0 = λ xs. AreMarkedFrom c.args.begin c.args.marks.now c.mark_argument.new.marks (Demands p xs from to) in
+    subst T (sym one) (last_marked p argument from to fits c.args.begin c.args.marks.now c.mark_argument.new.marks (marked_in_rows c.args.begin c.args.marks.now c.mark_argument.new.marks (IsCellOf argument from to) c.mark_argument.ensures.marked c.mark_argument.ensures.in_row))
 
 pub returns-else-fits-clause-marked : goal.returns-else-fits-clause-marked
 returns-else-fits-clause-marked t c =
@@ -273,5 +280,5 @@ returns-else-fits-clause-marked t c =
     let last : others ≡ [] = empty_without others (search rules) in
     let one : all ≡ argument ∷ [] = split ∙ ap (λ xs. argument ∷ xs) last in
     let misses : FitsSpan p (on_span argument from to) → ⊥ = λ fits. false≢true (sym c.if-fits.false ∙ c.fits-fits.ensures.1 fits) in
-    let T : List Arg → Type 0 = λ xs. AreMarkedToo c.args.marks.now c.args.marks.now (Demands p xs from to) in
-    subst T (sym one) (marked_nowhere p argument [] from to (last_misses p argument from to misses) c.args.marks.now)
+    let T : List Arg → Type 0 = λ xs. AreMarkedFrom c.args.begin c.args.marks.now c.args.marks.now (Demands p xs from to) in
+    subst T (sym one) (marked_nowhere p argument [] from to (last_misses p argument from to misses) c.args.begin c.args.marks.now)

@@ -1,5 +1,5 @@
 use Rattle.std.proofs.Common.{◌↔◌, IsTrue, length}
-use Rattle.split_lines.specs.Entries.{AreMarkedToo}
+use Rattle.split_lines.specs.Marks.{AreMarkedFrom}
 use Rattle.split_lines.proofs.LineDemands.{CoversBelow, DemandsBelow}
 use Rattle.split_lines.proofs.marking.+mark_arguments.Given as goal
 
@@ -9,5 +9,5 @@ decreases-mark_arguments l = length l.arguments.now
 abbrev pub invariant-loop-end : goal.invariant-loop-end
 invariant-loop-end l = record {
   laid : IsTrue l.is_laid ↔ CoversBelow l.lines l.argument l.others l.from l.to l.initial.end l.end;
-  marked : AreMarkedToo l.initial.marks l.marks (DemandsBelow l.lines l.argument l.others l.from l.to l.initial.end l.end);
+  marked : AreMarkedFrom l.begin l.initial.marks l.marks (DemandsBelow l.lines l.argument l.others l.from l.to l.initial.end l.end);
 }

@@ -1,73 +1,106 @@
-use Rattle.std.proofs.Common.{◌≡◌, ℕ, ◌+◌, ◌-◌, ◌≤◌, Bool, true, List, Some, length, slice_get, refl, sym, ap, subst, ◌∙◌, rules, arith}
+use Rattle.std.proofs.Common.{◌≡◌, ◌⊎◌, ℕ, ◌+◌, ◌-◌, length, get_or, refl, sym, ap, inl, ⊎_elim, subst, ◌∙◌, arith, rules}
 use Rattle.std.specs.List.{Contains}
-use Rattle.adp_model.specs.declared.grammar.Arg.{Arg}
 use Rattle.adp_model.specs.declared.grammar.Arg.TheVariants.{Rule}
-use Rattle.split_lines.specs.Flags.{IsFlagged}
+use Rattle.adp_model.specs.declared.cell.Cell.{Cell}
+use Rattle.adp_model.specs.PosedProblem.{PosedProblem}
+use Rattle.adp_model.specs.Cells.{IsCounted}
+use Rattle.split_lines.specs.Bits.{IsBitOf}
 use Rattle.split_lines.specs.Laid.{IsCellOf}
-use Rattle.split_lines.proofs.FlagLists.{first_flagged, flagged_from, last_flagged}
-use Rattle.split_lines.proofs.Tables.{marked_like}
+use Rattle.split_lines.proofs.BitPlaces.{first_set, last_set, room_behind, place_of_bit, bit_of_place}
+use Rattle.split_lines.proofs.MarkSteps.{too_like, too_more, same_rule}
+use Rattle.split_lines.proofs.WholeLines.{between_ends, first_stands, last_stands}
 use Rattle.split_lines.proofs.marking.mark_second.Goals as goal
-
-same_rule : (argument : Arg) (rule other : ℕ) → argument ≡ Rule rule → argument ≡ Rule other → other ≡ rule
-same_rule argument rule other is is' = let same : Rule rule ≡ Rule other = sym is ∙ is' in cc
-
--- the flags of the starts are those of the places before them
-flagged_behind : (flags : List Bool) (first shift start : ℕ) → IsFlagged flags first start → IsFlagged flags (first + shift) (start + shift)
-flagged_behind flags first shift start is =
-    let number : start - first ≡ start + shift - (first + shift) = omega arith in
-    (omega (arith, is.0), subst (λ n. slice_get flags n ≡ Some true) number is.1)
-
-flagged_before : (flags : List Bool) (first shift start : ℕ) → IsFlagged flags (first + shift) start → IsFlagged flags first (start - shift)
-flagged_before flags first shift start is =
-    let number : start - (first + shift) ≡ start - shift - first = omega arith in
-    (omega (arith, is.0), subst (λ n. slice_get flags n ≡ Some true) number is.1)
 
 pub overflow_add-first : goal.overflow_add-first
 overflow_add-first c =
-    let b = c.args.boundary in
-    let is_cell : IsCellOf c.args.argument.now (c.in-Some.first + b.letters) b.last (record { rule = c.in-Rule.rule; from = c.in-Some.first + b.letters; to = b.last }) = record { rule = c.in-Rule.is; begins = refl; ends = refl } in
-    let counted = c.requires.counted _ c.in-Some.first (first_flagged b.places.now b.flags.now c.requires.flags c.in-Some.first c.in-Some.ensures) is_cell in
-    let in_order : c.in-Some.first + b.letters ≤ b.last = counted.in_order in
+    let low = c.requires.short (get_or c.args.boundary.places.now 0 0) (first_stands c.args.boundary.places.now c.requires.some) in
     search rules
 
-pub mark_flagged_starts-requires-clause-first : goal.mark_flagged_starts-requires-clause-first
-mark_flagged_starts-requires-clause-first c = λ some.
-    let b = c.args.boundary in
-    c.requires.counted _ c.in-Some.first (first_flagged b.places.now b.flags.now c.requires.flags c.in-Some.first c.in-Some.ensures) (record { rule = c.in-Rule.is; begins = refl; ends = refl })
+pub overflow_add-past : goal.overflow_add-past
+overflow_add-past c =
+    let low = c.requires.short (get_or c.args.boundary.places.now (length c.args.boundary.places.now - 1) 0) (last_stands c.args.boundary.places.now c.requires.some) in
+    search rules
 
-pub mark_flagged_starts-requires-clause-last : goal.mark_flagged_starts-requires-clause-last
-mark_flagged_starts-requires-clause-last c = λ some.
-    let b = c.args.boundary in
-    let last = c.in-Some.first + length b.flags.now - 1 in
-    let same : last + b.letters ≡ c.in-Some.first + b.letters + length b.flags.now - 1 = omega arith in
-    c.requires.counted _ last (last_flagged b.places.now b.flags.now c.requires.flags c.in-Some.first c.in-Some.ensures some) (record { rule = c.in-Rule.is; begins = same; ends = refl })
+pub overflow_add-past-in-Rule : goal.overflow_add-past-in-Rule
+overflow_add-past-in-Rule c =
+    let low = c.requires.short (get_or c.args.boundary.places.now (length c.args.boundary.places.now - 1) 0) (last_stands c.args.boundary.places.now c.requires.some) in
+    search rules
 
-pub mark_starts-requires : goal.mark_starts-requires
-mark_starts-requires c = λ start there. c.requires.counted _ start there (record { rule = c.in-Rule.is; begins = refl; ends = refl })
+pub mark_starts_of-requires-clause-first : goal.mark_starts_of-requires-clause-first
+mark_starts_of-requires-clause-first c = λ _. first_set c.args.boundary.places.now c.args.boundary.letters c.args.boundary.behind.now c.requires.bits c.requires.some
 
-pub returns-in-Some : goal.returns-in-Some
-returns-in-Some c =
+pub mark_starts_of-requires-clause-last : goal.mark_starts_of-requires-clause-last
+mark_starts_of-requires-clause-last c = λ _.
     let b = c.args.boundary in
+    let places = b.places.now in
+    let last = get_or places (length places - 1) 0 + b.letters in
+    let same : last ≡ last + 1 - 1 = omega arith in
+    subst (IsBitOf b.behind.now (get_or places 0 0 + b.letters) (last + 1)) same (last_set places b.letters b.behind.now c.requires.bits c.requires.some)
+
+pub mark_starts_of-requires-clause-counted : goal.mark_starts_of-requires-clause-counted
+mark_starts_of-requires-clause-counted c = λ from is.
+    let b = c.args.boundary in
+    let found = place_of_bit b.places.now b.letters b.behind.now c.requires.bits c.requires.some from is in
+    c.requires.counted _ found.0 found.1 (record { rule = c.in-Rule.is; begins = sym found.2; ends = refl })
+
+pub mark_starts_of-requires-clause-bits : goal.mark_starts_of-requires-clause-bits
+mark_starts_of-requires-clause-bits c = room_behind c.args.boundary.places.now c.args.boundary.letters c.args.boundary.behind.now c.requires.bits c.requires.some
+
+pub mark-requires : goal.mark-requires
+mark-requires c =
+    let b = c.args.boundary in
+    let first = get_or b.places.now 0 0 in
+    let cell : Cell = record { rule = c.in-Rule.rule; from = first + b.letters; to = b.last } in
+    let C : PosedProblem → Type 0 = λ q. IsCounted q.grammar (length q.word) cell in
+    subst C (sym c.mark_starts_of.ensures.problem) (c.requires.counted cell first (first_stands b.places.now c.requires.some) (record { rule = c.in-Rule.is; begins = refl; ends = refl }))
+
+pub returns-then-first-begin : goal.returns-then-first-begin
+returns-then-first-begin c =
+    let b = c.args.boundary in
+    let places = b.places.now in
+    let first = get_or places 0 0 in
     let argument = c.args.argument.now in
     let rule = c.in-Rule.rule in
-    let first = c.in-Some.first in
-    let told = flagged_from b.places.now b.flags.now c.requires.flags first c.in-Some.ensures in
-    marked_like c.args.marks.now c.mark_flagged_starts.new.self (λ cell. (cell.rule ≡ rule) × (cell.to ≡ b.last) × IsFlagged b.flags.now (first + b.letters) cell.from)
-    (λ cell. (start : ℕ) × Contains b.places.now start × IsCellOf argument (start + b.letters) b.last cell)
-    (λ cell (e, e', flagged).
-    let back : cell.from - b.letters + b.letters ≡ cell.from = omega (arith, flagged.0) in
-    (cell.from - b.letters, (told (cell.from - b.letters)).1 (flagged_before b.flags.now first b.letters cell.from flagged), record { rule = c.in-Rule.is ∙ ap Rule (sym e); begins = back; ends = sym e' }))
-    (λ cell (start, there, is).
-    (same_rule argument rule cell.rule c.in-Rule.is is.rule, sym is.ends, subst (IsFlagged b.flags.now (first + b.letters)) is.begins (flagged_behind b.flags.now first b.letters start ((told start).0 there))))
-    c.mark_flagged_starts.ensures
+    let one : Cell = record { rule = rule; from = first + b.letters; to = b.last } in
+    let Bit : ℕ → Type 0 = IsBitOf b.behind.now (first + b.letters) (get_or places (length places - 1) 0 + b.letters + 1) in
+    let Early : Cell → Type 0 = λ cell. (cell.rule ≡ rule) × (cell.to ≡ b.last) × Bit cell.from in
+    let Wanted : Cell → Type 0 = λ cell. (start : ℕ) × Contains places start × IsCellOf argument (start + b.letters) b.last cell in
+    let begins : first + b.letters ≡ c.args.begin = omega arith in
+    record {
+      marked = too_like c.args.marks.now c.mark.new.self (λ cell. Early cell ⊎ (cell ≡ one)) Wanted
+          (λ cell either. ⊎_elim
+          (λ (e, e', is).
+          let found = place_of_bit places b.letters b.behind.now c.requires.bits c.requires.some cell.from is in
+          (found.0, found.1, record { rule = c.in-Rule.is ∙ ap Rule (sym e); begins = sym found.2; ends = sym e' }))
+          (λ e. subst Wanted (sym e) (first, first_stands places c.requires.some, record { rule = c.in-Rule.is; begins = refl; ends = refl })) either)
+          (λ cell (start, there, is). inl (same_rule argument rule cell.rule c.in-Rule.is is.rule, sym is.ends, subst Bit is.begins (bit_of_place places b.letters b.behind.now c.requires.bits c.requires.some start there)))
+          (too_more c.args.marks.now c.mark_starts_of.new.self c.mark.new.self Early (λ cell. cell ≡ one) c.mark_starts_of.ensures c.mark.ensures.marked);
+      begun = λ cell here (start, there, is).
+          let at : cell.from ≡ first + b.letters = here ∙ sym begins in
+          let e = same_rule argument rule cell.rule c.in-Rule.is is.rule in
+          let e' = sym is.ends in
+          c.mark.ensures.in_row cell (λ k. record { rule = e k; from = at k; to = e' k });
+    }
 
-pub returns-in-None : goal.returns-in-None
-returns-in-None c =
+pub returns-else-first-begin : goal.returns-else-first-begin
+returns-else-first-begin c =
     let b = c.args.boundary in
+    let places = b.places.now in
+    let first = get_or places 0 0 in
     let argument = c.args.argument.now in
     let rule = c.in-Rule.rule in
-    marked_like c.args.marks.now c.mark_starts.new.self (λ cell. (cell.rule ≡ rule) × (cell.to ≡ b.last) × ((start : ℕ) × Contains b.places.now start × (cell.from ≡ start + b.letters)))
-    (λ cell. (start : ℕ) × Contains b.places.now start × IsCellOf argument (start + b.letters) b.last cell)
-    (λ cell (e, e', (start, there, at)). (start, there, record { rule = c.in-Rule.is ∙ ap Rule (sym e); begins = sym at; ends = sym e' }))
-    (λ cell (start, there, is). (same_rule argument rule cell.rule c.in-Rule.is is.rule, sym is.ends, (start, there, sym is.begins)))
-    c.mark_starts.ensures
+    let Bit : ℕ → Type 0 = IsBitOf b.behind.now (first + b.letters) (get_or places (length places - 1) 0 + b.letters + 1) in
+    let Early : Cell → Type 0 = λ cell. (cell.rule ≡ rule) × (cell.to ≡ b.last) × Bit cell.from in
+    let Wanted : Cell → Type 0 = λ cell. (start : ℕ) × Contains places start × IsCellOf argument (start + b.letters) b.last cell in
+    record {
+      marked = too_like c.args.marks.now c.mark_starts_of.new.self Early Wanted
+          (λ cell (e, e', is).
+          let found = place_of_bit places b.letters b.behind.now c.requires.bits c.requires.some cell.from is in
+          (found.0, found.1, record { rule = c.in-Rule.is ∙ ap Rule (sym e); begins = sym found.2; ends = sym e' }))
+          (λ cell (start, there, is). (same_rule argument rule cell.rule c.in-Rule.is is.rule, sym is.ends, subst Bit is.begins (bit_of_place places b.letters b.behind.now c.requires.bits c.requires.some start there)))
+          c.mark_starts_of.ensures;
+      begun = λ cell here (start, there, is).
+          let low = between_ends places start c.requires.rising there in
+          let from_begin = c.requires.begin first (first_stands places c.requires.some) in
+          absurd (omega (arith, low.0, from_begin, is.begins, here));
+    }

@@ -10,7 +10,7 @@ use Rattle.split_lines.proofs.LargestSums.{IsLargest, least_sum, long_spaced, lo
 use Rattle.split_lines.proofs.sums.greatest_aligned_long.Goals as goal
 
 pub loop-a-init : goal.loop-a-init
-loop-a-init c = none_yet long long_spaced (λ k. HasSum long c.args.first.now c.args.second.now k k)
+loop-a-init c = none_yet long long_spaced (λ k. HasSum long c.args.first.now c.args.second.now k)
 
 pub overflow_add-a : goal.overflow_add-a
 overflow_add-a c =
@@ -45,8 +45,8 @@ loop-a-preserved c =
     let max : c.max-greatest.result ≡ int_max (to_z w64 c.loop-a.greatest-bits) (a +ℤ b) = simp to_z-of_z at c.max-greatest.ensures.value in
     let new : to_z w64 (of_z w64 c.max-greatest.result) ≡ int_max (to_z w64 c.loop-a.greatest-bits) (a +ℤ b) = to_z-of_z w64 c.max-greatest.result fits_new ∙ max in
     let more : at + 1 ≡ length (c.loop-a.yielded ++ (c.in-Some.a, c.in-Some.b) ∷ []) = sym (length-append c.loop-a.yielded ((c.in-Some.a, c.in-Some.b) ∷ [])) in
-    subst (λ n. IsLargest long (HasBefore (λ k. HasSum long firsts seconds k k) n) (to_z w64 (of_z w64 c.max-greatest.result))) more
-    (sum_more long long_spaced firsts seconds (λ k. k) (λ k. k) at (to_z w64 c.loop-a.greatest-bits) (to_z w64 (of_z w64 c.max-greatest.result)) a b new there behind proper_a proper_b c.loop-a.invariant)
+    subst (λ n. IsLargest (least_sum long) (HasBefore (λ k. HasSum long firsts seconds k) n) (to_z w64 (of_z w64 c.max-greatest.result))) more
+    (sum_more long long_spaced firsts seconds (λ k. k) at (to_z w64 c.loop-a.greatest-bits) (to_z w64 (of_z w64 c.max-greatest.result)) a b new there behind proper_a proper_b c.loop-a.invariant)
 
 pub returns-then-greatest : goal.returns-then-greatest
 returns-then-greatest c =
@@ -54,7 +54,7 @@ returns-then-greatest c =
     let seconds = c.args.second.now in
     let end = zip_end firsts seconds c.loop-a.yielded c.into_iter-a-iterator.result c.loop-a.a-iterator c.next.new.self c.next.result (cc) (cc) c.loop-a.yielded_by c.in-None.is c.next.ensures.steps in
     let low : (to_z w64 c.loop-a.greatest-bits) <ℤ least_sum long = omega (arith, ints, c.if-greatest.true) in
-    largest_none long long_spaced (λ sum. (k : ℕ) × HasSum long firsts seconds k k sum) (to_z w64 c.loop-a.greatest-bits)
+    largest_none (least_sum long) (λ sum. (k : ℕ) × HasSum long firsts seconds k sum) (to_z w64 c.loop-a.greatest-bits)
     (all_aligned long firsts seconds (length c.loop-a.yielded) (to_z w64 c.loop-a.greatest-bits) (λ k l m. omega (arith, end)) c.loop-a.invariant) low
 
 pub returns-else-greatest : goal.returns-else-greatest
@@ -63,5 +63,5 @@ returns-else-greatest c =
     let seconds = c.args.second.now in
     let end = zip_end firsts seconds c.loop-a.yielded c.into_iter-a-iterator.result c.loop-a.a-iterator c.next.new.self c.next.result (cc) (cc) c.loop-a.yielded_by c.in-None.is c.next.ensures.steps in
     let high : least_sum long ≤ℤ (to_z w64 c.loop-a.greatest-bits) = omega (arith, ints, c.if-greatest.false) in
-    largest_some long long_spaced (λ sum. (k : ℕ) × HasSum long firsts seconds k k sum) (to_z w64 c.loop-a.greatest-bits)
+    largest_some (least_sum long) (λ sum. (k : ℕ) × HasSum long firsts seconds k sum) (to_z w64 c.loop-a.greatest-bits)
     (all_aligned long firsts seconds (length c.loop-a.yielded) (to_z w64 c.loop-a.greatest-bits) (λ k l m. omega (arith, end)) c.loop-a.invariant) high

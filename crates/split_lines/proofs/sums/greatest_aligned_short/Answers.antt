@@ -11,7 +11,7 @@ use Rattle.split_lines.proofs.LargestSums.{IsLargest, least_sum, short_spaced, s
 use Rattle.split_lines.proofs.sums.greatest_aligned_short.Goals as goal
 
 pub loop-a-init : goal.loop-a-init
-loop-a-init c = none_yet short short_spaced (λ k. HasSum short c.args.first.now c.args.second.now k k)
+loop-a-init c = none_yet short short_spaced (λ k. HasSum short c.args.first.now c.args.second.now k)
 
 pub overflow_add-a : goal.overflow_add-a
 overflow_add-a c =
@@ -46,8 +46,8 @@ loop-a-preserved c =
     let max : c.max-greatest.result ≡ int_max (to_z w16 c.loop-a.greatest-bits) (a +ℤ b) = simp to_z-of_z at c.max-greatest.ensures.value in
     let new : to_z w16 (of_z w16 c.max-greatest.result) ≡ int_max (to_z w16 c.loop-a.greatest-bits) (a +ℤ b) = to_z-of_z w16 c.max-greatest.result fits_new ∙ max in
     let long : at + 1 ≡ length (c.loop-a.yielded ++ (c.in-Some.a, c.in-Some.b) ∷ []) = sym (length-append c.loop-a.yielded ((c.in-Some.a, c.in-Some.b) ∷ [])) in
-    subst (λ n. IsLargest short (HasBefore (λ k. HasSum short firsts seconds k k) n) (to_z w16 (of_z w16 c.max-greatest.result))) long
-    (sum_more short short_spaced firsts seconds (λ k. k) (λ k. k) at (to_z w16 c.loop-a.greatest-bits) (to_z w16 (of_z w16 c.max-greatest.result)) a b new there behind proper_a proper_b c.loop-a.invariant)
+    subst (λ n. IsLargest (least_sum short) (HasBefore (λ k. HasSum short firsts seconds k) n) (to_z w16 (of_z w16 c.max-greatest.result))) long
+    (sum_more short short_spaced firsts seconds (λ k. k) at (to_z w16 c.loop-a.greatest-bits) (to_z w16 (of_z w16 c.max-greatest.result)) a b new there behind proper_a proper_b c.loop-a.invariant)
 
 pub returns-then-greatest : goal.returns-then-greatest
 returns-then-greatest c =
@@ -55,7 +55,7 @@ returns-then-greatest c =
     let seconds = c.args.second.now in
     let end = zip_end firsts seconds c.loop-a.yielded c.into_iter-a-iterator.result c.loop-a.a-iterator c.next.new.self c.next.result (cc) (cc) c.loop-a.yielded_by c.in-None.is c.next.ensures.steps in
     let low : (to_z w16 c.loop-a.greatest-bits) <ℤ least_sum short = omega (arith, ints, c.if-greatest.true) in
-    largest_none short short_spaced (λ sum. (k : ℕ) × HasSum short firsts seconds k k sum) (to_z w16 c.loop-a.greatest-bits)
+    largest_none (least_sum short) (λ sum. (k : ℕ) × HasSum short firsts seconds k sum) (to_z w16 c.loop-a.greatest-bits)
     (all_aligned short firsts seconds (length c.loop-a.yielded) (to_z w16 c.loop-a.greatest-bits) (λ k l m. omega (arith, end)) c.loop-a.invariant) low
 
 pub returns-else-greatest : goal.returns-else-greatest
@@ -66,6 +66,6 @@ returns-else-greatest c =
     let high : least_sum short ≤ℤ (to_z w16 c.loop-a.greatest-bits) = omega (arith, ints, c.if-greatest.false) in
     let fits : FitsSigned w64 c.from.result = search rules in
     let same : c.from.result ≡ (to_z w16 c.loop-a.greatest-bits) = cc in
-    subst (λ number. IsGreatestOf (λ sum. (k : ℕ) × HasSum short firsts seconds k k sum) (Some number)) (sym (to_z-of_z w64 c.from.result fits ∙ same))
-    (largest_some short short_spaced (λ sum. (k : ℕ) × HasSum short firsts seconds k k sum) (to_z w16 c.loop-a.greatest-bits)
+    subst (λ number. IsGreatestOf (λ sum. (k : ℕ) × HasSum short firsts seconds k sum) (Some number)) (sym (to_z-of_z w64 c.from.result fits ∙ same))
+    (largest_some (least_sum short) (λ sum. (k : ℕ) × HasSum short firsts seconds k sum) (to_z w16 c.loop-a.greatest-bits)
     (all_aligned short firsts seconds (length c.loop-a.yielded) (to_z w16 c.loop-a.greatest-bits) (λ k l m. omega (arith, end)) c.loop-a.invariant) high)

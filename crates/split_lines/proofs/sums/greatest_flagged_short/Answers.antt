@@ -56,7 +56,7 @@ pub returns-then-greatest : goal.returns-then-greatest
 returns-then-greatest c =
     let low : (to_z w16 c.loop-k.greatest-bits) <ℤ least_sum short = omega (arith, ints, c.if-greatest.true) in
     let all : c.loop-k.k ≡ length c.args.flags.now = omega (arith, c.loop-k-test.false, c.loop-k.auto.k-end) in
-    largest_none short short_spaced (HasFlaggedSum short c.args.flags.now c.args.first.now c.args.second.now) (to_z w16 c.loop-k.greatest-bits)
+    largest_none (least_sum short) (HasFlaggedSum short c.args.flags.now c.args.first.now c.args.second.now) (to_z w16 c.loop-k.greatest-bits)
     (all_flagged short c.args.flags.now c.args.first.now c.args.second.now c.loop-k.k (to_z w16 c.loop-k.greatest-bits) all c.loop-k.invariant) low
 
 pub returns-else-greatest : goal.returns-else-greatest
@@ -66,5 +66,5 @@ returns-else-greatest c =
     let fits : FitsSigned w64 c.from.result = search rules in
     let same : c.from.result ≡ (to_z w16 c.loop-k.greatest-bits) = cc in
     subst (λ number. IsGreatestOf (HasFlaggedSum short c.args.flags.now c.args.first.now c.args.second.now) (Some number)) (sym (to_z-of_z w64 c.from.result fits ∙ same))
-    (largest_some short short_spaced (HasFlaggedSum short c.args.flags.now c.args.first.now c.args.second.now) (to_z w16 c.loop-k.greatest-bits)
+    (largest_some (least_sum short) (HasFlaggedSum short c.args.flags.now c.args.first.now c.args.second.now) (to_z w16 c.loop-k.greatest-bits)
     (all_flagged short c.args.flags.now c.args.first.now c.args.second.now c.loop-k.k (to_z w16 c.loop-k.greatest-bits) all c.loop-k.invariant) high)

@@ -4,7 +4,7 @@ use Rattle.std.proofs.lemmas.Int.{ints, to_z-of_z}
 use Rattle.std.proofs.lemmas.List.Elements.{Contains-get_or}
 use Rattle.std.proofs.lemmas.Option.{slice_get-get_or}
 use Rattle.split_lines.specs.Packing.{IsProper, medium}
-use Rattle.split_lines.specs.Sums.{HasSum, HasSumAt, number_before, number_behind}
+use Rattle.split_lines.specs.Sums.{HasSum, HasSumAt, number_at}
 use Rattle.split_lines.specs.Totals.{IsGreatestOf}
 use Rattle.split_lines.proofs.LargestSums.{least_sum, medium_spaced, medium_fits, medium_sum_fits, none_yet, sum_more, all_scattered, largest_none, largest_some}
 use Rattle.split_lines.proofs.sums.greatest_scattered_medium.Goals as goal
@@ -12,30 +12,26 @@ use Rattle.split_lines.proofs.sums.greatest_scattered_medium.Goals as goal
 pub loop-place-init : goal.loop-place-init
 loop-place-init c =
     let places = c.args.places in
-    none_yet medium medium_spaced (λ k. HasSum medium c.args.first.now c.args.second.now (number_before places (get_or places.at.now k 0)) (number_behind places (get_or places.at.now k 0)))
+    none_yet medium medium_spaced (λ k. HasSum medium c.args.first.now c.args.second.now (number_at places (get_or places.at.now k 0)))
 
-pub overflow_sub-a : goal.overflow_sub-a
-overflow_sub-a c = c.requires.have.from_first (get_or c.args.places.at.now c.loop-place.place-index 0) (Contains-get_or c.args.places.at.now c.loop-place.place-index 0 c.loop-place-test.true)
+pub overflow_sub-number : goal.overflow_sub-number
+overflow_sub-number c = c.requires.have.from_first (get_or c.args.places.at.now c.loop-place.place-index 0) (Contains-get_or c.args.places.at.now c.loop-place.place-index 0 c.loop-place-test.true)
 
-pub overflow_sub-b : goal.overflow_sub-b
-overflow_sub-b c = c.requires.have.from_second (get_or c.args.places.at.now c.loop-place.place-index 0) (Contains-get_or c.args.places.at.now c.loop-place.place-index 0 c.loop-place-test.true)
-
-pub overflow_add-a : goal.overflow_add-a
-overflow_add-a c =
+pub overflow_add-first : goal.overflow_add-first
+overflow_add-first c =
     let firsts = c.args.first.now in
     let seconds = c.args.second.now in
     let places = c.args.places in
     let at = c.loop-place.place-index in
     let place = get_or places.at.now at 0 in
     let stands = Contains-get_or places.at.now at 0 c.loop-place-test.true in
-    let i = number_before places place in
-    let j = number_behind places place in
-    let a = get_or firsts i (pos 0) in
-    let b = get_or seconds j (pos 0) in
-    let there : slice_get firsts i ≡ Some a = slice_get-get_or firsts i (pos 0) (c.requires.have.first place stands) in
-    let behind : slice_get seconds j ≡ Some b = slice_get-get_or seconds j (pos 0) (c.requires.have.second place stands) in
-    let proper_a : IsProper medium a = c.requires.first i a there in
-    let proper_b : IsProper medium b = c.requires.second j b behind in
+    let number = number_at places place in
+    let a = get_or firsts number (pos 0) in
+    let b = get_or seconds number (pos 0) in
+    let there : slice_get firsts number ≡ Some a = slice_get-get_or firsts number (pos 0) (c.requires.have.before place stands) in
+    let behind : slice_get seconds number ≡ Some b = slice_get-get_or seconds number (pos 0) (c.requires.have.behind place stands) in
+    let proper_a : IsProper medium a = c.requires.first number a there in
+    let proper_b : IsProper medium b = c.requires.second number b behind in
     let fits_a : FitsSigned w32 a = medium_fits a proper_a in
     let fits_b : FitsSigned w32 b = medium_fits b proper_b in
     simp to_z-of_z (medium_sum_fits a b proper_a proper_b)
@@ -48,28 +44,27 @@ loop-place-preserved c =
     let at = c.loop-place.place-index in
     let place = get_or places.at.now at 0 in
     let stands = Contains-get_or places.at.now at 0 c.loop-place-test.true in
-    let i = number_before places place in
-    let j = number_behind places place in
-    let a = get_or firsts i (pos 0) in
-    let b = get_or seconds j (pos 0) in
-    let there : slice_get firsts i ≡ Some a = slice_get-get_or firsts i (pos 0) (c.requires.have.first place stands) in
-    let behind : slice_get seconds j ≡ Some b = slice_get-get_or seconds j (pos 0) (c.requires.have.second place stands) in
-    let proper_a : IsProper medium a = c.requires.first i a there in
-    let proper_b : IsProper medium b = c.requires.second j b behind in
+    let number = number_at places place in
+    let a = get_or firsts number (pos 0) in
+    let b = get_or seconds number (pos 0) in
+    let there : slice_get firsts number ≡ Some a = slice_get-get_or firsts number (pos 0) (c.requires.have.before place stands) in
+    let behind : slice_get seconds number ≡ Some b = slice_get-get_or seconds number (pos 0) (c.requires.have.behind place stands) in
+    let proper_a : IsProper medium a = c.requires.first number a there in
+    let proper_b : IsProper medium b = c.requires.second number b behind in
     let fits_a : FitsSigned w32 a = medium_fits a proper_a in
     let fits_b : FitsSigned w32 b = medium_fits b proper_b in
     let fits_sum : FitsSigned w32 (a +ℤ b) = medium_sum_fits a b proper_a proper_b in
     let fits_new : FitsSigned w32 c.max-greatest.result = search rules in
     let max : c.max-greatest.result ≡ int_max (to_z w32 c.loop-place.greatest-bits) (a +ℤ b) = simp to_z-of_z at c.max-greatest.ensures.value in
     let new : to_z w32 (of_z w32 c.max-greatest.result) ≡ int_max (to_z w32 c.loop-place.greatest-bits) (a +ℤ b) = to_z-of_z w32 c.max-greatest.result fits_new ∙ max in
-    sum_more medium medium_spaced firsts seconds (λ k. number_before places (get_or places.at.now k 0)) (λ k. number_behind places (get_or places.at.now k 0)) at (to_z w32 c.loop-place.greatest-bits) (to_z w32 (of_z w32 c.max-greatest.result)) a b new there behind proper_a proper_b c.loop-place.invariant
+    sum_more medium medium_spaced firsts seconds (λ k. number_at places (get_or places.at.now k 0)) at (to_z w32 c.loop-place.greatest-bits) (to_z w32 (of_z w32 c.max-greatest.result)) a b new there behind proper_a proper_b c.loop-place.invariant
 
 pub returns-then-greatest : goal.returns-then-greatest
 returns-then-greatest c =
     let low : (to_z w32 c.loop-place.greatest-bits) <ℤ least_sum medium = omega (arith, ints, c.if-greatest.true) in
     let all : c.loop-place.place-index ≡ length c.args.places.at.now = omega (arith, c.loop-place-test.false, c.loop-place.auto.place-index-end) in
-    largest_none medium medium_spaced (HasSumAt medium c.args.places c.args.first.now c.args.second.now) (to_z w32 c.loop-place.greatest-bits)
-    (all_scattered medium c.args.places c.args.first.now c.args.second.now c.loop-place.place-index (to_z w32 c.loop-place.greatest-bits) all c.loop-place.invariant) low
+    largest_none (least_sum medium) (HasSumAt medium c.args.places c.args.first.now c.args.second.now) (to_z w32 c.loop-place.greatest-bits)
+    (all_scattered c.args.places (HasSum medium c.args.first.now c.args.second.now) (least_sum medium) c.loop-place.place-index (to_z w32 c.loop-place.greatest-bits) all c.loop-place.invariant) low
 
 pub returns-else-greatest : goal.returns-else-greatest
 returns-else-greatest c =
@@ -78,5 +73,5 @@ returns-else-greatest c =
     let fits : FitsSigned w64 c.from.result = search rules in
     let same : c.from.result ≡ (to_z w32 c.loop-place.greatest-bits) = cc in
     subst (λ number. IsGreatestOf (HasSumAt medium c.args.places c.args.first.now c.args.second.now) (Some number)) (sym (to_z-of_z w64 c.from.result fits ∙ same))
-    (largest_some medium medium_spaced (HasSumAt medium c.args.places c.args.first.now c.args.second.now) (to_z w32 c.loop-place.greatest-bits)
-    (all_scattered medium c.args.places c.args.first.now c.args.second.now c.loop-place.place-index (to_z w32 c.loop-place.greatest-bits) all c.loop-place.invariant) high)
+    (largest_some (least_sum medium) (HasSumAt medium c.args.places c.args.first.now c.args.second.now) (to_z w32 c.loop-place.greatest-bits)
+    (all_scattered c.args.places (HasSum medium c.args.first.now c.args.second.now) (least_sum medium) c.loop-place.place-index (to_z w32 c.loop-place.greatest-bits) all c.loop-place.invariant) high)

@@ -14,7 +14,7 @@ returns-in_err-kept c =
     let p = c.self.inside.tables in
     let middles = c.self.inside.middles.items in
     let l : c.args.alt < length (alternatives_of p.grammar c.args.rule) = subst (λ (p : PosedProblem). c.args.alt < length (alternatives_of p.grammar c.args.rule)) (sym c.self.view_is) c.requires in
-    let kept = kept_at p middles c.self.inside.lines.items c.args.rule c.args.alt c.index.result.now c.index-2.result.now l c.self.invariant.lines_are c.index.ensures c.index-2.ensures in
+    let kept = kept_at p middles c.self.inside.alternatives.items c.args.rule c.args.alt c.index.result.now c.index-2.result.now l c.self.invariant.alternatives_are c.index.ensures c.index-2.ensures in
     let none = subst (IsKeptOrNone p middles (arguments_of p.grammar c.args.rule c.args.alt)) c.in_err-kept.was kept in
     let N : PosedProblem → Type 0 = λ p. (first between : ℕ) → HasLine (drop first (arguments_of p.grammar c.args.rule c.args.alt)) between → ⊥ in
     let q = c.args.self.now in
@@ -26,7 +26,7 @@ index-requires-3 c =
     let p = c.self.inside.tables in
     let middles = c.self.inside.middles.items in
     let l : c.args.alt < length (alternatives_of p.grammar c.args.rule) = subst (λ (p : PosedProblem). c.args.alt < length (alternatives_of p.grammar c.args.rule)) (sym c.self.view_is) c.requires in
-    let kept = kept_at p middles c.self.inside.lines.items c.args.rule c.args.alt c.index.result.now c.index-2.result.now l c.self.invariant.lines_are c.index.ensures c.index-2.ensures in
+    let kept = kept_at p middles c.self.inside.alternatives.items c.args.rule c.args.alt c.index.result.now c.index-2.result.now l c.self.invariant.alternatives_are c.index.ensures c.index-2.ensures in
     let it : IsKept p middles (arguments_of p.grammar c.args.rule c.args.alt) c.in_ok-kept.kept = subst (IsKeptOrNone p middles (arguments_of p.grammar c.args.rule c.args.alt)) c.in_ok-kept.was kept in
     omega (arith, it.middle.within)
 
@@ -36,7 +36,7 @@ returns c =
     let middles = c.self.inside.middles.items in
     let arguments = arguments_of p.grammar c.args.rule c.args.alt in
     let l : c.args.alt < length (alternatives_of p.grammar c.args.rule) = subst (λ (p : PosedProblem). c.args.alt < length (alternatives_of p.grammar c.args.rule)) (sym c.self.view_is) c.requires in
-    let kept = kept_at p middles c.self.inside.lines.items c.args.rule c.args.alt c.index.result.now c.index-2.result.now l c.self.invariant.lines_are c.index.ensures c.index-2.ensures in
+    let kept = kept_at p middles c.self.inside.alternatives.items c.args.rule c.args.alt c.index.result.now c.index-2.result.now l c.self.invariant.alternatives_are c.index.ensures c.index-2.ensures in
     let it : IsKept p middles arguments c.in_ok-kept.kept = subst (IsKeptOrNone p middles arguments) c.in_ok-kept.was kept in
     let line = c.in_ok-kept.kept in
     let rest : PosedProblem → List Arg = λ p. drop line.first (arguments_of p.grammar c.args.rule c.args.alt) in

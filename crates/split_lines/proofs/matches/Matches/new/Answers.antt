@@ -5,6 +5,7 @@ use Rattle.std.proofs.lemmas.List.{length_push}
 use Rattle.adp_model.specs.declared.grammar.Arg.{Arg}
 use Rattle.adp_model.specs.PosedProblem.{PosedProblem}
 use Rattle.yield_sizes.specs.Placing.{Cover}
+use Rattle.split_lines.specs.Flags.{AreBits}
 use Rattle.split_lines.specs.Matching.{HaveLetters, AreMatchPlaces, AreCounts, AreFlagsOf}
 use Rattle.split_lines.proofs.Matched.{no_counts, one_count_more, one_place_more, no_places, places_below, one_match_more, no_match_there}
 use Rattle.split_lines.proofs.Tokens.{cover_within}
@@ -87,6 +88,8 @@ returns c =
       each = omega (arith, c.in_ok-push-3.ensures.len, kept.each, past);
       before = counted places c.loop-place.before.items c.push-2.new.self.items c.len-2.result place kept.before kept.each (λ number. places_below p tokens width place places kept.places number 0) (omega (arith, c.len-2.ensures)) c.in_ok-push-3.ensures.items;
       flags = subst F (omega (arith, len_is)) flags;
+      here = subst (λ told. AreBits told 0 c.in_ok-here.here.items) c.deref-2.ensures.value c.in_ok-here.ensures;
+      behind = subst (λ told. AreBits told width c.in_ok-behind.behind.items) c.deref-3.ensures.value c.in_ok-behind.ensures;
     }
 
 pub flags_of-requires : goal.flags_of-requires
@@ -94,3 +97,18 @@ flags_of-requires c = λ place there.
     let C : List ℕ → Type 0 = λ places. Contains places place in
     let below = ((c.loop-place.invariant.places.exact place).0 (subst C c.deref.ensures.value there)).0 in
     omega (arith, below)
+
+pub bits_of-requires-clause-within : goal.bits_of-requires-clause-within
+bits_of-requires-clause-within c = λ place there.
+    let C : List ℕ → Type 0 = λ places. Contains places place in
+    let below = ((c.loop-place.invariant.places.exact place).0 (subst C c.deref-2.ensures.value there)).0 in
+    omega (arith, below)
+
+pub bits_of-requires-2-clause-within : goal.bits_of-requires-2-clause-within
+bits_of-requires-2-clause-within c = λ place there.
+    let p = c.args.tables.now in
+    let C : List ℕ → Type 0 = λ places. Contains places place in
+    let len_is : length c.letters-len.result.now ≡ length p.word = ap length c.letters-len.ensures.word ∙ ap (λ (p : PosedProblem). length p.word) c.problem-problem.ensures in
+    let found = (c.loop-place.invariant.places.exact place).0 (subst C c.deref-3.ensures.value there) in
+    let within = cover_within p c.args.tokens.now place (place + c.fixed_letters-width.result) (omega (arith, found.0, len_is)) found.1 in
+    omega (arith, within, len_is)

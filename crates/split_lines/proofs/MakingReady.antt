@@ -1,0 +1,109 @@
+-- The parts of an alternative as they are taken, and where its tokens in front may begin.
+use Rattle.std.proofs.Common.{◌≡◌, ℕ, zero, suc, ◌+◌, ◌-◌, ◌<◌, ◌≤◌, Some, List, [], ◌∷◌, ◌++◌, length, take, drop, map, slice_get, true, false, refl, sym, ap, subst, ◌∙◌, arith, length-take, length-drop}
+use Rattle.std.specs.Prelude.{IfSome}
+use Rattle.std.specs.List.{AllByRecursion}
+use Rattle.std.proofs.lemmas.List.{length-map, take-append-drop}
+use Rattle.adp_model.specs.declared.grammar.Arg.{Arg}
+use Rattle.adp_model.specs.declared.grammar.Arg.TheVariants.{Literal}
+use Rattle.adp_model.specs.PosedProblem.{PosedProblem}
+use Rattle.adp_model.specs.Parts.{algebra_of, arguments_of, term_of}
+use Rattle.adp_model.specs.WellFormed.{IsKnown}
+use Rattle.yield_sizes.specs.Placing.{Cover}
+use Rattle.split_lines.specs.declared.kept.KeptAlternative.{KeptAlternative}
+use Rattle.split_lines.specs.ArgumentEntries.{AreWorthless}
+use Rattle.split_lines.specs.Kept.{AreOneLetter, BeginWith, IsAlternative}
+use Rattle.split_lines.specs.Laid.{IsFixed}
+use Rattle.split_lines.specs.Matching.{HaveLetters}
+use Rattle.split_lines.specs.Totals.{turned}
+use Rattle.split_lines.proofs.FrontPlaces.{all_front, all_back}
+use Rattle.split_lines.proofs.Lists.{slice_get-drop}
+use Rattle.split_lines.proofs.OneEnds.{empty_without}
+
+-- ---- the first letter
+
+first_of : (n : ℕ) (xs : List ℕ) (letter : ℕ) (rest : List ℕ) → take n xs ≡ letter ∷ rest → slice_get xs 0 ≡ Some letter
+first_of zero xs letter rest e = absurd cc
+first_of (suc n) [] letter rest e = absurd cc
+first_of (suc n) (x ∷ xs) letter rest e = let same : x ≡ letter = cc in ap Some same
+
+-- where tokens match that begin with a letter, the letter stands
+pub letter_stands : (p : PosedProblem) (tokens : List Arg) (letter from to : ℕ) → BeginWith tokens letter → Cover p tokens from to → slice_get p.word from ≡ Some letter
+letter_stands p tokens letter from to begin cover =
+    let there : Cover p (Literal (letter ∷ begin.letters) ∷ begin.others) from to = subst (λ them. Cover p them from to) begin.are cover in
+    let same : from ≡ from + 0 = omega arith in
+    ap (slice_get p.word) same ∙ sym (slice_get-drop from 0 p.word) ∙ first_of (there.0 - from) (drop from p.word) letter begin.letters (sym (sym there.1.1))
+
+-- the rest of a word from a letter that stands in it
+rest_of : (xs : List ℕ) (letter : ℕ) → slice_get xs 0 ≡ Some letter → take 1 xs ≡ letter ∷ []
+rest_of [] letter e = absurd cc
+rest_of (x ∷ xs) letter e = let same : x ≡ letter = cc in ap (λ it. it ∷ []) same
+
+within_word : (word : List ℕ) (from letter : ℕ) → slice_get word from ≡ Some letter → from < length word
+within_word [] from letter e = absurd cc
+within_word (x ∷ word) zero letter e = omega arith
+within_word (x ∷ word) (suc from) letter e = let l = within_word word from letter e in omega arith
+
+one_letter : (text : List ℕ) (letter : ℕ) (letters : List ℕ) → text ≡ letter ∷ letters → length text ≡ 1 → text ≡ letter ∷ []
+one_letter text letter letters e one =
+    let none : length letters ≡ 0 = omega (arith, ap length e) in
+    e ∙ ap (λ it. letter ∷ it) (empty_without letters none)
+
+-- a literal of one letter matches where the letter stands
+pub letter_covers : (p : PosedProblem) (tokens : List Arg) (letter from : ℕ) → BeginWith tokens letter → AreOneLetter tokens → slice_get p.word from ≡ Some letter → Cover p tokens from (from + 1)
+letter_covers p tokens letter from begin alone stands =
+    let both : Literal (letter ∷ begin.letters) ∷ begin.others ≡ Literal alone.text ∷ [] = sym begin.are ∙ alone.are in
+    let text_is : alone.text ≡ letter ∷ begin.letters = cc in
+    let text : alone.text ≡ letter ∷ [] = one_letter alone.text letter begin.letters text_is alone.one in
+    let same : from ≡ from + 0 = omega arith in
+    let there : slice_get (drop from p.word) 0 ≡ Some letter = slice_get-drop from 0 p.word ∙ ap (slice_get p.word) (sym same) ∙ stands in
+    let width : from + 1 - from ≡ 1 = omega arith in
+    let matched : take (from + 1 - from) (drop from p.word) ≡ alone.text = ap (λ n. take n (drop from p.word)) width ∙ rest_of (drop from p.word) letter there ∙ sym text in
+    let l = within_word p.word from letter stands in
+    let C : List Arg → Type 0 = λ them. Cover p them from (from + 1) in
+    subst C (sym alone.are) (from + 1, (record { in_order = omega arith; in_word = omega arith }, matched), refl)
+
+-- ---- the parts
+
+take_none : {X : Type 0} (n : ℕ) → take {A = X} n [] ≡ []
+take_none zero = refl
+take_none (suc n) = refl
+
+take_both : {X : Type 0} (a b : ℕ) (xs : List X) → take (a + b) xs ≡ take a xs ++ take b (drop a xs)
+take_both zero b xs = ap (λ n. take n xs) (omega arith)
+take_both {X} (suc a) b [] =
+    let next : suc a + b ≡ suc (a + b) = omega arith in
+    ap (λ n. take {A = X} n []) next ∙ sym (take_none b)
+take_both (suc a) b (x ∷ xs) =
+    let next : suc a + b ≡ suc (a + b) = omega arith in
+    ap (λ n. take n (x ∷ xs)) next ∙ ap (λ them. x ∷ them) (take_both a b xs)
+
+-- the arguments up to this number stand in front
+pub alternative_kept : (p : PosedProblem) (rule alternative : ℕ) (kept : KeptAlternative) (all : List Arg) (n : ℕ)
+    → all ≡ arguments_of p.grammar rule alternative → length all ≤ 4 → AllByRecursion (IsKnown p.grammar) all → n ≤ length all → AllByRecursion IsFixed (take n all) → kept.front.now ≡ take n all → kept.others.now ≡ drop n all
+    → HaveLetters p kept.front.now kept.letters → IfSome kept.first (BeginWith kept.front.now) → (kept.alone ≡ true → AreOneLetter kept.front.now) → kept.constant ≡ turned (algebra_of p).goal (term_of p rule alternative).constant
+    → length (term_of p rule alternative).factors ≡ length all → take (length (term_of p rule alternative).factors) kept.factors ≡ map (turned (algebra_of p).goal) (term_of p rule alternative).factors
+    → (kept.weighs ≡ false → AreWorthless kept.front.now (take n kept.factors)) → IsAlternative p rule alternative kept
+alternative_kept p rule alternative kept all n all_is few known within fixed front_is others_is letters first alone constant each factors worthless =
+    let K : List Arg → Type 0 = AllByRecursion (IsKnown p.grammar) in
+    let parted : K (take n all ++ drop n all) = subst K (sym (take-append-drop n all)) known in
+    let front_long : length kept.front.now ≡ n = omega (arith, ap length front_is, length-take n all) in
+    let others_long : length kept.front.now + length kept.others.now ≡ length all = omega (arith, front_long, ap length others_is, length-drop n all) in
+    let long : length (term_of p rule alternative).factors ≡ length kept.front.now + length kept.others.now = each ∙ sym others_long in
+    let all_there : length (term_of p rule alternative).factors ≤ length kept.factors =
+    omega (arith, length-take (length (term_of p rule alternative).factors) kept.factors, ap length factors, length-map (term_of p rule alternative).factors (turned (algebra_of p).goal)) in
+    record {
+      arguments = sym all_is ∙ sym (take-append-drop n all) ∙ (λ i. sym front_is i ++ sym others_is i);
+      few = omega (arith, few, others_long);
+      in_front = record {
+        known = subst K (sym front_is) (all_front (IsKnown p.grammar) (take n all) (drop n all) parted);
+        fixed = subst (AllByRecursion IsFixed) (sym front_is) fixed;
+        letters = letters;
+        first = first;
+        alone = alone;
+      };
+      others_known = subst K (sym others_is) (all_back (IsKnown p.grammar) (take n all) (drop n all) parted);
+      constant = constant;
+      factors = sym factors ∙ ap (λ m. take m kept.factors) long ∙ take_both (length kept.front.now) (length kept.others.now) kept.factors;
+      front_each = omega (arith, long, all_there, length-take (length kept.front.now) kept.factors);
+      worthless = λ none. subst (λ m. AreWorthless kept.front.now (take m kept.factors)) (sym front_long) (worthless none);
+    }

@@ -1,0 +1,46 @@
+-- What is kept of an alternative.
+use Rattle.std.specs.Prelude.{◌≡◌, ℕ, ◌+◌, ◌≤◌, ◌++◌, true, false, IfSome, List, [], ◌∷◌, drop, length, map, take}
+use Rattle.std.specs.List.{AllByRecursion}
+use Rattle.adp_model.specs.declared.grammar.Arg.{Arg}
+use Rattle.adp_model.specs.declared.grammar.Arg.TheVariants.{Literal}
+use Rattle.adp_model.specs.PosedProblem.{PosedProblem}
+use Rattle.adp_model.specs.Parts.{algebra_of, arguments_of, term_of}
+use Rattle.adp_model.specs.WellFormed.{IsKnown}
+use Rattle.split_lines.specs.declared.kept.KeptAlternative.{KeptAlternative}
+use Rattle.split_lines.specs.ArgumentEntries.{AreWorthless}
+use Rattle.split_lines.specs.Laid.{IsFixed}
+use Rattle.split_lines.specs.Matching.{HaveLetters}
+use Rattle.split_lines.specs.Totals.{turned}
+
+-- the first of the tokens is a literal that begins with this letter
+pub record BeginWith (tokens : List Arg) (letter : ℕ) : Type 0 where
+  pub letters : List ℕ
+  pub others : List Arg
+  pub are : tokens ≡ Literal (letter ∷ letters) ∷ others
+
+-- the tokens are a literal of one letter, and nothing more
+pub record AreOneLetter (tokens : List Arg) : Type 0 where
+  pub text : List ℕ
+  pub are : tokens ≡ Literal text ∷ []
+  pub one : length text ≡ 1
+
+-- the tokens in front have fixed length, with so many letters and this first one
+pub record AreInFront (p : PosedProblem) (kept : KeptAlternative) : Type 0 where
+  pub known : AllByRecursion (IsKnown p.grammar) kept.front.now
+  pub fixed : AllByRecursion IsFixed kept.front.now
+  pub letters : HaveLetters p kept.front.now kept.letters
+  pub first : IfSome kept.first (BeginWith kept.front.now)
+  pub alone : kept.alone ≡ true → AreOneLetter kept.front.now
+
+-- the parts are those of the alternative of this number and of its term, which is turned
+pub record IsAlternative (p : PosedProblem) (rule alternative : ℕ) (kept : KeptAlternative) : Type 0 where
+  pub arguments : arguments_of p.grammar rule alternative ≡ kept.front.now ++ kept.others.now
+  pub few : length kept.front.now + length kept.others.now ≤ 4
+  pub in_front : AreInFront p kept
+  pub others_known : AllByRecursion (IsKnown p.grammar) kept.others.now
+  pub constant : kept.constant ≡ turned (algebra_of p).goal (term_of p rule alternative).constant
+  pub factors : map (turned (algebra_of p).goal) (term_of p rule alternative).factors
+      ≡ take (length kept.front.now) kept.factors
+      ++ take (length kept.others.now) (drop (length kept.front.now) kept.factors)
+  pub front_each : length (take (length kept.front.now) kept.factors) ≡ length kept.front.now
+  pub worthless : kept.weighs ≡ false → AreWorthless kept.front.now (take (length kept.front.now) kept.factors)

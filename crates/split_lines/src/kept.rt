@@ -1,0 +1,184 @@
+//! Alternatives, made ready for the cells of their rules.
+
+ghost use Rattle.std.specs.Prelude.{◌≡◌, ◌↔◌, ℕ, ◌+◌, ◌<◌, ◌≤◌, IfSome, IsTrue, Some, drop, length, slice_get, take};
+ghost use Rattle.std.specs.Bool.{OnTrue};
+ghost use Rattle.std.specs.List.{AllByRecursion};
+ghost use Rattle.adp_model.specs.PosedProblem.{IsSpan};
+ghost use Rattle.adp_model.specs.Parts.{alternatives_of};
+ghost use Rattle.yield_sizes.specs.Placing.{Cover};
+ghost use Rattle.split_lines.specs.Laid.{IsFixed};
+ghost use Rattle.split_lines.specs.Kept.{AreInFront, AreOneLetter, BeginWith, IsAlternative};
+
+use crate::along::are_worthless;
+use crate::classes::ClassTables;
+use crate::lines::{KeptLine, is_fixed};
+use crate::matches::{covers, fixed_letters};
+use crate::numbers::{turned, turned_factors};
+use crate::parts::{arguments, goal, letters, term};
+use adp_model::laws::well_formed::arguments_are_few_and_known;
+use adp_model::{Arg, Problem};
+
+/// An alternative as it is kept: most spans are refused by the tokens before its first argument of open length.
+#[derive(Drop)]
+pub struct KeptAlternative<'a> {
+    /// The tokens of fixed length before the first argument of open length.
+    pub front: &'a [Arg],
+    /// The arguments from that one on.
+    pub others: &'a [Arg],
+    /// How many letters the tokens in front have, or one more than the word has, where they have more than that.
+    pub letters: u16,
+    /// The letter with which they begin, where the first one is a literal that is not empty.
+    pub first: Option<u8>,
+    /// Whether they are that letter alone.
+    pub alone: bool,
+    /// Whether they may add something to a total.
+    pub weighs: bool,
+    /// The constant of the term, turned.
+    pub constant: i64,
+    /// The factor of each argument, turned; behind them stands 0.
+    pub factors: [i64; 4],
+    /// The line of all the arguments.
+    pub line: Option<KeptLine>,
+}
+
+impl KeptAlternative<'_> {
+    /// Whether all arguments have fixed length, and not as many letters as lie between the two places.
+    #[inline(always)]
+    pub fn has_other_length(&self, from: u16, to: u16) -> bool
+        ensures { OnTrue result ((length self.now.others.now ≡ 0) × (to ≡ from + self.now.letters → ⊥)) }
+    {
+        self.others.is_empty() && from as usize + self.letters as usize != to as usize
+    }
+
+    /// The factors of the tokens in front.
+    #[inline]
+    pub fn front_factors(&self) -> &[i64]
+        requires { length self.now.front.now + length self.now.others.now ≤ 4 }
+        ensures { result.now ≡ take (length self.now.front.now) self.now.factors }
+    {
+        &self.factors[..self.front.len()]
+    }
+
+    /// The factors of the other arguments.
+    #[inline]
+    pub fn other_factors(&self) -> &[i64]
+        requires { length self.now.front.now + length self.now.others.now ≤ 4 }
+        ensures { result.now ≡ take (length self.now.others.now) (drop (length self.now.front.now) self.now.factors) }
+    {
+        let number = self.front.len();
+        &self.factors[number..number + self.others.len()]
+    }
+}
+
+/// How many tokens of fixed length stand before the first argument of open length.
+fn front_length(arguments: &[Arg]) -> usize
+    ensures within { result ≤ length arguments.now }
+    ensures fixed { AllByRecursion IsFixed (take result arguments.now) }
+{
+    for number in 0..arguments.len() {
+        if !is_fixed(&arguments[number]) {
+            return number;
+        }
+    }
+    arguments.len()
+}
+
+/// The letter with which tokens begin wherever they match, where the first one is a literal that is not empty.
+fn first_letter(tokens: &[Arg]) -> Option<u8>
+    ensures { IfSome result (BeginWith tokens.now) }
+{
+    let Some((Arg::Literal(text), _)) = tokens.split_first() else {
+        return None;
+    };
+    match text.bytes().split_first() {
+        Some((letter, _)) => Some(*letter),
+        None => None,
+    }
+}
+
+/// Whether tokens are a literal of one letter, and nothing more.
+fn are_one_letter(tokens: &[Arg]) -> bool
+    ensures { OnTrue result (AreOneLetter tokens.now) }
+{
+    let Some((Arg::Literal(text), others)) = tokens.split_first() else {
+        return false;
+    };
+    others.is_empty() && text.bytes().len() == 1
+}
+
+/// An alternative, made ready; its line is found apart. Takes time for each argument and for the letters of literals.
+pub fn kept_alternative<'a>(
+    problem: &'a Problem<'a>,
+    rule: u32,
+    alt: u8,
+    line: Option<KeptLine>,
+) -> KeptAlternative<'a>
+    requires rule { rule < length problem.now.grammar.rules }
+    requires alternative { alt < length (alternatives_of problem.now.grammar rule) }
+    ensures alternative { IsAlternative problem.now rule alt result }
+    ensures line { result.line ≡ line }
+{
+    problem.admissible();
+    arguments_are_few_and_known();
+    let goal = goal(problem);
+    let arguments = arguments(problem, rule, alt);
+    let term = term(problem, rule, alt);
+    let number = front_length(arguments);
+    let (front, others) = (&arguments[..number], &arguments[number..]);
+    let factors = turned_factors(goal, term.factors.as_slice());
+    KeptAlternative {
+        front,
+        others,
+        letters: fixed_letters(problem, front) as u16,
+        first: first_letter(front),
+        alone: are_one_letter(front),
+        weighs: !are_worthless(front, &factors[..number]),
+        constant: turned(goal, term.constant),
+        factors,
+        line,
+    }
+}
+
+/// Whether the letter stands at the place.
+#[inline(always)]
+fn stands(word: &[u8], place: usize, letter: u8) -> bool
+    ensures { IsTrue result ↔ (slice_get word.now place ≡ Some letter) }
+{
+    match word.get(place) {
+        Some(found) => *found == letter,
+        None => false,
+    }
+}
+
+/// Where the tokens in front end that begin at `from`, where they match there and end at `to` or before. In most cases
+/// how many letters they have, or the first of these, tells that they don't.
+#[inline(always)]
+pub fn front_end(
+    tables: &ClassTables<'_>,
+    alternative: &KeptAlternative<'_>,
+    from: usize,
+    to: usize,
+) -> Option<usize>
+    requires front { AreInFront tables.now alternative.now }
+    requires span { IsSpan tables.now.word from to }
+    requires short { to ≤ 4000 }
+    ensures { (end : ℕ) → (result ≡ Some end) ↔ ((end ≤ to) × Cover tables.now alternative.now.front.now from end) }
+{
+    let end = from + alternative.letters as usize;
+    if end > to {
+        return None;
+    }
+    if let Some(letter) = alternative.first {
+        if !stands(letters(tables.problem()), from, letter) {
+            return None;
+        }
+        if alternative.alone {
+            return Some(end);
+        }
+    }
+    if covers(tables, alternative.front, from, end) {
+        Some(end)
+    } else {
+        None
+    }
+}
