@@ -6,8 +6,9 @@ use Rattle.std.proofs.lemmas.List.{get_or_read}
 use Rattle.adp_model.specs.declared.cell.Cell.{Cell}
 use Rattle.adp_model.specs.PosedProblem.{PosedProblem}
 use Rattle.adp_model.specs.Demand.{IsDemandedChild, IsBelow, IsDemanded}
-use Rattle.split_lines.specs.Entries.{Table, HasEntry}
-use Rattle.split_lines.specs.Marks.{CellMarks, IsMarkedInRow, IsEndMarked}
+use Rattle.cell_tables.specs.Tables.{Table}
+use Rattle.split_lines.specs.Entries.{HasEntry}
+use Rattle.cell_tables.specs.Marks.{CellMarks, IsMarkedInRow, IsEndMarked}
 use Rattle.seq_reference.specs.Sweeping.{AreRanked}
 use Rattle.seq_reference.specs.Filling.{AreFilled, AreKept, IsFromStart, IsFilledBefore, IsFilledFrom, IsWithin, IsShorterWithin, IsFilledBeforeRule}
 use Rattle.seq_reference.proofs.Sweeps.{Counted, visited}
@@ -105,6 +106,18 @@ module _ (p : PosedProblem) (first past to : ℕ) where
     entries = λ cell demanded here. ⊎_elim
         (λ was. kept cell (before.entries cell demanded (inl was)))
         (λ (low, ends). filled.entries cell demanded (low, omega arith)) here;
+  }
+
+  -- one more start, where no demanded cell begins
+  pub unmarked_filled : (table : Table ℤ) (from next : ℕ) → next ≡ from + 1 → AreFilled p table (IsFilledFrom first past to next) → ((cell : Cell) → cell.from ≡ from → IsDemanded p cell → ⊥) → AreFilled p table (IsFilledFrom first past to from)
+  unmarked_filled table from next is before none = record {
+    problem = before.problem;
+    entries = λ cell demanded here. ⊎_elim
+        (λ was. before.entries cell demanded (inl was))
+        (λ (low, ends). ⊎_elim
+        (λ later. before.entries cell demanded (inr (omega arith, ends)))
+        (λ at. absurd (none cell (omega arith) demanded))
+        (cases_lt from cell.from)) here;
   }
 
   pub no_start_filled : (table : Table ℤ) → AreFilled p table (IsFilledBefore first past to) → AreFilled p table (IsFilledFrom first past to past)

@@ -6,6 +6,7 @@ pub mod Spans
 pub mod Firsts
 pub mod Rooted
 pub mod Falls
+pub mod Turns
 pub mod Ranks
 pub mod Sweeps
 pub mod Fills

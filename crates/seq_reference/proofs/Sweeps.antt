@@ -8,7 +8,7 @@ use Rattle.adp_model.specs.PosedProblem.{PosedProblem, axiom_cell}
 use Rattle.adp_model.specs.Sizes.{IsWithinSizes}
 use Rattle.adp_model.specs.Cells.{IsCounted}
 use Rattle.adp_model.specs.Demand.{IsDemandedChild, IsBelow, IsDemanded, Axiom, Child}
-use Rattle.split_lines.specs.Marks.{CellMarks, IsMarked, IsMarkedInRow, IsSpanMarked, AreInRows, AreMarkedToo, AreMarkedFrom}
+use Rattle.cell_tables.specs.Marks.{CellMarks, IsMarked, IsMarkedInRow, IsSpanMarked, AreInRows, AreMarkedToo, AreMarkedFrom}
 use Rattle.seq_reference.specs.Sweeping.{AreRanked, IsBeforeStart, IsBeforeEnd, IsBeforeRule, AreGathered, IsSettled, AreSwept}
 
 abbrev pub Counted : PosedProblem → Cell → Type 0

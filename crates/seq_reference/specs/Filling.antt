@@ -4,7 +4,8 @@ use Rattle.std.specs.Prelude.{◌≡◌, ℕ, ◌<◌, ◌≤◌, ◌⊎◌, ℤ
 use Rattle.adp_model.specs.declared.cell.Cell.{Cell}
 use Rattle.adp_model.specs.PosedProblem.{PosedProblem}
 use Rattle.adp_model.specs.Demand.{IsDemanded}
-use Rattle.split_lines.specs.Entries.{Table, HasEntry}
+use Rattle.cell_tables.specs.Tables.{Table}
+use Rattle.split_lines.specs.Entries.{HasEntry}
 
 -- the cells that begin at this start or later
 abbrev pub IsFromStart : ℕ → Cell → Type 0

@@ -3,7 +3,7 @@ use Rattle.std.specs.Prelude.{◌≡◌, ◌↔◌}
 use Rattle.adp_model.specs.declared.cell.Cell.{Cell}
 use Rattle.adp_model.specs.Demand.{IsDemanded, IsDemandedCount}
 use Rattle.split_lines.specs.Entries.{HasEntry}
-use Rattle.split_lines.specs.Marks.{IsMarkedInRow}
+use Rattle.cell_tables.specs.Marks.{IsMarkedInRow}
 use Rattle.seq_reference.specs.declared.solved.Solved.TheInside.{Inside}
 
 -- the demanded cells and no others are marked in their rows, their scores are entered, and the number of these cells

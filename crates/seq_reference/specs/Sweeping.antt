@@ -4,7 +4,7 @@ use Rattle.std.specs.List.{Contains}
 use Rattle.adp_model.specs.declared.cell.Cell.{Cell}
 use Rattle.adp_model.specs.PosedProblem.{PosedProblem, axiom_cell}
 use Rattle.adp_model.specs.Demand.{IsDemandedChild, IsDemanded}
-use Rattle.split_lines.specs.Marks.{CellMarks, IsMarked, IsMarkedInRow}
+use Rattle.cell_tables.specs.Marks.{CellMarks, IsMarked, IsMarkedInRow}
 
 -- all rules of a problem, so that on one span a cell demands only cells of rules that stand before its own
 pub record AreRanked (p : PosedProblem) (rules : List ℕ) : Type 0 where

@@ -12,11 +12,11 @@ ghost use Rattle.seq_reference.specs.Cuts.{HasNoneScored, IsFirstScored};
 
 use crate::parts::alternatives;
 use crate::values::split_score;
-use crate::viable_cuts::{first_cuts, next_cuts};
+use crate::viable_cuts::{cuts_at, first_cuts, next_cuts};
 use adp_model::laws::bellman::bellman;
 use adp_model::laws::order::answer_is_unique;
 use adp_model::{Answer, Cell, Choice, Problem};
-use split_lines::{Lines, Scores, gives_best};
+use split_lines::{Lines, Scores, first_best_place, gives_best};
 
 /// Whether the split has the score, at the best scores of its arguments' cells.
 fn has_score(
@@ -71,7 +71,8 @@ fn first_scored(
     None
 }
 
-/// The same where the score is the best one of the cell: an alternative that does not give it is not walked over.
+/// The same where the score is the best one of the cell. Only the splits of an alternative that gives it are walked
+/// over, and not even those where two of its arguments have open length.
 fn first_best(
     problem: &Problem,
     lines: &Lines<'_>,
@@ -92,7 +93,10 @@ fn first_best(
     if !gives_best(lines, scores, cell, alt, best) {
         return None;
     }
-    first_scored(problem, lines, scores, cell, alt, best)
+    match first_best_place(lines, scores, cell, alt, best) {
+        Some(at) => Some(cuts_at(problem, lines, cell, alt, at)),
+        None => first_scored(problem, lines, scores, cell, alt, best),
+    }
 }
 
 /// The answer of a cell, by its score and those of its demanded children: the first of its splits that has its score.

@@ -1,13 +1,14 @@
 ghost use Rattle.std.specs.Prelude.{◌≡◌, ◌↔◌, ◌+◌, ◌<◌, IfOk};
 ghost use Rattle.adp_model.specs.declared.cell.Cell.{Cell};
 ghost use Rattle.adp_model.specs.Demand.{IsDemanded};
-ghost use Rattle.split_lines.specs.Marks.{IsMarkedInRow};
+ghost use Rattle.cell_tables.specs.Marks.{IsMarkedInRow};
 ghost use Rattle.seq_reference.specs.Sweeping.{AreGathered, AreRanked, AreSwept, IsBeforeEnd, IsBeforeStart};
 
 use crate::rank_order::rules_by_rank;
 use adp_model::Cell;
 use adp_model::laws::demand::{demanded_cells_are_counted, demanded_children_are_below};
-use split_lines::{Lines, Marks, mark_children};
+use cell_tables::{Layout, Marks};
+use split_lines::{Lines, mark_children};
 use std::alloc::{AllocError, Global};
 
 /// Settles the marked cells of a span, by falling ranks.
@@ -51,13 +52,18 @@ fn settle_start(lines: &Lines<'_>, rules: &[u32], from: u16, marks: &mut Marks<'
 }
 
 /// Marks the axiom's cell alone, where that is demanded.
-fn first_marks<'a>(alloc: Global, lines: &Lines<'a>) -> Result<Marks<'a>, AllocError>
+fn first_marks<'a>(
+    alloc: Global,
+    lines: &Lines<'a>,
+    layout: &Layout<'a>,
+) -> Result<Marks<'a>, AllocError>
+    requires { layout.now ≡ lines.now }
     ensures { IfOk result (λ marks. AreSwept lines.now marks (IsBeforeStart 0)) }
 {
     let problem = lines.problem();
     problem.admissible();
     demanded_cells_are_counted();
-    let mut marks = Marks::new(alloc, problem)?;
+    let mut marks = Marks::new(alloc, layout)?;
     let root = Cell {
         rule: problem.grammar.axiom,
         from: 0,
@@ -72,7 +78,12 @@ fn first_marks<'a>(alloc: Global, lines: &Lines<'a>) -> Result<Marks<'a>, AllocE
 
 /// Marks of the demanded cells: each is marked in its row, and no other cell is. Fails for want of memory alone. Its
 /// time is in proportion to the counted cells and to the lines of the demanded cells, with their places, 64 at a time.
-pub fn demanded_marks<'a>(alloc: Global, lines: &Lines<'a>) -> Result<Marks<'a>, AllocError>
+pub fn demanded_marks<'a>(
+    alloc: Global,
+    lines: &Lines<'a>,
+    layout: &Layout<'a>,
+) -> Result<Marks<'a>, AllocError>
+    requires { layout.now ≡ lines.now }
     ensures problem { IfOk result (λ marks. marks.problem ≡ lines.now) }
     ensures rows { IfOk result (λ marks. (cell : Cell) → IsMarkedInRow marks cell ↔ IsDemanded lines.now cell) }
 {
@@ -80,7 +91,7 @@ pub fn demanded_marks<'a>(alloc: Global, lines: &Lines<'a>) -> Result<Marks<'a>,
     problem.admissible();
     demanded_cells_are_counted();
     let rules = rules_by_rank(alloc, problem)?;
-    let mut marks = first_marks(alloc, lines)?;
+    let mut marks = first_marks(alloc, lines, layout)?;
     for from in 0..problem.word.bytes().len() as u16 + 1 {
         settle_start(lines, &rules, from, &mut marks);
     }

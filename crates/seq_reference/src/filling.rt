@@ -2,14 +2,15 @@ ghost use Rattle.std.specs.Prelude.{◌≡◌, ◌↔◌, ◌+◌, IfOk};
 ghost use Rattle.adp_model.specs.declared.cell.Cell.{Cell};
 ghost use Rattle.adp_model.specs.Demand.{IsDemanded};
 ghost use Rattle.split_lines.specs.Entries.{HasEntry};
-ghost use Rattle.split_lines.specs.Marks.{IsMarkedInRow};
+ghost use Rattle.cell_tables.specs.Marks.{IsMarkedInRow};
 ghost use Rattle.seq_reference.specs.Sweeping.{AreRanked};
 ghost use Rattle.seq_reference.specs.Filling.{AreFilled, AreKept, IsFilledBefore, IsFromStart, IsShorterWithin, IsWithin};
 
 use crate::rank_order::rules_by_rank;
 use adp_model::Cell;
 use adp_model::laws::demand::{demanded_cells_are_counted, demanded_children_are_below};
-use split_lines::{Lines, Marks, Scores, cell_score};
+use cell_tables::{Layout, Marks};
+use split_lines::{Lines, Scores, cell_score};
 use std::alloc::{AllocError, Global};
 
 /// How many starts are filled together. Each end touches the columns of its rules once for all of them: with one start
@@ -64,6 +65,9 @@ fn fill_end(
     ensures { AreFilled lines.now scores.new (IsFilledBefore first past (to + 1)) }
 {
     for from in (first..past).rev() {
+        if !marks.has_start(from) {
+            continue;
+        }
         fill_span(lines, rules, marks, from, to, scores);
     }
 }
@@ -97,8 +101,10 @@ pub fn filled_scores<'a>(
     alloc: Global,
     lines: &Lines<'a>,
     marks: &Marks<'a>,
+    layout: Layout<'a>,
 ) -> Result<Scores<'a>, AllocError>
     requires same_problem { marks.now.problem ≡ lines.now }
+    requires same_layout { layout ≡ lines.now }
     requires marked { (cell : Cell) → IsMarkedInRow marks.now cell ↔ IsDemanded lines.now cell }
     ensures problem { IfOk result (λ scores. scores.problem ≡ lines.now) }
     ensures scored { IfOk result (λ scores. (cell : Cell) → IsDemanded lines.now cell → HasEntry scores cell) }
@@ -107,7 +113,7 @@ pub fn filled_scores<'a>(
     problem.admissible();
     demanded_cells_are_counted();
     let rules = rules_by_rank(alloc, problem)?;
-    let mut scores = Scores::new(alloc, problem)?;
+    let mut scores = Scores::new(alloc, layout)?;
     for block in (0..problem.word.bytes().len() as u16 / BLOCK + 1).rev() {
         let first = block * BLOCK;
         fill_block(lines, &rules, marks, first, first + BLOCK, &mut scores);

@@ -4,6 +4,7 @@ use crate::demand::demanded_marks;
 use crate::filling::filled_scores;
 use crate::solved::Solved;
 use adp_model::Problem;
+use cell_tables::Layout;
 use split_lines::Lines;
 use std::alloc::{AllocError, Global};
 
@@ -13,8 +14,9 @@ pub fn solve<'a>(alloc: Global, problem: &'a Problem<'a>) -> Result<Solved<'a>, 
     ensures { IfOk result (λ solved. solved ≡ problem.now) }
 {
     let lines = Lines::new(alloc, problem)?;
-    let marks = demanded_marks(alloc, &lines)?;
-    let scores = filled_scores(alloc, &lines, &marks)?;
+    let layout = Layout::new(alloc, problem)?;
+    let marks = demanded_marks(alloc, &lines, &layout)?;
+    let scores = filled_scores(alloc, &lines, &marks, layout)?;
     let cells = marks.count();
     Ok(Solved::new(lines, marks, scores, cells))
 }

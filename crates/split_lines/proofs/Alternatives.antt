@@ -20,7 +20,8 @@ use Rattle.adp_model.specs.Splits.{FitsSpan}
 use Rattle.adp_model.specs.Demand.{IsDemandedChild}
 use Rattle.adp_model.specs.Bellman.{HasBestScore}
 use Rattle.yield_sizes.specs.Placing.{on_span}
-use Rattle.split_lines.specs.Entries.{Table, HasEntry}
+use Rattle.cell_tables.specs.Tables.{Table}
+use Rattle.split_lines.specs.Entries.{HasEntry}
 use Rattle.split_lines.specs.Totals.{HasTotal, IsWithinBound, AreWeighted, turned}
 use Rattle.split_lines.proofs.Splitting.{child_of_demands}
 use Rattle.split_lines.proofs.Totalling.{values_kept, sum_low}

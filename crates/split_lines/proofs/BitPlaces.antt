@@ -4,8 +4,8 @@ use Rattle.std.specs.Int.{bit_at}
 use Rattle.std.specs.List.{AllAdjacentBelow, Contains}
 use Rattle.std.proofs.lemmas.List.{length-replicate}
 use Rattle.std.proofs.lemmas.Nat.Bits.{bit_at-zero}
-use Rattle.split_lines.specs.Bits.{IsBitOf}
-use Rattle.split_lines.specs.WordBits.{AreBitsSet, IsBitOfFar}
+use Rattle.cell_tables.specs.Bits.{IsBitOf}
+use Rattle.cell_tables.specs.WordBits.{AreBitsSet, IsBitOfFar}
 use Rattle.split_lines.specs.Flags.{AreBits, AreBitsAmong}
 use Rattle.split_lines.proofs.WholeLines.{between_ends, first_stands, last_stands}
 

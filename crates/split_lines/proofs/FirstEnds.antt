@@ -13,9 +13,11 @@ use Rattle.adp_model.specs.FirstSplit.{IsValue}
 use Rattle.adp_model.specs.Bellman.{HasBestScore}
 use Rattle.yield_sizes.specs.Placing.{on_span, Cover, ArePlaces}
 use Rattle.split_lines.specs.Laid.{Demands}
-use Rattle.split_lines.specs.Entries.{Table, HasEntry}
+use Rattle.cell_tables.specs.Tables.{Table}
+use Rattle.split_lines.specs.Entries.{HasEntry}
+use Rattle.split_lines.specs.Through.{HasTotalAt}
 use Rattle.split_lines.specs.Totals.{HasTotal, IsWithinBound, AreLow, AreWeighted, IsGreatestOf}
-use Rattle.split_lines.proofs.Totalling.{OneScore, HasTotalAt, HasTotalBefore, values_cover, greatest_at, before_all, low_rest, low_parts}
+use Rattle.split_lines.proofs.Totalling.{OneScore, HasTotalBefore, values_cover, greatest_at, before_all, low_rest, low_parts}
 use Rattle.split_lines.proofs.Greatest.{before_more, before_none}
 
 -- it holds of the argument's cell, if it has one

@@ -13,12 +13,14 @@ use Rattle.adp_model.specs.Splits.{FitsSpan}
 use Rattle.adp_model.specs.FirstSplit.{IsValue}
 use Rattle.adp_model.specs.Bellman.{HasBestScore}
 use Rattle.yield_sizes.specs.Placing.{on_span, Cover}
-use Rattle.split_lines.specs.Laid.{IsFixed, AreBoundaries}
+use Rattle.split_lines.specs.declared.opened.OpenedLine.{OpenedLine}
+use Rattle.split_lines.specs.Opened.{IsOpened}
+use Rattle.split_lines.specs.Through.{HasTotalThrough}
 use Rattle.split_lines.specs.Totals.{HasTotal, AreLow, AreWeighted, IsGreatestOf}
 use Rattle.split_lines.proofs.Greatest.{greatest_same, HasBefore}
 use Rattle.split_lines.proofs.Totalling.{low_rest}
 use Rattle.split_lines.proofs.FirstEnds.{AreSound, weighted_rest}
-use Rattle.split_lines.proofs.LineTotals.{HasTotalThrough, open_parts, low_front, through_total, total_through, greatest_through, through_low}
+use Rattle.split_lines.proofs.LineTotals.{low_front, through_total, total_through, one_through, greatest_through, through_low}
 
 pub all_front : {X : Type 0} (P : X → Type 0) (xs ys : List X) → AllByRecursion P (xs ++ ys) → AllByRecursion P xs
 all_front P [] ys all = tt
@@ -45,24 +47,17 @@ weighted_back p front back factors others each it = record {
   tokens_low = λ token from to stands. it.tokens_low token from to (Contains-append_right front back token stands);
 }
 
--- what is known of these arguments
-pub record IsFront (p : PosedProblem) (first : Arg) (middle : List Arg) (second : Arg) (first_factor : ℤ) (middle_factors : List ℤ) (second_factor : ℤ) (from letters last : ℕ) (places : List ℕ) : Type 0 where
-  pub weighted : AreWeighted p (first ∷ (middle ++ second ∷ [])) (first_factor ∷ (middle_factors ++ second_factor ∷ []))
-  pub each : length middle_factors ≡ length middle
-  pub fixed : AllByRecursion IsFixed middle
-  pub boundary : AreBoundaries p (open_parts first middle second) from last letters last places
-  pub low : AreLow p (first ∷ (middle ++ second ∷ [])) (first_factor ∷ (middle_factors ++ second_factor ∷ [])) from last
+module _ (p : PosedProblem) (line : OpenedLine) (opened : IsOpened p line) where
+  open line use {arguments.{first.{now as first}, first_factor, middle.{now as middle}, middle_factors.{now as middle_factors}, second.{now as second}, second_factor}, boundary.{letters, last, places.{now as places}}, from}
 
-module _ (p : PosedProblem) (first : Arg) (middle : List Arg) (second : Arg) (first_factor : ℤ) (middle_factors : List ℤ) (second_factor : ℤ) (from letters last : ℕ) (places : List ℕ)
-    (front : IsFront p first middle second first_factor middle_factors second_factor from letters last places) where
   middle_and_second : AreWeighted p (middle ++ second ∷ []) (middle_factors ++ second_factor ∷ [])
-  middle_and_second = weighted_rest p first (middle ++ second ∷ []) first_factor (middle_factors ++ second_factor ∷ []) front.weighted
+  middle_and_second = weighted_rest p first (middle ++ second ∷ []) first_factor (middle_factors ++ second_factor ∷ []) opened.weighted
 
   pub middle_weighted : AreWeighted p middle middle_factors
-  middle_weighted = weighted_front p middle (second ∷ []) middle_factors (second_factor ∷ []) front.each middle_and_second
+  middle_weighted = weighted_front p middle (second ∷ []) middle_factors (second_factor ∷ []) opened.middle_each middle_and_second
 
   second_weighted : AreWeighted p (second ∷ []) (second_factor ∷ [])
-  second_weighted = weighted_back p middle (second ∷ []) middle_factors (second_factor ∷ []) front.each middle_and_second
+  second_weighted = weighted_back p middle (second ∷ []) middle_factors (second_factor ∷ []) opened.middle_each middle_and_second
 
   pub second_known : IsKnown p.grammar second
   second_known = second_weighted.known.0
@@ -76,45 +71,48 @@ module _ (p : PosedProblem) (first : Arg) (middle : List Arg) (second : Arg) (fi
       → IsGreatestOf (HasTotal p (HasBestScore p) (first ∷ (middle ++ second ∷ [])) (first_factor ∷ (middle_factors ++ second_factor ∷ [])) from last) greatest
   all_through count greatest l m before =
       greatest_same (HasBefore Through count) (HasTotal p (HasBestScore p) (first ∷ (middle ++ second ∷ [])) (first_factor ∷ (middle_factors ++ second_factor ∷ [])) from last) greatest
-      (λ total h. through_total p (HasBestScore p) first middle second first_factor middle_factors second_factor from letters last places front.boundary front.each (get_or places h.0 0) total (Contains-get_or places h.0 0 (omega (arith, h.1, m))) h.2)
+      (λ total h. through_total p (HasBestScore p) first middle second first_factor middle_factors second_factor from letters last places opened.boundary opened.middle_each (get_or places h.0 0) total (Contains-get_or places h.0 0 (omega (arith, h.1, m))) h.2)
       (λ total has.
-      let it = total_through p (HasBestScore p) first middle second first_factor middle_factors second_factor from letters last places front.boundary front.each total has in
+      let it = total_through p (HasBestScore p) first middle second first_factor middle_factors second_factor from letters last places opened.boundary opened.middle_each total has in
       let at : get_or places it.1.0 0 ≡ it.0 = get_or_default places it.1.0 0 it.0 it.1.1 ∙ it.1.2 in
       (it.1.0, omega (arith, it.1.1, l), subst (λ place. HasTotalThrough p (HasBestScore p) first middle second first_factor middle_factors second_factor from letters last place total) (sym at) it.2))
       before
 
   module _ (place : ℕ) (stands : Contains places place) where
     pub first_fits : FitsSpan p (on_span first from place)
-    first_fits = ((front.boundary.exact place).0 stands).0
+    first_fits = ((opened.boundary.exact place).0 stands).0
 
     pub middle_covers : Cover p middle place (place + letters)
-    middle_covers = ((front.boundary.exact place).0 stands).1
+    middle_covers = ((opened.boundary.exact place).0 stands).1
 
     pub second_fits : FitsSpan p (on_span second (place + letters) last)
-    second_fits = ((front.boundary.exact place).0 stands).2
+    second_fits = ((opened.boundary.exact place).0 stands).2
 
     pub first_token_low : nat_abs (token_value p.grammar first (letters_between p.word from place)) ≤ greatest_score
-    first_token_low = front.weighted.tokens_low first from place (0, omega arith, refl) first_fits
+    first_token_low = opened.weighted.tokens_low first from place (0, omega arith, refl) first_fits
 
     pub second_token_low : nat_abs (token_value p.grammar second (letters_between p.word (place + letters) last)) ≤ greatest_score
     second_token_low = second_weighted.tokens_low second (place + letters) last (0, omega arith, refl) second_fits
 
     pub middle_low : AreLow p middle middle_factors place (place + letters)
     middle_low =
-        low_front p middle (second ∷ []) middle_factors (second_factor ∷ []) place (place + letters) last front.each
-        (low_rest p first (middle ++ second ∷ []) first_factor (middle_factors ++ second_factor ∷ []) from place last front.low first_fits)
+        low_front p middle (second ∷ []) middle_factors (second_factor ∷ []) place (place + letters) last opened.middle_each
+        (low_rest p first (middle ++ second ∷ []) first_factor (middle_factors ++ second_factor ∷ []) from place last opened.low first_fits)
         (last, second_fits, refl)
 
     module _ (sound : AreSound p) (value between other : ℤ) (is_value : IsValue p (HasBestScore p) (on_span first from place) value) (has_between : HasTotal p (HasBestScore p) middle middle_factors place (place + letters) between)
         (is_other : IsValue p (HasBestScore p) (on_span second (place + letters) last) other) where
       pub through_parts_low : nat_abs (first_factor *ℤ value) + nat_abs between + nat_abs (second_factor *ℤ other) ≤ greatest_score
       through_parts_low =
-          through_low p (HasBestScore p) first middle second first_factor middle_factors second_factor from letters last places front.boundary front.each sound.within front.low place (((first_factor *ℤ value) +ℤ between) +ℤ (second_factor *ℤ other)) stands
+          through_low p (HasBestScore p) first middle second first_factor middle_factors second_factor from letters last places opened.boundary opened.middle_each sound.within opened.low place (((first_factor *ℤ value) +ℤ between) +ℤ (second_factor *ℤ other)) stands
           (record { value = value; is_value = is_value; between = between; has_between = has_between; other = other; is_other = is_other; is = refl })
 
       pub greatest_here : IsGreatestOf (HasTotalThrough p (HasBestScore p) first middle second first_factor middle_factors second_factor from letters last place) (Some (((first_factor *ℤ value) +ℤ between) +ℤ (second_factor *ℤ other)))
       greatest_here =
-          greatest_through p (HasBestScore p) first middle second first_factor middle_factors second_factor from letters last places front.boundary front.each sound.one front.fixed place value between other is_value has_between is_other
+          greatest_through p (HasBestScore p) first middle second first_factor middle_factors second_factor from letters last places opened.boundary opened.middle_each sound.one opened.middle_fixed place value between other is_value has_between is_other
+
+      pub one_here : (number : ℤ) → HasTotalThrough p (HasBestScore p) first middle second first_factor middle_factors second_factor from letters last place number → number ≡ (((first_factor *ℤ value) +ℤ between) +ℤ (second_factor *ℤ other))
+      one_here = one_through p (HasBestScore p) first middle second first_factor middle_factors second_factor from letters last places opened.boundary opened.middle_each sound.one opened.middle_fixed place value between other is_value has_between is_other
 
 -- sums of numbers that are low together
 pub sums_low : (a b c : ℤ) → nat_abs a + nat_abs b + nat_abs c ≤ greatest_score → (nat_abs a ≤ greatest_score) × (nat_abs (a +ℤ b) ≤ greatest_score) × (nat_abs c ≤ greatest_score) × (nat_abs ((a +ℤ b) +ℤ c) ≤ greatest_score)

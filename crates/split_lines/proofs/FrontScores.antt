@@ -8,7 +8,7 @@ use Rattle.adp_model.specs.ProblemFields.{greatest_score, IsAdmissible}
 use Rattle.adp_model.specs.Bellman.{HasBestScore}
 use Rattle.yield_sizes.specs.Placing.{Cover}
 use Rattle.split_lines.specs.declared.kept.KeptAlternative.{KeptAlternative}
-use Rattle.split_lines.specs.Entries.{Table}
+use Rattle.cell_tables.specs.Tables.{Table}
 use Rattle.split_lines.specs.Kept.{IsAlternative}
 use Rattle.split_lines.specs.Totals.{HasTotal, HasTurnedScore, IsGreatestOf, turned}
 use Rattle.split_lines.proofs.Alternatives.{with_constant_low}

@@ -14,8 +14,8 @@ use Rattle.yield_sizes.specs.Placing.{Cover}
 use Rattle.split_lines.specs.declared.lines.Line.{Line}
 use Rattle.split_lines.specs.Laid.{Demands, IsFixed}
 use Rattle.split_lines.specs.Lines.{IsLine}
-use Rattle.split_lines.specs.Entries.{Table}
-use Rattle.split_lines.specs.Marks.{CellMarks, AreMarkedFrom}
+use Rattle.cell_tables.specs.Tables.{Table}
+use Rattle.cell_tables.specs.Marks.{CellMarks, AreMarkedFrom}
 use Rattle.split_lines.specs.Totals.{HasTotal, IsWithinBound, AreLow, AreWeighted, IsGreatestOf}
 use Rattle.split_lines.proofs.Dividing.{cover_forward}
 use Rattle.split_lines.proofs.FirstEnds.{AreLaid, AreSound}

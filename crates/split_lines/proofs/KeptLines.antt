@@ -52,6 +52,8 @@ line_still p old new arguments (Some line) longer kept = record {
   has_line = kept.has_line;
   middle = number_still old new _ line.middle longer kept.middle;
   tail = kept.tail;
+  before = kept.before;
+  behind = kept.behind;
 }
 
 pub alternatives_still : (p : PosedProblem) (old new : List Middle) (rule count : ℕ) (kept : List KeptAlternative) → HasAllOf old new → AreKept p old rule count kept → AreKept p new rule count kept

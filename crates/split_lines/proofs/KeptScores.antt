@@ -9,8 +9,9 @@ use Rattle.adp_model.specs.declared.cell.Answer.TheVariants.{NoCandidate}
 use Rattle.adp_model.specs.PosedProblem.{PosedProblem}
 use Rattle.adp_model.specs.Answers.{IsAnswer}
 use Rattle.adp_model.specs.Bellman.{HasBestScore}
-use Rattle.split_lines.specs.Spans.{Spans, IsWritten}
-use Rattle.split_lines.specs.Entries.{Table, HasEntry, IsEntry, no_candidate}
+use Rattle.cell_tables.specs.Spans.{Spans, IsWritten}
+use Rattle.cell_tables.specs.Tables.{Table}
+use Rattle.split_lines.specs.Entries.{HasEntry, IsEntry, no_candidate}
 
 -- an entry other than that of no candidate is the cell's best score
 pub entry_scored : (p : PosedProblem) (cell : Cell) (entry : ℤ) → IsEntry p cell entry → (entry ≡ no_candidate → ⊥) → HasBestScore p cell entry

@@ -1,11 +1,11 @@
 -- The greatest sum of two numbers of a width: low where one of them marks that there is no candidate.
-use Rattle.std.proofs.Common.{◌≡◌, ℕ, zero, suc, ◌+◌, ◌-◌, ◌*◌, ◌^◌, ◌<◌, ◌≤◌, ◌⊎◌, ℤ, pos, neg_ℤ, ◌+ℤ◌, ◌*ℤ◌, ◌≤ℤ◌, ◌<ℤ◌, nat_abs, Option, Some, None, List, [], ◌∷◌, length, map, get_or, slice_get, slice_index_or, FitsSigned, w16, w32, w64, refl, sym, ap, subst, inl, inr, ◌∙◌, Bool, true, false, if◌then◌else◌, arith, rules}
+use Rattle.std.proofs.Common.{◌≡◌, ℕ, zero, suc, ◌+◌, ◌-◌, ◌*◌, ◌^◌, ◌<◌, ◌≤◌, ◌⊎◌, ℤ, pos, neg_ℤ, ◌+ℤ◌, ◌*ℤ◌, ◌≤ℤ◌, ◌<ℤ◌, nat_abs, Option, Some, None, List, [], ◌∷◌, length, map, get_or, slice_get, slice_index_or, FitsSigned, w16, w32, w64, refl, sym, ap, subst, inl, inr, ◌∙◌, if◌then◌else◌, arith, rules}
 use Rattle.std.proofs.Math.IntN.{*ℤ_comm, *ℤ-one}
-use Rattle.std.specs.Int.{int_max}
+use Rattle.std.specs.Int.{int_max, int_min}
 use Rattle.std.specs.List.{AllAdjacentBelow, Contains}
 use Rattle.std.specs.Option.{option_map}
 use Rattle.std.specs.Ordering.{int_eq}
-use Rattle.std.proofs.lemmas.Int.{ints, int_max_is, fits_signed_from_abs}
+use Rattle.std.proofs.lemmas.Int.{ints, int_max_is, int_min_is, fits_signed_from_abs}
 use Rattle.std.proofs.lemmas.Bool.{cases_Bool}
 use Rattle.std.proofs.lemmas.Bool.Decides.{Decides-int_eq}
 use Rattle.std.proofs.lemmas.List.{get_or_default, length-map, map-id}
@@ -16,8 +16,8 @@ use Rattle.split_lines.specs.declared.sums.Places.{Places}
 use Rattle.split_lines.specs.declared.sums.Scales.{Scales}
 use Rattle.split_lines.specs.Packing.{Width, IsProper, short, medium, long}
 use Rattle.split_lines.specs.Entries.{no_candidate, score_of_entry}
-use Rattle.split_lines.specs.Flags.{AreFlagged}
-use Rattle.split_lines.specs.Sums.{HasSum, HasSumAt, HasFlaggedSum, HasScaledSum, HasScaledSumAt, HaveNumbers, number_at}
+use Rattle.split_lines.specs.Limits.{no_limit, AreLimited}
+use Rattle.split_lines.specs.Sums.{HasSum, HasSumAt, HasUnlimitedSum, HasScaledSum, HasScaledSumAt, HaveNumbers, number_at}
 use Rattle.split_lines.specs.Totals.{IsGreatestOf}
 use Rattle.split_lines.proofs.Greatest.{greatest_same, HasBefore, before_more, before_none}
 
@@ -83,9 +83,9 @@ IsLargest least Holds greatest =
 pub max_cases : (a b : ℤ) → ((int_max a b ≡ a) × (b ≤ℤ a)) ⊎ ((int_max a b ≡ b) × (a ≤ℤ b))
 max_cases a b = grind (arith, ints, int_max_is)
 
--- two numbers side by side have this sum, and are flagged
-abbrev pub IsFlaggedSum : Width → List Bool → List ℤ → List ℤ → ℕ → ℤ → Type 0
-IsFlaggedSum width flags firsts seconds k sum = (slice_get flags k ≡ Some true) × HasSum width firsts seconds k sum
+-- two numbers side by side have this sum, and there is no limit
+abbrev pub IsUnlimitedSum : List ℤ → List ℤ → List ℤ → ℕ → ℤ → Type 0
+IsUnlimitedSum limits firsts seconds k sum = (slice_get limits k ≡ Some no_limit) × HasSum short firsts seconds k sum
 
 -- the greatest of numbers of which none is less than this, where it is less while there is none
 module _ (least : ℤ) where
@@ -173,31 +173,41 @@ module _ (width : Width) (spaced : IsSpaced width) where
             λ number it. let e = it.is in let e' = first_is number it in let e'' = second_is number it in omega (arith, ints),
           )
 
-  -- the sum of the numbers at one more place, where that is flagged
-  pub flagged_more : (flags : List Bool) (firsts seconds : List ℤ) (bound : ℕ) (greatest new a b : ℤ) → slice_get flags bound ≡ Some true → new ≡ int_max greatest (a +ℤ b) → slice_get firsts bound ≡ Some a → slice_get seconds bound ≡ Some b → IsProper width a → IsProper width b
-      → IsLargest (least_sum width) (HasBefore (IsFlaggedSum width flags firsts seconds) bound) greatest → IsLargest (least_sum width) (HasBefore (IsFlaggedSum width flags firsts seconds) (bound + 1)) new
-  flagged_more flags firsts seconds bound greatest new a b flag max there behind proper_a proper_b before = go proper_a proper_b
-    where
-      first_is : (number : ℤ) (it : HasSum width firsts seconds bound number) → it.first ≡ a
-      first_is number it = let e = it.first_there in cc
+-- the sum of the numbers at one more place, where there is no limit
+pub unlimited_more : (limits : List ℤ) (firsts seconds : List ℤ) (bound : ℕ) (greatest new a b : ℤ) → slice_get limits bound ≡ Some no_limit → new ≡ int_max greatest (a +ℤ b) → slice_get firsts bound ≡ Some a → slice_get seconds bound ≡ Some b → IsProper short a → IsProper short b
+    → IsLargest (least_sum short) (HasBefore (IsUnlimitedSum limits firsts seconds) bound) greatest → IsLargest (least_sum short) (HasBefore (IsUnlimitedSum limits firsts seconds) (bound + 1)) new
+unlimited_more limits firsts seconds bound greatest new a b unlimited max there behind proper_a proper_b before = go proper_a proper_b
+  where
+    first_is : (number : ℤ) (it : HasSum short firsts seconds bound number) → it.first ≡ a
+    first_is number it = let e = it.first_there in cc
 
-      second_is : (number : ℤ) (it : HasSum width firsts seconds bound number) → it.second ≡ b
-      second_is number it = let e = it.second_there in cc
+    second_is : (number : ℤ) (it : HasSum short firsts seconds bound number) → it.second ≡ b
+    second_is number it = let e = it.second_there in cc
 
-      go : IsProper width a → IsProper width b → IsLargest (least_sum width) (HasBefore (IsFlaggedSum width flags firsts seconds) (bound + 1)) new
-      go (inl e) proper = more_low (least_sum width) (IsFlaggedSum width flags firsts seconds) bound greatest new (a +ℤ b) max before (sum_low a b e proper) (λ number it. it.1.first_scores (first_is number it.1 ∙ e))
-      go (inr l) (inl e) = more_low (least_sum width) (IsFlaggedSum width flags firsts seconds) bound greatest new (a +ℤ b) max before (sum_low_behind a b (inr l) e) (λ number it. it.1.second_scores (second_is number it.1 ∙ e))
-      go (inr l) (inr m) =
-          more_high (least_sum width) (IsFlaggedSum width flags firsts seconds) bound greatest new (a +ℤ b) max before (sum_of_scores a b l m) (
-            (flag, record { first = a; second = b; first_there = there; second_there = behind; first_scores = score_apart a l; second_scores = score_apart b m; is = refl }),
-            λ number it. let e = it.1.is in let e' = first_is number it.1 in let e'' = second_is number it.1 in omega (arith, ints),
-          )
+    go : IsProper short a → IsProper short b → IsLargest (least_sum short) (HasBefore (IsUnlimitedSum limits firsts seconds) (bound + 1)) new
+    go (inl e) proper = more_low (least_sum short) (IsUnlimitedSum limits firsts seconds) bound greatest new (a +ℤ b) max before (sum_low short short_spaced a b e proper) (λ number it. it.1.first_scores (first_is number it.1 ∙ e))
+    go (inr l) (inl e) = more_low (least_sum short) (IsUnlimitedSum limits firsts seconds) bound greatest new (a +ℤ b) max before (sum_low_behind short short_spaced a b (inr l) e) (λ number it. it.1.second_scores (second_is number it.1 ∙ e))
+    go (inr l) (inr m) =
+        more_high (least_sum short) (IsUnlimitedSum limits firsts seconds) bound greatest new (a +ℤ b) max before (sum_of_scores short short_spaced a b l m) (
+          (unlimited, record { first = a; second = b; first_there = there; second_there = behind; first_scores = score_apart short short_spaced a l; second_scores = score_apart short short_spaced b m; is = refl }),
+          λ number it. let e = it.1.is in let e' = first_is number it.1 in let e'' = second_is number it.1 in omega (arith, ints),
+        )
 
-  -- one more place that is not flagged
-  pub unflagged_more : (flags : List Bool) (firsts seconds : List ℤ) (bound : ℕ) (greatest new : ℤ) → slice_get flags bound ≡ Some false → new ≡ int_max greatest width.mark
-      → IsLargest (least_sum width) (HasBefore (IsFlaggedSum width flags firsts seconds) bound) greatest → IsLargest (least_sum width) (HasBefore (IsFlaggedSum width flags firsts seconds) (bound + 1)) new
-  unflagged_more flags firsts seconds bound greatest new flag max before =
-      more_low (least_sum width) (IsFlaggedSum width flags firsts seconds) bound greatest new width.mark max before (let l = spaced.low in omega (arith, ints)) (λ number it. let e = it.0 in absurd cc)
+-- one more place, where the mark is the limit
+pub limited_more : (limits firsts seconds : List ℤ) (bound : ℕ) (greatest new least : ℤ) → slice_get limits bound ≡ Some short.mark → new ≡ int_max greatest least → least ≤ℤ short.mark
+    → IsLargest (least_sum short) (HasBefore (IsUnlimitedSum limits firsts seconds) bound) greatest → IsLargest (least_sum short) (HasBefore (IsUnlimitedSum limits firsts seconds) (bound + 1)) new
+limited_more limits firsts seconds bound greatest new least limited max low before =
+    more_low (least_sum short) (IsUnlimitedSum limits firsts seconds) bound greatest new least max before (omega (arith, ints))
+    (λ number it. let same : no_limit ≡ short.mark = (let e = it.0 in cc) in omega (arith, ints))
+
+pub limit_fits : (limit : ℤ) → (limit ≡ no_limit) ⊎ (limit ≡ short.mark) → FitsSigned w16 limit
+limit_fits limit (inl e) = fits_signed_from_abs w16 limit (let same = ap nat_abs e in omega arith)
+limit_fits limit (inr e) = short_fits limit (inl e)
+
+-- the lesser of a sum and its limit
+pub limit_cases : (sum limit least : ℤ) → FitsSigned w16 sum → (limit ≡ no_limit) ⊎ (limit ≡ short.mark) → least ≡ int_min sum limit → ((limit ≡ no_limit) × (least ≡ sum)) ⊎ ((limit ≡ short.mark) × (least ≤ℤ short.mark))
+limit_cases sum limit least fits (inl e) is = inl (e, grind (arith, ints, int_min_is))
+limit_cases sum limit least fits (inr e) is = inr (e, grind (arith, ints, int_min_is))
 
 pub some_place : {A : Type 0} (items : List A) (place : ℕ) (item : A) → slice_get items place ≡ Some item → place < length items
 some_place [] place item e = absurd cc
@@ -280,54 +290,46 @@ module _ (places : Places) (firsts seconds : List ℤ) (have : HaveNumbers place
       let e : number_at places h.0 ≡ h.1.0 = subst (λ place. number_at places place ≡ h.1.0) at (number_is h.1.0 h.1.1) in
       (h.1.0, subst (λ k. HasSum width firsts seconds k number) e h.2))
 
--- those that are flagged are those before the end
-pub all_flagged : (width : Width) (flags : List Bool) (firsts seconds : List ℤ) (count : ℕ) (greatest : ℤ) → count ≡ length flags → IsLargest (least_sum width) (HasBefore (IsFlaggedSum width flags firsts seconds) count) greatest
-    → IsLargest (least_sum width) (HasFlaggedSum width flags firsts seconds) greatest
-all_flagged width flags firsts seconds count greatest all (inl (low, none)) =
-    inl (low, λ number h. none number (h.0, omega (arith, all, some_place flags h.0 true h.1), (h.1, h.2)))
-all_flagged width flags firsts seconds count greatest all (inr (high, is)) =
+-- sums with no limit are those before the end
+pub all_limited : (limits firsts seconds : List ℤ) (count : ℕ) (greatest : ℤ) → count ≡ length limits → IsLargest (least_sum short) (HasBefore (IsUnlimitedSum limits firsts seconds) count) greatest
+    → IsLargest (least_sum short) (HasUnlimitedSum limits firsts seconds) greatest
+all_limited limits firsts seconds count greatest all (inl (low, none)) =
+    inl (low, λ number h. none number (h.0, omega (arith, all, some_place limits h.0 no_limit h.1), (h.1, h.2)))
+all_limited limits firsts seconds count greatest all (inr (high, is)) =
     inr (
       high,
-      greatest_same (HasBefore (IsFlaggedSum width flags firsts seconds) count) (HasFlaggedSum width flags firsts seconds) (Some greatest)
+      greatest_same (HasBefore (IsUnlimitedSum limits firsts seconds) count) (HasUnlimitedSum limits firsts seconds) (Some greatest)
           (λ number h. (h.0, h.2.0, h.2.1))
-          (λ number h. (h.0, omega (arith, all, some_place flags h.0 true h.1), (h.1, h.2))) is,
+          (λ number h. (h.0, omega (arith, all, some_place limits h.0 no_limit h.1), (h.1, h.2))) is,
     )
 
--- a flag is set or not, and the number stands or the mark
-pub flag_cases : (flags : List Bool) (at : ℕ) (mark sum number : ℤ) → at < length flags → sum ≡ (if get_or flags at false then number else mark) → ((slice_get flags at ≡ Some true) × (sum ≡ number)) ⊎ ((slice_get flags at ≡ Some false) × (sum ≡ mark))
-flag_cases flags at mark sum number inside is = go (get_or flags at false) (slice_get-get_or flags at false inside) is
-  where
-    go : (flag : Bool) → slice_get flags at ≡ Some flag → sum ≡ (if flag then number else mark) → ((slice_get flags at ≡ Some true) × (sum ≡ number)) ⊎ ((slice_get flags at ≡ Some false) × (sum ≡ mark))
-    go true there e = inl (there, e)
-    go false there e = inr (there, e)
+-- ---- places that limits tell, from the first to the last
 
--- ---- places that are flagged from the first to the last
-
-module _ (places : Places) (firsts seconds : List ℤ) (flags : List Bool) (have : HaveNumbers places firsts seconds) (flagged : AreFlagged places.at.now flags) (as_many : length firsts ≡ length flags) where
+module _ (places : Places) (firsts seconds : List ℤ) (limits : List ℤ) (have : HaveNumbers places firsts seconds) (limited : AreLimited places.at.now limits) (as_many : length firsts ≡ length limits) where
   abbrev begin : ℕ
   begin = get_or places.at.now 0 0
 
   -- the numbers begin with those of the first place
-  begins : 0 < length flags → places.first ≡ begin
+  begins : 0 < length limits → places.first ≡ begin
   begins some =
-      let last : Contains places.at.now (begin + length flags - 1) = (flagged.exact (begin + length flags - 1)).1 (flagged.last some) in
+      let last : Contains places.at.now (begin + length limits - 1) = (limited.exact (begin + length limits - 1)).1 (limited.last some) in
       let first : Contains places.at.now begin = Contains-get_or places.at.now 0 0 (omega (arith, last.1)) in
-      omega (arith, some, as_many, have.from_first (begin + length flags - 1) last, have.before (begin + length flags - 1) last, have.from_first begin first)
+      omega (arith, some, as_many, have.from_first (begin + length limits - 1) last, have.before (begin + length limits - 1) last, have.from_first begin first)
 
-  pub flagged_places : (width : Width) (greatest : Option ℤ) → IsGreatestOf (HasFlaggedSum width flags firsts seconds) greatest → IsGreatestOf (HasSumAt width places firsts seconds) greatest
-  flagged_places width greatest =
-      greatest_same (HasFlaggedSum width flags firsts seconds) (HasSumAt width places firsts seconds) greatest
+  pub limited_places : (greatest : Option ℤ) → IsGreatestOf (HasUnlimitedSum limits firsts seconds) greatest → IsGreatestOf (HasSumAt short places firsts seconds) greatest
+  limited_places greatest =
+      greatest_same (HasUnlimitedSum limits firsts seconds) (HasSumAt short places firsts seconds) greatest
       (λ number h.
-      let at = begins (omega (arith, some_place flags h.0 true h.1)) in
+      let at = begins (omega (arith, some_place limits h.0 no_limit h.1)) in
       let same : begin + h.0 - begin ≡ h.0 = omega arith in
-      let stands : Contains places.at.now (begin + h.0) = (flagged.exact (begin + h.0)).1 (omega arith, subst (λ k. slice_get flags k ≡ Some true) (sym same) h.1) in
+      let stands : Contains places.at.now (begin + h.0) = (limited.exact (begin + h.0)).1 (omega arith, subst (λ k. slice_get limits k ≡ Some no_limit) (sym same) h.1) in
       let e : h.0 ≡ number_at places (begin + h.0) = omega (arith, at) in
-      (begin + h.0, stands, subst (λ k. HasSum width firsts seconds k number) e h.2))
+      (begin + h.0, stands, subst (λ k. HasSum short firsts seconds k number) e h.2))
       (λ number h.
-      let told = (flagged.exact h.0).0 h.1 in
-      let at = begins (omega (arith, some_place flags (h.0 - begin) true told.1)) in
+      let told = (limited.exact h.0).0 h.1 in
+      let at = begins (omega (arith, some_place limits (h.0 - begin) no_limit told.1)) in
       let e : number_at places h.0 ≡ h.0 - begin = omega (arith, at) in
-      (h.0 - begin, told.1, subst (λ k. HasSum width firsts seconds k number) e h.2))
+      (h.0 - begin, told.1, subst (λ k. HasSum short firsts seconds k number) e h.2))
 
 -- ---- numbers with factors
 

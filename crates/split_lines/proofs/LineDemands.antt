@@ -16,7 +16,7 @@ use Rattle.yield_sizes.specs.Placing.{on_span, Cover, ArePlaces}
 use Rattle.split_lines.specs.Laid.{IsCellOf, Demands, IsFixed, LineParts, AreBoundaries}
 use Rattle.split_lines.specs.declared.lines.Line.{Line}
 use Rattle.split_lines.specs.Lines.{HasLine, IsLine, parts_by}
-use Rattle.split_lines.specs.Marks.{CellMarks, AreMarkedFrom}
+use Rattle.cell_tables.specs.Marks.{CellMarks, AreMarkedFrom}
 use Rattle.split_lines.proofs.Splitting.{child_of_demands, demands_of_child}
 use Rattle.split_lines.proofs.MarkSteps.{marked_like, marked_more}
 

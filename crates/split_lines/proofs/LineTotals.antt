@@ -13,6 +13,7 @@ use Rattle.adp_model.specs.Splits.{FitsSpan}
 use Rattle.adp_model.specs.FirstSplit.{IsValue}
 use Rattle.yield_sizes.specs.Placing.{on_span, Cover}
 use Rattle.split_lines.specs.Laid.{IsFixed, Demands, LineParts, AreBoundaries}
+use Rattle.split_lines.specs.Through.{HasTotalThrough}
 use Rattle.split_lines.specs.Totals.{HaveValues, HasTotal, IsWithinBound, AreLow, IsGreatestOf}
 use Rattle.split_lines.proofs.Totalling.{OneScore, values_kept, value_unique, values_cover, values_length, some_value, sum_low}
 use Rattle.split_lines.proofs.Tokens.{fixed_span}
@@ -162,16 +163,6 @@ fixed_total_unique p HasScore tokens factors from to to' a b fixed (values, have
 
 -- ---- through a place of the boundary
 
--- the first argument ends at the place, so many letters lie between, and the second one ends at `last`
-pub record HasTotalThrough (p : PosedProblem) (HasScore : Cell → ℤ → Type 0) (first : Arg) (middle : List Arg) (second : Arg) (first_factor : ℤ) (middle_factors : List ℤ) (second_factor : ℤ) (from letters last place : ℕ) (total : ℤ) : Type 0 where
-  pub value : ℤ
-  pub is_value : IsValue p HasScore (on_span first from place) value
-  pub between : ℤ
-  pub has_between : HasTotal p HasScore middle middle_factors place (place + letters) between
-  pub other : ℤ
-  pub is_other : IsValue p HasScore (on_span second (place + letters) last) other
-  pub is : total ≡ (((first_factor *ℤ value) +ℤ between) +ℤ (second_factor *ℤ other))
-
 abbrev pub open_parts : Arg → List Arg → Arg → LineParts
 open_parts first middle second = record { first = first; middle = middle; second = second; tail = [] }
 
@@ -221,18 +212,24 @@ module _ (p : PosedProblem) (HasScore : Cell → ℤ → Type 0) (first : Arg) (
                 },
               )
 
-  -- of the totals through a place the greatest is the one there is
+  -- there is one total at most through a place
+  pub one_through : OneScore HasScore → AllByRecursion IsFixed middle → (place : ℕ) (value between other : ℤ) → IsValue p HasScore (on_span first from place) value → HasTotal p HasScore middle middle_factors place (place + letters) between
+      → IsValue p HasScore (on_span second (place + letters) last) other → (number : ℤ) → HasTotalThrough p HasScore first middle second first_factor middle_factors second_factor from letters last place number
+      → number ≡ (((first_factor *ℤ value) +ℤ between) +ℤ (second_factor *ℤ other))
+  one_through one fixed place value between other is_value has_between is_other number it =
+      let a : it.value ≡ value = value_unique p HasScore one first from place it.value value it.is_value is_value in
+      let b : it.between ≡ between = fixed_total_unique p HasScore middle middle_factors place (place + letters) (place + letters) it.between between fixed it.has_between has_between in
+      let c : it.other ≡ other = value_unique p HasScore one second (place + letters) last it.other other it.is_other is_other in
+      it.is ∙ (λ i. ((first_factor *ℤ a i) +ℤ b i) +ℤ (second_factor *ℤ c i))
+
+  -- so that is the greatest
   pub greatest_through : OneScore HasScore → AllByRecursion IsFixed middle → (place : ℕ) (value between other : ℤ) → IsValue p HasScore (on_span first from place) value → HasTotal p HasScore middle middle_factors place (place + letters) between
       → IsValue p HasScore (on_span second (place + letters) last) other
       → IsGreatestOf (HasTotalThrough p HasScore first middle second first_factor middle_factors second_factor from letters last place) (Some (((first_factor *ℤ value) +ℤ between) +ℤ (second_factor *ℤ other)))
   greatest_through one fixed place value between other is_value has_between is_other = (
     record { value = value; is_value = is_value; between = between; has_between = has_between; other = other; is_other = is_other; is = refl },
     λ number it.
-        let a : it.value ≡ value = value_unique p HasScore one first from place it.value value it.is_value is_value in
-        let b : it.between ≡ between = fixed_total_unique p HasScore middle middle_factors place (place + letters) (place + letters) it.between between fixed it.has_between has_between in
-        let c : it.other ≡ other = value_unique p HasScore one second (place + letters) last it.other other it.is_other is_other in
-        let same : (((first_factor *ℤ it.value) +ℤ it.between) +ℤ (second_factor *ℤ it.other)) ≡ (((first_factor *ℤ value) +ℤ between) +ℤ (second_factor *ℤ other)) = λ i. ((first_factor *ℤ a i) +ℤ b i) +ℤ (second_factor *ℤ c i) in
-        let e = it.is in
+        let same = one_through one fixed place value between other is_value has_between is_other number it in
         omega (arith, ints),
   )
 

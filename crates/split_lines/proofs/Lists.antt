@@ -1,20 +1,24 @@
--- Elements of the front of a list as it grows by one, and elements of a part of a list.
-use Rattle.std.proofs.Common.{◌≡◌, ℕ, zero, suc, ◌+◌, ◌<◌, ◌⊎◌, List, [], ◌∷◌, length, get_or, take, drop, slice_get, ◌-◌, sym, ap, refl, subst, ◌∙◌, arith}
+-- Elements of a list and of a part of it.
+use Rattle.std.proofs.Common.{◌≡◌, ◌⊎◌, ℕ, zero, suc, ◌+◌, ◌-◌, ◌<◌, List, [], ◌∷◌, length, get_or, take, drop, slice_get, inl, inr, sym, ap, refl, ◌∙◌, arith}
 use Rattle.std.specs.List.{Contains}
-use Rattle.std.proofs.lemmas.List.{take_more}
+use Rattle.std.proofs.lemmas.Bool.{cases_eq}
 use Rattle.std.proofs.Math.Seq.{take_all}
-use Rattle.std.proofs.lemmas.List.Elements.{Contains-append_left, Contains-push, Contains-push_cases}
 
-pub contained_later : {V : Type 0} (xs : List V) (i : ℕ) (d x : V) → i < length xs → Contains (take i xs) x → Contains (take (i + 1) xs) x
-contained_later xs i d x l there =
-    subst (λ ys. Contains ys x) (sym (take_more xs i d l)) (Contains-append_left (take i xs) (get_or xs i d ∷ []) x there)
-
-pub contained_now : {V : Type 0} (xs : List V) (i : ℕ) (d : V) → i < length xs → Contains (take (i + 1) xs) (get_or xs i d)
-contained_now xs i d l = subst (λ ys. Contains ys (get_or xs i d)) (sym (take_more xs i d l)) (Contains-push (take i xs) (get_or xs i d))
-
-pub contained_cases : {V : Type 0} (xs : List V) (i : ℕ) (d x : V) → i < length xs → Contains (take (i + 1) xs) x → Contains (take i xs) x ⊎ (get_or xs i d ≡ x)
-contained_cases xs i d x l there =
-    Contains-push_cases (take i xs) (get_or xs i d) x (subst (λ ys. Contains ys x) (take_more xs i d l) there)
+pub contained_or_not : (xs : List ℕ) (x : ℕ) → Contains xs x ⊎ (Contains xs x → ⊥)
+contained_or_not [] x = inr (λ (k, l, e). absurd (omega arith))
+contained_or_not (y ∷ xs) x =
+    elim (cases_eq y x) [
+      | inl e ↦ inl (0, omega arith, e)
+      | inr apart ↦
+          elim (contained_or_not xs x) [
+            | inl (k, l, e) ↦ inl (suc k, omega arith, e)
+            | inr none ↦ inr (λ (k, l, e). later y xs x apart none k l e)
+          ]
+    ]
+  where
+    later : (y : ℕ) (xs : List ℕ) (x : ℕ) → (y ≡ x → ⊥) → (Contains xs x → ⊥) → (k : ℕ) → k < length (y ∷ xs) → get_or (y ∷ xs) k x ≡ x → ⊥
+    later y xs x apart none zero l e = apart e
+    later y xs x apart none (suc k) l e = none (k, omega arith, e)
 
 pub slice_get-drop : {V : Type 0} (n k : ℕ) (xs : List V) → slice_get (drop n xs) k ≡ slice_get xs (n + k)
 slice_get-drop zero k xs = let same : 0 + k ≡ k = omega arith in ap (slice_get xs) (sym same)
@@ -33,3 +37,9 @@ split_at_first [] first l e = absurd (omega arith)
 split_at_first (x ∷ xs) first l e =
     let all : take (suc (length xs) - 1) xs ≡ xs = take_all (suc (length xs) - 1) xs (omega arith) in
     λ k. sym e k ∷ sym all k
+
+-- a list of one element
+pub one_alone : {V : Type 0} (xs : List V) (first : V) → length xs ≡ 1 → first ≡ get_or xs 0 first → xs ≡ first ∷ []
+one_alone [] first l e = absurd cc
+one_alone (x ∷ []) first l e = ap (λ it. it ∷ []) (sym e)
+one_alone (x ∷ y ∷ xs) first l e = absurd (omega (arith, l))

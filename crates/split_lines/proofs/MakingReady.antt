@@ -11,7 +11,7 @@ use Rattle.adp_model.specs.WellFormed.{IsKnown}
 use Rattle.yield_sizes.specs.Placing.{Cover}
 use Rattle.split_lines.specs.declared.kept.KeptAlternative.{KeptAlternative}
 use Rattle.split_lines.specs.ArgumentEntries.{AreWorthless}
-use Rattle.split_lines.specs.Kept.{AreOneLetter, BeginWith, IsAlternative}
+use Rattle.split_lines.specs.Kept.{AreOneLetter, AreOneOfClass, BeginWith, IsAlternative}
 use Rattle.split_lines.specs.Laid.{IsFixed}
 use Rattle.split_lines.specs.Matching.{HaveLetters}
 use Rattle.split_lines.specs.Totals.{turned}
@@ -80,10 +80,10 @@ take_both (suc a) b (x ∷ xs) =
 -- the arguments up to this number stand in front
 pub alternative_kept : (p : PosedProblem) (rule alternative : ℕ) (kept : KeptAlternative) (all : List Arg) (n : ℕ)
     → all ≡ arguments_of p.grammar rule alternative → length all ≤ 4 → AllByRecursion (IsKnown p.grammar) all → n ≤ length all → AllByRecursion IsFixed (take n all) → kept.front.now ≡ take n all → kept.others.now ≡ drop n all
-    → HaveLetters p kept.front.now kept.letters → IfSome kept.first (BeginWith kept.front.now) → (kept.alone ≡ true → AreOneLetter kept.front.now) → kept.constant ≡ turned (algebra_of p).goal (term_of p rule alternative).constant
+    → HaveLetters p kept.front.now kept.letters → IfSome kept.first (BeginWith kept.front.now) → (kept.alone ≡ true → AreOneLetter kept.front.now) → IfSome kept.class (AreOneOfClass kept.front.now) → kept.constant ≡ turned (algebra_of p).goal (term_of p rule alternative).constant
     → length (term_of p rule alternative).factors ≡ length all → take (length (term_of p rule alternative).factors) kept.factors ≡ map (turned (algebra_of p).goal) (term_of p rule alternative).factors
     → (kept.weighs ≡ false → AreWorthless kept.front.now (take n kept.factors)) → IsAlternative p rule alternative kept
-alternative_kept p rule alternative kept all n all_is few known within fixed front_is others_is letters first alone constant each factors worthless =
+alternative_kept p rule alternative kept all n all_is few known within fixed front_is others_is letters first alone class constant each factors worthless =
     let K : List Arg → Type 0 = AllByRecursion (IsKnown p.grammar) in
     let parted : K (take n all ++ drop n all) = subst K (sym (take-append-drop n all)) known in
     let front_long : length kept.front.now ≡ n = omega (arith, ap length front_is, length-take n all) in
@@ -100,6 +100,7 @@ alternative_kept p rule alternative kept all n all_is few known within fixed fro
         letters = letters;
         first = first;
         alone = alone;
+        class = class;
       };
       others_known = subst K (sym others_is) (all_back (IsKnown p.grammar) (take n all) (drop n all) parted);
       constant = constant;

@@ -3,7 +3,7 @@ use Rattle.std.proofs.Common.{◌≡◌, ◌⊎◌, ℕ, refl, sym, inl, inr, �
 use Rattle.adp_model.specs.declared.grammar.Arg.{Arg}
 use Rattle.adp_model.specs.declared.grammar.Arg.TheVariants.{Rule}
 use Rattle.adp_model.specs.declared.cell.Cell.{Cell}
-use Rattle.split_lines.specs.Marks.{CellMarks, AreInRows, AreMarkedToo, AreMarkedFrom}
+use Rattle.cell_tables.specs.Marks.{CellMarks, AreInRows, AreMarkedToo, AreMarkedFrom}
 
 pub same_rule : (argument : Arg) (rule other : ℕ) → argument ≡ Rule rule → argument ≡ Rule other → other ≡ rule
 same_rule argument rule other is is' = let same : Rule rule ≡ Rule other = sym is ∙ is' in cc

@@ -10,12 +10,13 @@ use Rattle.adp_model.specs.Splits.{FitsSpan}
 use Rattle.adp_model.specs.FirstSplit.{IsValue}
 use Rattle.yield_sizes.specs.Placing.{on_span, Cover, AreEnds}
 use Rattle.split_lines.specs.Laid.{IsCellOf, Demands, IsFixed}
-use Rattle.split_lines.specs.Marks.{CellMarks, AreMarkedFrom}
+use Rattle.cell_tables.specs.Marks.{CellMarks, AreMarkedFrom}
+use Rattle.split_lines.specs.Through.{HasTotalAt}
 use Rattle.split_lines.specs.Totals.{HasTotal, IsGreatestOf}
 use Rattle.split_lines.proofs.Dividing.{cover_forward}
 use Rattle.split_lines.proofs.Tokens.{fixed_span}
 use Rattle.split_lines.proofs.Greatest.{greatest_same}
-use Rattle.split_lines.proofs.Totalling.{OneScore, HasTotalAt, values_cover, total_at, at_total, greatest_at}
+use Rattle.split_lines.proofs.Totalling.{OneScore, values_cover, total_at, at_total, greatest_at}
 use Rattle.split_lines.proofs.MarkSteps.{marked_like, none_marked}
 use Rattle.split_lines.proofs.LineDemands.{cover_of_demands, no_cell}
 

@@ -16,13 +16,13 @@ use Rattle.adp_model.specs.Scores.{score_of}
 use Rattle.adp_model.specs.Checks.{IsChecked}
 use Rattle.adp_model.specs.Bounds.{IsScoreBound}
 use Rattle.adp_model.specs.ProblemFields.{IsAdmissible, most_letters}
-use Rattle.split_lines.specs.declared.layout.Side.{Side}
-use Rattle.split_lines.specs.declared.layout.Side.TheVariants.{Rows, Columns}
-use Rattle.split_lines.specs.Spans.{Spans, IsWritten, value_at}
-use Rattle.split_lines.specs.Entries.{Table, AreCells, HasEntry, IsEntry, in_row, in_column, no_candidate}
+use Rattle.cell_tables.specs.declared.layout.Side.{Side}
+use Rattle.cell_tables.specs.declared.layout.Side.TheVariants.{Rows, Columns}
+use Rattle.cell_tables.specs.Spans.{Spans, IsWritten, value_at}
+use Rattle.cell_tables.specs.Tables.{Table, AreCells, in_row, in_column, spans_of}
+use Rattle.split_lines.specs.Entries.{HasEntry, IsEntry, no_candidate}
 use Rattle.split_lines.specs.Packing.{Width, IsProper, told, told_list, told_spans, told_table}
 use Rattle.split_lines.specs.ScoresFields.{AreWithin, IsOfWidth}
-use Rattle.split_lines.specs.ArgumentEntries.{spans_of}
 use Rattle.split_lines.proofs.Told.{told_written, proper_written, told_some, value_told}
 use Rattle.split_lines.proofs.KeptScores.{entry_right, entry_now, entry_still}
 

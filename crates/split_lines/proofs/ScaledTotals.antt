@@ -16,15 +16,18 @@ use Rattle.adp_model.specs.Splits.{AtRule}
 use Rattle.adp_model.specs.FirstSplit.{IsValue}
 use Rattle.adp_model.specs.Bellman.{HasBestScore}
 use Rattle.yield_sizes.specs.Placing.{on_span, Cover}
+use Rattle.split_lines.specs.declared.opened.OpenedLine.{OpenedLine}
 use Rattle.split_lines.specs.declared.sums.Places.{Places}
 use Rattle.split_lines.specs.declared.sums.Scales.{Scales}
 use Rattle.split_lines.specs.Entries.{IsEntry, no_candidate}
 use Rattle.split_lines.specs.Laid.{IsFixed}
 use Rattle.split_lines.specs.Rows.{HasEntryAt}
+use Rattle.split_lines.specs.Through.{HasTotalThrough}
 use Rattle.split_lines.specs.Totals.{HaveValues, HasTotal, IsGreatestOf, turned}
 use Rattle.split_lines.specs.Packing.{Width, IsProper, AreProper, told, told_list}
 use Rattle.split_lines.specs.Sums.{AreLowSums, HasScaledSum, HasScaledSumAt, HaveNumbers, number_at}
-use Rattle.split_lines.specs.ArgumentEntries.{AreWorthless, IsScaled}
+use Rattle.split_lines.specs.ArgumentEntries.{AreWorthless, IsScaled, entries_of}
+use Rattle.split_lines.specs.Opened.{IsOpened}
 use Rattle.split_lines.proofs.Greatest.{greatest_same}
 use Rattle.split_lines.proofs.FirstEnds.{AreSound}
 use Rattle.split_lines.proofs.KeptScores.{entry_scored, entry_missing}
@@ -32,8 +35,8 @@ use Rattle.split_lines.proofs.Scoring.{turned_low, turned_product}
 use Rattle.split_lines.proofs.Told.{told_mark, told_score, told_from}
 use Rattle.split_lines.proofs.Totalling.{OneScore}
 use Rattle.split_lines.proofs.LargestSums.{IsSpaced, score_apart, some_place}
-use Rattle.split_lines.proofs.FrontPlaces.{IsFront, middle_covers, through_parts_low}
-use Rattle.split_lines.proofs.LineTotals.{HasTotalThrough, fixed_values, through_total, total_through}
+use Rattle.split_lines.proofs.FrontPlaces.{middle_covers, through_parts_low}
+use Rattle.split_lines.proofs.LineTotals.{fixed_values, through_total, total_through}
 
 -- ---- tokens that add nothing
 
@@ -136,40 +139,56 @@ module _ (p : PosedProblem) (one : OneScore (HasBestScore p)) (width : Width) (s
 
 -- ---- both
 
-module _ (p : PosedProblem) (one : OneScore (HasBestScore p)) (width : Width) (spaced : IsSpaced width) (small : width.limit < 2 ^ 63) (first : Arg) (middle : List Arg) (second : Arg) (first_factor : ℤ) (middle_factors : List ℤ) (second_factor : ℤ) (from letters last : ℕ) (at : Places)
-    (front : IsFront p first middle second first_factor middle_factors second_factor from letters last at.at.now) (worthless : AreWorthless middle middle_factors)
-    (first_goal second_goal : Goal) (scales : Scales) (scaled : IsScaled first first_factor first_goal scales.before) (scaled' : IsScaled second second_factor second_goal scales.behind)
-    (firsts seconds : List ℤ) (proper : AreProper width firsts) (proper' : AreProper width seconds) (begin : ℕ) (common : begin ≡ at.first + letters)
-    (row : (place : ℕ) → Contains at.at.now place → AtRule (HasEntryAt p (told_list width first_goal firsts) at.first place) (on_span first from place))
-    (column : (place : ℕ) → Contains at.at.now place → AtRule (HasEntryAt p (told_list width second_goal seconds) begin (place + letters)) (on_span second (place + letters) last)) where
+-- the numbers stand for the scores of the two arguments, and the tokens between these add nothing
+pub record AreNumbersOf (width : Width) (line : OpenedLine) (scales : Scales) (firsts seconds : List ℤ) : Type 0 where
+  pub worthless : AreWorthless line.arguments.middle.now line.arguments.middle_factors.now
+  pub before : IsScaled line.arguments.first.now line.arguments.first_factor line.row.goal scales.before
+  pub behind : IsScaled line.arguments.second.now line.arguments.second_factor line.column.goal scales.behind
+  pub firsts_proper : AreProper width firsts
+  pub seconds_proper : AreProper width seconds
+  pub firsts_told : entries_of line.row ≡ told_list width line.row.goal firsts
+  pub seconds_told : entries_of line.column ≡ told_list width line.column.goal seconds
+
+module _ (p : PosedProblem) (one : OneScore (HasBestScore p)) (width : Width) (spaced : IsSpaced width) (small : width.limit < 2 ^ 63) (line : OpenedLine) (opened : IsOpened p line) (scales : Scales) (firsts seconds : List ℤ) (are : AreNumbersOf width line scales firsts seconds) where
+  open line use {arguments.{first.{now as first}, first_factor, middle.{now as middle}, middle_factors.{now as middle_factors}, second.{now as second}, second_factor}, boundary.{letters, last}, from, column.{first as begin}}
+
+  abbrev at : Places
+  at = record { at = line.boundary.places; first = line.row.first }
+
+  row : (place : ℕ) → Contains at.at.now place → AtRule (HasEntryAt p (told_list width line.row.goal firsts) at.first place) (on_span first from place)
+  row place stands = subst (λ entries. AtRule (HasEntryAt p entries at.first place) (on_span first from place)) are.firsts_told (opened.row place stands)
+
+  column : (place : ℕ) → Contains at.at.now place → AtRule (HasEntryAt p (told_list width line.column.goal seconds) begin (place + letters)) (on_span second (place + letters) last)
+  column place stands = subst (λ entries. AtRule (HasEntryAt p entries begin (place + letters)) (on_span second (place + letters) last)) are.seconds_told (opened.column place stands)
+
   same_place : (place : ℕ) → place + letters - begin ≡ number_at at place
-  same_place place = omega (arith, common)
+  same_place place = omega (arith, opened.common)
 
   pub have_numbers : HaveNumbers at firsts seconds
   have_numbers = record {
-    from_first = λ place stands. (entry_at p one width spaced small first first_factor first_goal scales.before scaled firsts proper at.first place from place (row place stands)).from_first;
+    from_first = λ place stands. (entry_at p one width spaced small first first_factor line.row.goal scales.before are.before firsts are.firsts_proper at.first place from place (row place stands)).from_first;
     before = λ place stands.
-        let there = number_there p one width spaced small first first_factor first_goal scales.before scaled firsts proper at.first place from place (row place stands) in
+        let there = number_there p one width spaced small first first_factor line.row.goal scales.before are.before firsts are.firsts_proper at.first place from place (row place stands) in
         some_place firsts (place - at.first) there.0 there.1;
     behind = λ place stands.
-        let there = number_there p one width spaced small second second_factor second_goal scales.behind scaled' seconds proper' begin (place + letters) (place + letters) last (column place stands) in
+        let there = number_there p one width spaced small second second_factor line.column.goal scales.behind are.behind seconds are.seconds_proper begin (place + letters) (place + letters) last (column place stands) in
         omega (arith, same_place place, some_place seconds (place + letters - begin) there.0 there.1);
   }
 
   module _ (place : ℕ) (stands : Contains at.at.now place) (number : ℤ) where
     module _ (sum : HasScaledSum width.mark scales firsts seconds (number_at at place) number) where
       before_value : (value : ℤ) × IsValue p (HasBestScore p) (on_span first from place) value × ((first_factor *ℤ value) ≡ (scales.before *ℤ sum.first))
-      before_value = value_of p one width spaced small first first_factor first_goal scales.before scaled firsts proper at.first place from place (row place stands) sum.first sum.first_there sum.first_scores
+      before_value = value_of p one width spaced small first first_factor line.row.goal scales.before are.before firsts are.firsts_proper at.first place from place (row place stands) sum.first sum.first_there sum.first_scores
 
       behind_value : (value : ℤ) × IsValue p (HasBestScore p) (on_span second (place + letters) last) value × ((second_factor *ℤ value) ≡ (scales.behind *ℤ sum.second))
       behind_value =
-          value_of p one width spaced small second second_factor second_goal scales.behind scaled' seconds proper' begin (place + letters) (place + letters) last (column place stands) sum.second
+          value_of p one width spaced small second second_factor line.column.goal scales.behind are.behind seconds are.seconds_proper begin (place + letters) (place + letters) last (column place stands) sum.second
           (ap (slice_get seconds) (same_place place) ∙ sum.second_there) sum.second_scores
 
       nothing_between : HasTotal p (HasBestScore p) middle middle_factors place (place + letters) (pos 0)
       nothing_between =
-          worthless_total p (HasBestScore p) middle middle_factors place (place + letters) worthless front.fixed
-          (middle_covers p first middle second first_factor middle_factors second_factor from letters last at.at.now front place stands)
+          worthless_total p (HasBestScore p) middle middle_factors place (place + letters) are.worthless opened.middle_fixed
+          (middle_covers p line opened place stands)
 
       through : HasTotalThrough p (HasBestScore p) first middle second first_factor middle_factors second_factor from letters last place number
       through =
@@ -189,16 +208,16 @@ module _ (p : PosedProblem) (one : OneScore (HasBestScore p)) (width : Width) (s
       pub sum_low : AreSound p → nat_abs (scales.before *ℤ sum.first) + nat_abs (scales.behind *ℤ sum.second) ≤ greatest_score
       sum_low sound =
           let low =
-          through_parts_low p first middle second first_factor middle_factors second_factor from letters last at.at.now front place stands sound before_value.0 (pos 0) behind_value.0 before_value.1 nothing_between behind_value.1 in
+          through_parts_low p line opened place stands sound before_value.0 (pos 0) behind_value.0 before_value.1 nothing_between behind_value.1 in
           let e = ap nat_abs before_value.2 in
           let e' = ap nat_abs behind_value.2 in
           omega (arith, low, e, e')
 
     back : HasTotalThrough p (HasBestScore p) first middle second first_factor middle_factors second_factor from letters last place number → HasScaledSum width.mark scales firsts seconds (number_at at place) number
     back it =
-        let a = number_of p one width spaced small first first_factor first_goal scales.before scaled firsts proper at.first place from place (row place stands) it.value it.is_value in
-        let b = number_of p one width spaced small second second_factor second_goal scales.behind scaled' seconds proper' begin (place + letters) (place + letters) last (column place stands) it.other it.is_other in
-        let none : it.between ≡ pos 0 = it.has_between.2 ∙ worthless_sum p (HasBestScore p) middle middle_factors place (place + letters) it.has_between.0 worthless it.has_between.1 in
+        let a = number_of p one width spaced small first first_factor line.row.goal scales.before are.before firsts are.firsts_proper at.first place from place (row place stands) it.value it.is_value in
+        let b = number_of p one width spaced small second second_factor line.column.goal scales.behind are.behind seconds are.seconds_proper begin (place + letters) (place + letters) last (column place stands) it.other it.is_other in
+        let none : it.between ≡ pos 0 = it.has_between.2 ∙ worthless_sum p (HasBestScore p) middle middle_factors place (place + letters) it.has_between.0 are.worthless it.has_between.1 in
         let e = it.is in
         let e' = a.3 in
         let e'' = b.3 in
@@ -219,7 +238,7 @@ module _ (p : PosedProblem) (one : OneScore (HasBestScore p)) (width : Width) (s
       → IsGreatestOf (HasTotal p (HasBestScore p) (first ∷ (middle ++ second ∷ [])) (first_factor ∷ (middle_factors ++ second_factor ∷ [])) from last) greatest
   scaled_greatest greatest =
       greatest_same (HasScaledSumAt width.mark scales at firsts seconds) (HasTotal p (HasBestScore p) (first ∷ (middle ++ second ∷ [])) (first_factor ∷ (middle_factors ++ second_factor ∷ [])) from last) greatest
-      (λ number h. through_total p (HasBestScore p) first middle second first_factor middle_factors second_factor from letters last at.at.now front.boundary front.each h.0 number h.1 (through h.0 h.1 number h.2))
+      (λ number h. through_total p (HasBestScore p) first middle second first_factor middle_factors second_factor from letters last at.at.now opened.boundary opened.middle_each h.0 number h.1 (through h.0 h.1 number h.2))
       (λ number has.
-      let it = total_through p (HasBestScore p) first middle second first_factor middle_factors second_factor from letters last at.at.now front.boundary front.each number has in
+      let it = total_through p (HasBestScore p) first middle second first_factor middle_factors second_factor from letters last at.at.now opened.boundary opened.middle_each number has in
       (it.0, it.1, back it.0 it.1 number it.2))

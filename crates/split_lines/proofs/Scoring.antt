@@ -32,7 +32,7 @@ pub turned_low : (goal : Goal) (number : ℤ) → nat_abs (turned goal number) �
 turned_low Least number = omega (arith, ints)
 turned_low Greatest number = refl
 
-turned_sum : (goal : Goal) (a b : ℤ) → turned goal (a +ℤ b) ≡ (turned goal a +ℤ turned goal b)
+pub turned_sum : (goal : Goal) (a b : ℤ) → turned goal (a +ℤ b) ≡ (turned goal a +ℤ turned goal b)
 turned_sum Least a b = omega (arith, ints)
 turned_sum Greatest a b = refl
 
@@ -51,7 +51,7 @@ turned_zero : (goal : Goal) → turned goal (pos 0) ≡ pos 0
 turned_zero Least = refl
 turned_zero Greatest = refl
 
-turned_weighted : (goal : Goal) (factors values : List ℤ) → turned goal (weighted_sum factors values) ≡ weighted_sum (map (turned goal) factors) values
+pub turned_weighted : (goal : Goal) (factors values : List ℤ) → turned goal (weighted_sum factors values) ≡ weighted_sum (map (turned goal) factors) values
 turned_weighted goal [] values = turned_zero goal
 turned_weighted goal (factor ∷ factors) [] = turned_zero goal
 turned_weighted goal (factor ∷ factors) (value ∷ values) =
@@ -156,7 +156,7 @@ module _ (p : PosedProblem) (bellman : Bellman p) (cell : Cell) (span : IsSpan p
       subst (λ (found : Option ℤ). MatchOption found (IsAnswer p cell NoCandidate) (HasBestScore p cell)) (sym is) (best_score answer.0 greatest answer.1 it)
 
   -- a number of an alternative that no split betters is the best score, where a split of the alternative has that
-  best_in : (best total : ℤ) (choice : Choice) → HasBestScore p cell best → choice.alt < length (alternatives_of p.grammar cell.rule) → IsGreatestOf (HasTurnedScore p cell choice.alt) (Some total) → Scored best choice → turned (algebra_of p).goal total ≡ best
+  pub best_in : (best total : ℤ) (choice : Choice) → HasBestScore p cell best → choice.alt < length (alternatives_of p.grammar cell.rule) → IsGreatestOf (HasTurnedScore p cell choice.alt) (Some total) → Scored best choice → turned (algebra_of p).goal total ≡ best
   best_in best total choice (preferred, is) in_range greatest split =
       let goal = (algebra_of p).goal in
       let first = bellman.only cell (Best best preferred) span is in

@@ -27,7 +27,7 @@ closed_at to zero = (refl, tt)
 closed_at to (suc room) = (refl, closed_at to room)
 
 module _ (p : PosedProblem) where
-  lay_last : (argument : Arg) (from to room : ℕ) (Holds : List Placed → Type 0) → FitsSpan p (on_span argument from to) → Holds (on_span argument from to ∷ []) → HasCuts p (argument ∷ []) from to room Holds
+  pub lay_last : (argument : Arg) (from to room : ℕ) (Holds : List Placed → Type 0) → FitsSpan p (on_span argument from to) → Holds (on_span argument from to ∷ []) → HasCuts p (argument ∷ []) from to room Holds
   lay_last argument from to zero Holds fits holds = record { cuts = []; counted = refl; fits = (fits, tt); closed = (refl, tt); holds = holds }
   lay_last argument from to (suc room) Holds fits holds = record {
     cuts = replicate (suc room) to;
@@ -45,7 +45,7 @@ module _ (p : PosedProblem) where
       let C : List ℕ → Type 0 = AllByRecursion (λ boundary. boundary ≡ to) in
       subst C (ap (λ n. drop n (cuts ++ to ∷ [])) fewer ∙ sym (ap (λ n. drop n (end ∷ (cuts ++ to ∷ []))) more)) closed
 
-  lay : (argument next : Arg) (arguments : List Arg) (from end to room : ℕ) (Before Holds : List Placed → Type 0) → FitsSpan p (on_span argument from end)
+  pub lay : (argument next : Arg) (arguments : List Arg) (from end to room : ℕ) (Before Holds : List Placed → Type 0) → FitsSpan p (on_span argument from end)
       → ((others : List Placed) → Before others → Holds (on_span argument from end ∷ others)) → HasCuts p (next ∷ arguments) end to room Before → HasCuts p (argument ∷ next ∷ arguments) from to (suc room) Holds
   lay argument next arguments from end to room Before Holds fits more others = record {
     cuts = end ∷ others.cuts;
@@ -63,7 +63,7 @@ module _ (p : PosedProblem) where
   cuts_of_cover argument (next ∷ arguments) from to (suc room) few cover =
       lay argument next arguments from cover.0 to room (λ _. Unit {0}) (λ _. Unit {0}) cover.1 (λ others h. tt) (cuts_of_cover next arguments cover.0 to room (omega arith) cover.2)
 
-  cuts_of_values : (HasScore : Cell → ℤ → Type 0) (argument : Arg) (arguments : List Arg) (from to room : ℕ) (values : List ℤ) → length arguments ≤ room → HaveValues p HasScore (argument ∷ arguments) from to values
+  pub cuts_of_values : (HasScore : Cell → ℤ → Type 0) (argument : Arg) (arguments : List Arg) (from to room : ℕ) (values : List ℤ) → length arguments ≤ room → HaveValues p HasScore (argument ∷ arguments) from to values
       → HasCuts p (argument ∷ arguments) from to room (λ placed. AreArgumentValues p HasScore placed values)
   cuts_of_values HasScore argument arguments from to room [] few have = absurd have
   cuts_of_values HasScore argument [] from to room (value ∷ []) few have =
@@ -98,7 +98,7 @@ module _ (p : PosedProblem) where
       lay argument next arguments from end to room (Stands cell) (Stands cell) fits (stands_later (on_span argument from end) cell) (cuts_of_demand next arguments end to room cell (omega arith) later)
 
   -- what cuts lay of a whole alternative is a viable split
-  split_of_cuts : (cell : Cell) (alternative : ℕ) (Holds : List Placed → Type 0) → alternative < length (alternatives_of p.grammar cell.rule) → HasCuts p (arguments_of p.grammar cell.rule alternative) cell.from cell.to 3 Holds
+  pub split_of_cuts : (cell : Cell) (alternative : ℕ) (Holds : List Placed → Type 0) → alternative < length (alternatives_of p.grammar cell.rule) → HasCuts p (arguments_of p.grammar cell.rule alternative) cell.from cell.to 3 Holds
       → (cuts : List ℕ) × IsViable p cell alternative cuts × Holds (placed p cell alternative cuts)
   split_of_cuts cell alternative Holds in_range has =
       (has.cuts, record { in_range = in_range; allowed = tt; three = has.counted; last = has.closed; fits = has.fits }, has.holds)
@@ -127,7 +127,7 @@ module _ (p : PosedProblem) where
 
   -- ---- and back
 
-  values_of_cuts : (HasScore : Cell → ℤ → Type 0) (argument : Arg) (arguments : List Arg) (from to : ℕ) (ends : List ℕ) (values : List ℤ) → AllByRecursion (FitsSpan p) (place (argument ∷ arguments) from ends)
+  pub values_of_cuts : (HasScore : Cell → ℤ → Type 0) (argument : Arg) (arguments : List Arg) (from to : ℕ) (ends : List ℕ) (values : List ℤ) → AllByRecursion (FitsSpan p) (place (argument ∷ arguments) from ends)
       → AllByRecursion (λ boundary. boundary ≡ to) (drop (length arguments) ends) → AreArgumentValues p HasScore (place (argument ∷ arguments) from ends) values → length arguments + 1 ≤ length ends
       → HaveValues p HasScore (argument ∷ arguments) from to values
   values_of_cuts HasScore argument arguments from to [] values fits closed are few = absurd (omega arith)
@@ -137,7 +137,7 @@ module _ (p : PosedProblem) where
   values_of_cuts HasScore argument (next ∷ arguments) from to (end ∷ ends) (value ∷ values) fits closed are few =
       (end, fits.0, are.0, values_of_cuts HasScore next arguments end to ends values fits.1 closed are.1 (omega arith))
 
-  length_ends : (cuts : List ℕ) (to : ℕ) → length (cuts ++ to ∷ []) ≡ length cuts + 1
+  pub length_ends : (cuts : List ℕ) (to : ℕ) → length (cuts ++ to ∷ []) ≡ length cuts + 1
   length_ends [] to = refl
   length_ends (cut ∷ cuts) to = omega (arith, length_ends cuts to)
 

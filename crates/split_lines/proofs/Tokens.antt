@@ -1,13 +1,18 @@
 -- Tokens of fixed length, and what they cover.
-use Rattle.std.proofs.Common.{◌≡◌, ℕ, min, ◌+◌, ◌≤◌, List, [], ◌∷◌, length, ap, arith}
+use Rattle.std.proofs.Common.{◌≡◌, ℕ, min, ◌+◌, ◌-◌, ◌≤◌, List, [], ◌∷◌, length, ap, arith, length-take, length-drop}
 use Rattle.adp_model.specs.declared.grammar.Arg.{Arg}
 use Rattle.adp_model.specs.declared.grammar.Arg.TheVariants.{Rule, Literal, Letter, Run}
-use Rattle.adp_model.specs.PosedProblem.{PosedProblem}
+use Rattle.adp_model.specs.PosedProblem.{PosedProblem, IsSpan}
 use Rattle.adp_model.specs.Splits.{FitsSpan}
+use Rattle.adp_model.specs.Tokens.{letters_between}
 use Rattle.yield_sizes.specs.Placing.{on_span, Cover}
 use Rattle.split_lines.specs.Laid.{IsFixed}
 use Rattle.split_lines.specs.Matching.{fixed_length, HaveLetters}
-use Rattle.split_lines.proofs.StartPlaces.{length-letters_between}
+
+-- the letters of a span are as many as it is long
+pub length-letters_between : (word : List ℕ) (from to : ℕ) → IsSpan word from to → length (letters_between word from to) ≡ to - from
+length-letters_between word from to span =
+    simp (length-take, length-drop) (omega (arith, span.in_order, span.in_word))
 
 -- a token of fixed length has its letters wherever it matches
 pub fixed_span : (p : PosedProblem) (token : Arg) (from cut : ℕ) → IsFixed token → FitsSpan p (on_span token from cut) → cut ≡ from + fixed_length token

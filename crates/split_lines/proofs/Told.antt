@@ -8,7 +8,7 @@ use Rattle.std.proofs.lemmas.Bool.Decides.{Decides-int_eq}
 use Rattle.std.proofs.lemmas.List.{length-map}
 use Rattle.std.proofs.lemmas.Option.{slice_get-map}
 use Rattle.adp_model.specs.declared.grammar.Goal.{Goal}
-use Rattle.split_lines.specs.Spans.{Spans, IsWritten, block_at, place_of, value_at}
+use Rattle.cell_tables.specs.Spans.{Spans, IsWritten, block_at, place_of, value_at}
 use Rattle.split_lines.specs.Entries.{no_candidate}
 use Rattle.split_lines.specs.Totals.{turned}
 use Rattle.split_lines.specs.Packing.{Width, IsProper, AreProperSpans, told, told_list, told_spans}

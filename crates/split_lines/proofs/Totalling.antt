@@ -11,6 +11,7 @@ use Rattle.adp_model.specs.Splits.{FitsSpan}
 use Rattle.adp_model.specs.FirstSplit.{IsValue}
 use Rattle.adp_model.specs.ProblemFields.{greatest_score}
 use Rattle.yield_sizes.specs.Placing.{on_span, Cover}
+use Rattle.split_lines.specs.Through.{HasTotalAt}
 use Rattle.split_lines.specs.Totals.{HaveValues, HasTotal, IsWithinBound, AreLow, IsGreatestOf}
 use Rattle.split_lines.proofs.Greatest.{greatest_same, HasBefore}
 
@@ -70,15 +71,6 @@ sum_low (factor ∷ factors) (value ∷ values) =
   where
     nat_abs-sum : (a b : ℤ) → nat_abs (a +ℤ b) ≤ nat_abs a + nat_abs b
     nat_abs-sum a b = omega (arith, ints)
-
--- the totals of arguments whose first one ends here
-pub record HasTotalAt (p : PosedProblem) (HasScore : Cell → ℤ → Type 0) (argument : Arg) (arguments : List Arg) (factor : ℤ) (factors : List ℤ) (from end to : ℕ) (total : ℤ) : Type 0 where
-  pub fits : FitsSpan p (on_span argument from end)
-  pub value : ℤ
-  pub is_value : IsValue p HasScore (on_span argument from end) value
-  pub others : ℤ
-  pub have_others : HasTotal p HasScore arguments factors end to others
-  pub is : total ≡ ((factor *ℤ value) +ℤ others)
 
 module _ (p : PosedProblem) (HasScore : Cell → ℤ → Type 0) (argument : Arg) (arguments : List Arg) (factor : ℤ) (factors : List ℤ) (from to : ℕ) where
   -- ends before this one

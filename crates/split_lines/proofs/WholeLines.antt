@@ -14,15 +14,46 @@ use Rattle.adp_model.specs.ProblemFields.{greatest_score}
 use Rattle.adp_model.specs.Splits.{FitsSpan}
 use Rattle.adp_model.specs.Bellman.{HasBestScore}
 use Rattle.yield_sizes.specs.Placing.{on_span, Cover}
+use Rattle.split_lines.specs.declared.lines.Boundary.{Boundary}
+use Rattle.split_lines.specs.declared.opened.LineArguments.{LineArguments}
+use Rattle.split_lines.specs.Opened.{parts_with}
 use Rattle.split_lines.specs.Laid.{IsFixed, Demands, AreBoundaries}
-use Rattle.split_lines.specs.Entries.{Table, HasEntry, IsEntry}
+use Rattle.cell_tables.specs.Tables.{Table}
+use Rattle.split_lines.specs.Entries.{HasEntry, IsEntry}
 use Rattle.split_lines.specs.Rows.{HasEntryAt}
-use Rattle.split_lines.specs.Spans.{Spans, value_at}
+use Rattle.cell_tables.specs.Spans.{Spans, value_at}
 use Rattle.split_lines.specs.Totals.{HasTotal, IsWithinBound, AreLow, AreWeighted, IsGreatestOf}
 use Rattle.split_lines.proofs.Totalling.{values_kept, values_cover, sum_low}
 use Rattle.split_lines.proofs.FirstEnds.{AreLaid, AreSound}
-use Rattle.split_lines.proofs.LineTotals.{AreTotals, totals_parted, totals_joined, low_front, low_back, open_parts, fixed_total_unique}
-use Rattle.split_lines.proofs.FrontPlaces.{IsFront, weighted_front, weighted_back}
+use Rattle.split_lines.proofs.LineTotals.{AreTotals, totals_parted, totals_joined, low_front, low_back, fixed_total_unique}
+use Rattle.split_lines.proofs.FrontPlaces.{weighted_front, weighted_back}
+
+-- ---- entries side by side
+
+-- among the values of a rule from the far end `first` on, that of a cell with an entry
+pub entry_among : (p : PosedProblem) (spans : Spans ℤ) (rule near first far : ℕ) (entry : ℤ) (scores : List ℤ) (cell : Cell) → first ≤ far → slice_get scores (far - first) ≡ value_at spans rule near far → value_at spans rule near far ≡ Some entry → IsEntry p cell entry → HasEntryAt p scores first far cell
+entry_among p spans rule near first far entry scores cell l read there is_entry = record { from_first = l; entry = entry; there = read ∙ there; is_entry = is_entry }
+
+pub some_value_at : (found : Option ℤ) (entry : ℤ) → found ≡ Some entry → IsSome found
+some_value_at None entry e = absurd cc
+some_value_at (Some found) entry e = refl
+
+-- in places that rise each lies between the first one and the last one
+pub between_ends : (places : List ℕ) (place : ℕ) → AllAdjacentBelow (λ (a b : ℕ). a < b) places (length places) → Contains places place → (get_or places 0 0 ≤ place) × (place ≤ get_or places (length places - 1) 0)
+between_ends places place rising stands =
+    let sorted = IsNonDecreasingBy-from_all_adjacent (λ (n : ℕ). n) places (λ k d l. let rise = rising k d l in omega arith) in
+    let at : get_or places stands.0 0 ≡ place = get_or_default places stands.0 0 place stands.1 ∙ stands.2 in
+    let low = sorted 0 stands.0 0 (omega arith) stands.1 in
+    let high = sorted stands.0 (length places - 1) 0 (omega (arith, stands.1)) (omega (arith, stands.1)) in
+    (omega arith, omega arith)
+
+pub first_stands : (places : List ℕ) → 0 < length places → Contains places (get_or places 0 0)
+first_stands places l = Contains-get_or places 0 0 l
+
+pub last_stands : (places : List ℕ) → 0 < length places → Contains places (get_or places (length places - 1) 0)
+last_stands places l = Contains-get_or places (length places - 1) 0 (omega arith)
+
+-- ---- the arguments of a line
 
 regroup : {X : Type 0} (xs ys : List X) (x : X) → (xs ++ x ∷ []) ++ ys ≡ xs ++ x ∷ ys
 regroup [] ys x = refl
@@ -37,15 +68,23 @@ demands_back p [] back from middle to cell covers demands = subst (λ n. Demands
 demands_back p (argument ∷ front) back from middle to cell covers demands = (covers.0, covers.1, inr (demands_back p front back covers.0 middle to cell covers.2 demands))
 
 -- what is known of the arguments of a line
-pub record IsWhole (p : PosedProblem) (table : Table ℤ) (first : Arg) (middle : List Arg) (second : Arg) (tail : List Arg) (first_factor : ℤ) (middle_factors : List ℤ) (second_factor : ℤ) (tail_factors : List ℤ) (from to letters last : ℕ) (places : List ℕ) : Type 0 where
-  pub laid : AreLaid p table (first ∷ (middle ++ second ∷ tail)) (first_factor ∷ (middle_factors ++ second_factor ∷ tail_factors)) from to
-  pub each : length middle_factors ≡ length middle
-  pub middle_fixed : AllByRecursion IsFixed middle
-  pub tail_fixed : AllByRecursion IsFixed tail
-  pub boundary : AreBoundaries p (record { first = first; middle = middle; second = second; tail = tail }) from to letters last places
+pub record IsWhole (p : PosedProblem) (table : Table ℤ) (line : LineArguments) (from to : ℕ) (boundary : Boundary) : Type 0 where
+  pub laid : AreLaid p table (line.first.now ∷ (line.middle.now ++ line.second.now ∷ line.tail.now)) (line.first_factor ∷ (line.middle_factors.now ++ line.second_factor ∷ line.tail_factors.now)) from to
+  pub each : length line.middle_factors.now ≡ length line.middle.now
+  pub middle_fixed : AllByRecursion IsFixed line.middle.now
+  pub tail_fixed : AllByRecursion IsFixed line.tail.now
+  pub places : AreBoundaries p (parts_with line line.tail.now) from to boundary.letters boundary.last boundary.places.now
 
-module _ (p : PosedProblem) (table : Table ℤ) (first : Arg) (middle : List Arg) (second : Arg) (tail : List Arg) (first_factor : ℤ) (middle_factors : List ℤ) (second_factor : ℤ) (tail_factors : List ℤ) (from to letters last : ℕ) (places : List ℕ)
-    (whole : IsWhole p table first middle second tail first_factor middle_factors second_factor tail_factors from to letters last places) where
+-- what is known of them up to the second one of open length
+pub record IsFront (p : PosedProblem) (line : LineArguments) (from : ℕ) (boundary : Boundary) : Type 0 where
+  pub weighted : AreWeighted p (line.first.now ∷ (line.middle.now ++ line.second.now ∷ [])) (line.first_factor ∷ (line.middle_factors.now ++ line.second_factor ∷ []))
+  pub places : AreBoundaries p (parts_with line []) from boundary.last boundary.letters boundary.last boundary.places.now
+  pub low : AreLow p (line.first.now ∷ (line.middle.now ++ line.second.now ∷ [])) (line.first_factor ∷ (line.middle_factors.now ++ line.second_factor ∷ [])) from boundary.last
+
+module _ (p : PosedProblem) (table : Table ℤ) (line : LineArguments) (from to : ℕ) (boundary : Boundary) (whole : IsWhole p table line from to boundary) where
+  open line use {first.{now as first}, first_factor, middle.{now as middle}, middle_factors.{now as middle_factors}, second.{now as second}, second_factor, tail.{now as tail}, tail_factors.{now as tail_factors}}
+  open boundary use {letters, last, places.{now as places}}
+
   abbrev front : List Arg
   front = first ∷ (middle ++ second ∷ [])
 
@@ -70,34 +109,32 @@ module _ (p : PosedProblem) (table : Table ℤ) (first : Arg) (middle : List Arg
   pub tail_weighted : AreWeighted p tail tail_factors
   tail_weighted = weighted_back p front tail front_factors tail_factors front_each all_weighted
 
-  open_boundary : Cover p tail last to → AreBoundaries p (open_parts first middle second) from last letters last places
+  open_boundary : Cover p tail last to → AreBoundaries p (parts_with line []) from last letters last places
   open_boundary covers = record {
     exact = λ place. (
-      λ stands. let it = (whole.boundary.exact place).0 stands in (it.0, it.1, it.2, refl),
-      λ it. (whole.boundary.exact place).1 (it.0, it.1, it.2, covers),
+      λ stands. let it = (whole.places.exact place).0 stands in (it.0, it.1, it.2, refl),
+      λ it. (whole.places.exact place).1 (it.0, it.1, it.2, covers),
     );
-    one_middle = whole.boundary.one_middle;
+    one_middle = whole.places.one_middle;
     one_tail = λ place is. is;
-    rising = whole.boundary.rising;
+    rising = whole.places.rising;
   }
 
   -- where the boundary can stand at all
   module _ (some : ℕ) (stands : Contains places some) where
     pub tail_covers : Cover p tail last to
-    tail_covers = ((whole.boundary.exact some).0 stands).3
+    tail_covers = ((whole.places.exact some).0 stands).3
 
-    pub whole_front : IsFront p first middle second first_factor middle_factors second_factor from letters last places
+    pub whole_front : IsFront p line from boundary
     whole_front = record {
       weighted = weighted_front p front tail front_factors tail_factors front_each all_weighted;
-      each = whole.each;
-      fixed = whole.middle_fixed;
-      boundary = open_boundary tail_covers;
+      places = open_boundary tail_covers;
       low = low_front p front tail front_factors tail_factors from last to front_each all_low tail_covers;
     }
 
     front_covers : Cover p front from last
     front_covers =
-        let it = (whole.boundary.exact some).0 stands in
+        let it = (whole.places.exact some).0 stands in
         (some, it.0, covers_joined p middle (second ∷ []) some (some + letters) last it.1 (last, it.2, refl))
 
     pub tail_low : AreLow p tail tail_factors last to
@@ -106,18 +143,18 @@ module _ (p : PosedProblem) (table : Table ℤ) (first : Arg) (middle : List Arg
     -- both ends of the boundary lie in the word
     pub place_within : (some + letters ≤ last) × (last ≤ length p.word)
     place_within =
-        let it = (whole.boundary.exact some).0 stands in
+        let it = (whole.places.exact some).0 stands in
         (it.2.0.in_order, it.2.0.in_word)
 
     pub first_entry : (rule : ℕ) → first ≡ Rule rule → HasEntry table (record { rule = rule; from = from; to = some })
     first_entry rule is =
-        let it = (whole.boundary.exact some).0 stands in
+        let it = (whole.places.exact some).0 stands in
         let behind = covers_joined p middle (second ∷ tail) some (some + letters) to it.1 (last, it.2, it.3) in
         whole.laid.scored (record { rule = rule; from = from; to = some }) (some, it.0, inl (record { rule = is; begins = refl; ends = refl }, behind))
 
     pub second_entry : (rule : ℕ) → second ≡ Rule rule → HasEntry table (record { rule = rule; from = some + letters; to = last })
     second_entry rule is =
-        let it = (whole.boundary.exact some).0 stands in
+        let it = (whole.places.exact some).0 stands in
         let cell : Cell = record { rule = rule; from = some + letters; to = last } in
         let here : Demands p (second ∷ tail) (some + letters) to cell = (last, it.2, inl (record { rule = is; begins = refl; ends = refl }, it.3)) in
         whole.laid.scored cell (some, it.0, inr (demands_back p middle (second ∷ tail) some (some + letters) to cell it.1 here))
@@ -134,7 +171,7 @@ module _ (p : PosedProblem) (table : Table ℤ) (first : Arg) (middle : List Arg
       (subst (λ ys. HasTotal p (HasBestScore p) (front ++ tail) ys from to (a +ℤ b)) factors_are (totals_joined p (HasBestScore p) front tail front_factors tail_factors from to front_each last a b has has'))
 
   front_at_last : (total : ℤ) (it : AreTotals p (HasBestScore p) front tail front_factors tail_factors from to total) → it.middle ≡ last
-  front_at_last total it = whole.boundary.one_tail it.middle (values_cover p (HasBestScore p) tail it.middle to it.back_has.0 it.back_has.1)
+  front_at_last total it = whole.places.one_tail it.middle (values_cover p (HasBestScore p) tail it.middle to it.back_has.0 it.back_has.1)
 
   -- without a place there is no total
   pub none_without_place : places ≡ [] → (total : ℤ) → HasTotal p (HasBestScore p) (first ∷ (middle ++ second ∷ tail)) (first_factor ∷ (middle_factors ++ second_factor ∷ tail_factors)) from to total → ⊥
@@ -150,10 +187,10 @@ module _ (p : PosedProblem) (table : Table ℤ) (first : Arg) (middle : List Arg
       by : Cover p (middle ++ second ∷ tail) have.0 to → ⊥
       by covers =
           let it = parts_cover middle tail second have.0 to covers in
-          let at : it.0 ≡ have.0 + letters = whole.boundary.one_middle have.0 it.0 it.1 in
-          let end : it.2.0 ≡ last = whole.boundary.one_tail it.2.0 it.2.2 in
+          let at : it.0 ≡ have.0 + letters = whole.places.one_middle have.0 it.0 it.1 in
+          let end : it.2.0 ≡ last = whole.places.one_tail it.2.0 it.2.2 in
           let fits = subst (λ n. FitsSpan p (on_span second n last)) at (subst (λ n. FitsSpan p (on_span second it.0 n)) end it.2.1) in
-          let there : Contains places have.0 = (whole.boundary.exact have.0).1 (have.1, subst (λ n. Cover p middle have.0 n) at it.1, fits, subst (λ n. Cover p tail n to) end it.2.2) in
+          let there : Contains places have.0 = (whole.places.exact have.0).1 (have.1, subst (λ n. Cover p middle have.0 n) at it.1, fits, subst (λ n. Cover p tail n to) end it.2.2) in
           omega (arith, there.1, ap length empty)
 
   -- without a total of the front there is none
@@ -182,28 +219,3 @@ module _ (p : PosedProblem) (table : Table ℤ) (first : Arg) (middle : List Arg
       let sum = sum_low (first_factor ∷ (middle_factors ++ second_factor ∷ tail_factors)) all.0 in
       let same = ap nat_abs all.2 in
       omega arith
-
--- ---- entries side by side
-
--- among the values of a rule from the far end `first` on, that of a cell with an entry
-pub entry_among : (p : PosedProblem) (spans : Spans ℤ) (rule near first far : ℕ) (entry : ℤ) (scores : List ℤ) (cell : Cell) → first ≤ far → slice_get scores (far - first) ≡ value_at spans rule near far → value_at spans rule near far ≡ Some entry → IsEntry p cell entry → HasEntryAt p scores first far cell
-entry_among p spans rule near first far entry scores cell l read there is_entry = record { from_first = l; entry = entry; there = read ∙ there; is_entry = is_entry }
-
-pub some_value_at : (found : Option ℤ) (entry : ℤ) → found ≡ Some entry → IsSome found
-some_value_at None entry e = absurd cc
-some_value_at (Some found) entry e = refl
-
--- in places that rise each lies between the first one and the last one
-pub between_ends : (places : List ℕ) (place : ℕ) → AllAdjacentBelow (λ (a b : ℕ). a < b) places (length places) → Contains places place → (get_or places 0 0 ≤ place) × (place ≤ get_or places (length places - 1) 0)
-between_ends places place rising stands =
-    let sorted = IsNonDecreasingBy-from_all_adjacent (λ (n : ℕ). n) places (λ k d l. let rise = rising k d l in omega arith) in
-    let at : get_or places stands.0 0 ≡ place = get_or_default places stands.0 0 place stands.1 ∙ stands.2 in
-    let low = sorted 0 stands.0 0 (omega arith) stands.1 in
-    let high = sorted stands.0 (length places - 1) 0 (omega (arith, stands.1)) (omega (arith, stands.1)) in
-    (omega arith, omega arith)
-
-pub first_stands : (places : List ℕ) → 0 < length places → Contains places (get_or places 0 0)
-first_stands places l = Contains-get_or places 0 0 l
-
-pub last_stands : (places : List ℕ) → 0 < length places → Contains places (get_or places (length places - 1) 0)
-last_stands places l = Contains-get_or places (length places - 1) 0 (omega arith)

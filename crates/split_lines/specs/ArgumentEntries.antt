@@ -3,20 +3,11 @@ use Rattle.std.specs.Prelude.{◌≡◌, ℕ, ℤ, pos, List, [], ◌∷◌}
 use Rattle.adp_model.specs.declared.grammar.Arg.{Arg}
 use Rattle.adp_model.specs.declared.grammar.Arg.TheVariants.{Rule, Literal}
 use Rattle.adp_model.specs.declared.grammar.Goal.{Goal}
-use Rattle.split_lines.specs.declared.layout.Side.{Side}
-use Rattle.split_lines.specs.declared.layout.Side.TheVariants.{Rows, Columns}
 use Rattle.split_lines.specs.declared.argument_values.Entries.{Entries}
 use Rattle.split_lines.specs.declared.argument_values.Numbers.{Numbers}
 use Rattle.split_lines.specs.declared.argument_values.Numbers.TheVariants.{Short, Medium, Long, Whole}
-use Rattle.split_lines.specs.Spans.{Spans}
-use Rattle.split_lines.specs.Entries.{Table}
 use Rattle.split_lines.specs.Totals.{turned}
 use Rattle.split_lines.specs.Packing.{AreProper, short, medium, long, told_list}
-
--- the rows or the columns of a table
-abbrev pub spans_of : {V : Type 0} → Table V → Side → Spans V
-spans_of table Rows = table.rows
-spans_of table Columns = table.columns
 
 -- the entries that the numbers stand for
 abbrev pub told_numbers : Goal → Numbers → List ℤ

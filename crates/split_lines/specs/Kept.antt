@@ -1,8 +1,8 @@
 -- What is kept of an alternative.
-use Rattle.std.specs.Prelude.{◌≡◌, ℕ, ◌+◌, ◌≤◌, ◌++◌, true, false, IfSome, List, [], ◌∷◌, drop, length, map, take}
+use Rattle.std.specs.Prelude.{◌≡◌, ℕ, ◌+◌, ◌≤◌, ◌++◌, true, false, IfSome, ℤ, List, [], ◌∷◌, drop, length, map, take}
 use Rattle.std.specs.List.{AllByRecursion}
 use Rattle.adp_model.specs.declared.grammar.Arg.{Arg}
-use Rattle.adp_model.specs.declared.grammar.Arg.TheVariants.{Literal}
+use Rattle.adp_model.specs.declared.grammar.Arg.TheVariants.{Literal, Letter}
 use Rattle.adp_model.specs.PosedProblem.{PosedProblem}
 use Rattle.adp_model.specs.Parts.{algebra_of, arguments_of, term_of}
 use Rattle.adp_model.specs.WellFormed.{IsKnown}
@@ -24,6 +24,10 @@ pub record AreOneLetter (tokens : List Arg) : Type 0 where
   pub are : tokens ≡ Literal text ∷ []
   pub one : length text ≡ 1
 
+-- the tokens are a letter of this class, and nothing more
+abbrev pub AreOneOfClass : List Arg → ℕ → Type 0
+AreOneOfClass tokens class = tokens ≡ Letter class ∷ []
+
 -- the tokens in front have fixed length, with so many letters and this first one
 pub record AreInFront (p : PosedProblem) (kept : KeptAlternative) : Type 0 where
   pub known : AllByRecursion (IsKnown p.grammar) kept.front.now
@@ -31,6 +35,11 @@ pub record AreInFront (p : PosedProblem) (kept : KeptAlternative) : Type 0 where
   pub letters : HaveLetters p kept.front.now kept.letters
   pub first : IfSome kept.first (BeginWith kept.front.now)
   pub alone : kept.alone ≡ true → AreOneLetter kept.front.now
+  pub class : IfSome kept.class (AreOneOfClass kept.front.now)
+
+-- the factors of the arguments behind the tokens in front
+abbrev pub factors_behind : KeptAlternative → List ℤ
+factors_behind kept = take (length kept.others.now) (drop (length kept.front.now) kept.factors)
 
 -- the parts are those of the alternative of this number and of its term, which is turned
 pub record IsAlternative (p : PosedProblem) (rule alternative : ℕ) (kept : KeptAlternative) : Type 0 where
@@ -41,6 +50,6 @@ pub record IsAlternative (p : PosedProblem) (rule alternative : ℕ) (kept : Kep
   pub constant : kept.constant ≡ turned (algebra_of p).goal (term_of p rule alternative).constant
   pub factors : map (turned (algebra_of p).goal) (term_of p rule alternative).factors
       ≡ take (length kept.front.now) kept.factors
-      ++ take (length kept.others.now) (drop (length kept.front.now) kept.factors)
+      ++ factors_behind kept
   pub front_each : length (take (length kept.front.now) kept.factors) ≡ length kept.front.now
   pub worthless : kept.weighs ≡ false → AreWorthless kept.front.now (take (length kept.front.now) kept.factors)

@@ -7,6 +7,7 @@ use Rattle.adp_model.specs.PosedProblem.{PosedProblem}
 use Rattle.adp_model.specs.Splits.{FitsSpan}
 use Rattle.yield_sizes.specs.Placing.{on_span, Cover}
 use Rattle.split_lines.specs.declared.lines.Line.{Line}
+use Rattle.split_lines.specs.Extents.{IsExtent}
 use Rattle.split_lines.specs.Laid.{IsFixed, LineParts, HasParts}
 use Rattle.split_lines.specs.Matching.{HaveLetters, AreMatches}
 
@@ -37,6 +38,8 @@ pub record IsLine (p : PosedProblem) (arguments : List Arg) (line : Line) : Type
   pub has_line : HasLine arguments line.between
   pub middle : AreMatches p (parts_by arguments line.between).middle line.middle.now
   pub tail : HaveLetters p (parts_by arguments line.between).tail line.tail
+  pub before : IsExtent p (parts_by arguments line.between).first line.before
+  pub behind : IsExtent p (parts_by arguments line.between).second line.behind
 
 -- the arguments before and behind the boundary may have their letters where it stands at this place, and so may the
 -- tokens behind them

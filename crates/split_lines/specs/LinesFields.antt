@@ -8,6 +8,7 @@ use Rattle.split_lines.specs.declared.kept.KeptAlternative.{KeptAlternative}
 use Rattle.split_lines.specs.declared.lines.KeptLine.{KeptLine}
 use Rattle.split_lines.specs.declared.lines.Middle.{Middle}
 use Rattle.split_lines.specs.declared.lines.Lines.TheInside.{Inside}
+use Rattle.split_lines.specs.Extents.{IsExtent}
 use Rattle.split_lines.specs.Kept.{IsAlternative}
 use Rattle.split_lines.specs.Matching.{HaveLetters, AreMatches}
 use Rattle.split_lines.specs.Lines.{parts_by, HasLine}
@@ -34,6 +35,8 @@ pub record IsKept (p : PosedProblem) (middles : List Middle) (arguments : List A
   pub has_line : HasLine (drop line.first arguments) line.between
   pub middle : IsNumberOf middles (parts_by (drop line.first arguments) line.between).middle line.middle
   pub tail : HaveLetters p (parts_by (drop line.first arguments) line.between).tail line.tail
+  pub before : IsExtent p (parts_by (drop line.first arguments) line.between).first line.before
+  pub behind : IsExtent p (parts_by (drop line.first arguments) line.between).second line.behind
 
 -- where no line is kept, the arguments have none
 abbrev pub IsKeptOrNone : PosedProblem → List Middle → List Arg → Option KeptLine → Type 0

@@ -1,11 +1,12 @@
 -- Where tokens of fixed length match.
-use Rattle.std.specs.Prelude.{◌≡◌, ◌↔◌, ℕ, ◌+◌, ◌<◌, ◌≤◌, Bool, true, Some, List, length, slice_get, slice_index}
+use Rattle.std.specs.Prelude.{◌≡◌, ◌↔◌, ℕ, ◌+◌, ◌<◌, ◌≤◌, ℤ, Some, List, length, slice_get, slice_index}
 use Rattle.std.specs.List.{AllAdjacentBelow, Contains}
 use Rattle.adp_model.specs.declared.grammar.Arg.{Arg}
 use Rattle.adp_model.specs.declared.grammar.Arg.TheVariants.{Rule, Literal, Letter, Run}
 use Rattle.adp_model.specs.PosedProblem.{PosedProblem}
 use Rattle.yield_sizes.specs.Placing.{Cover}
 use Rattle.split_lines.specs.Flags.{AreBits}
+use Rattle.split_lines.specs.Limits.{no_limit, AreLimits}
 use Rattle.split_lines.specs.declared.matches.Matches.{Matches}
 
 -- how many letters a token of fixed length has
@@ -30,18 +31,19 @@ pub record AreCounts (places before : List ℕ) : Type 0 where
   pub told : (place number : ℕ) → place < length before → number < length places
       → (slice_index places number < place) ↔ (number < slice_index before place)
 
--- there is a flag for each place of the word, and it is set where that is one of these
-pub record AreFlagsOf (count : ℕ) (places : List ℕ) (flags : List Bool) : Type 0 where
-  pub each : length flags ≡ count
-  pub told : (place : ℕ) → Contains places place ↔ (slice_get flags place ≡ Some true)
+-- there is a limit for each place of the word: none where that is one of these, else the mark
+pub record AreLimitsOf (count : ℕ) (places : List ℕ) (limits : List ℤ) : Type 0 where
+  pub each : length limits ≡ count
+  pub proper : AreLimits limits
+  pub told : (place : ℕ) → Contains places place ↔ (slice_get limits place ≡ Some no_limit)
 
--- how many letters the tokens have, where they match, how many of these places come before each place, for each place
--- whether it is one of these, and the same as bits of these places and of those behind the letters
+-- how many letters the tokens have, where they match, how many of these places come before each place, the limit of
+-- sums at each place, and bits of these places and of those behind the letters
 pub record AreMatches (p : PosedProblem) (tokens : List Arg) (matches : Matches) : Type 0 where
   pub letters : HaveLetters p tokens matches.letters
   pub places : AreMatchPlaces p tokens matches.letters (length p.word + 1) matches.places.items
   pub each : length matches.before.items ≡ length p.word + 2
   pub before : AreCounts matches.places.items matches.before.items
-  pub flags : AreFlagsOf (length p.word + 1) matches.places.items matches.flags.items
+  pub limits : AreLimitsOf (length p.word + 1) matches.places.items matches.limits.items
   pub here : AreBits matches.places.items 0 matches.here.items
   pub behind : AreBits matches.places.items matches.letters matches.behind.items

@@ -3,8 +3,9 @@
 use Rattle.std.specs.Prelude.{◌≡◌, ℕ, ◌^◌, ◌-◌, ◌≤◌, ◌⊎◌, ℤ, negsuc, nat_abs, Some, List, map, slice_get, if◌then◌else◌}
 use Rattle.std.specs.Ordering.{int_eq}
 use Rattle.adp_model.specs.declared.grammar.Goal.{Goal}
-use Rattle.split_lines.specs.Spans.{Spans, value_at}
-use Rattle.split_lines.specs.Entries.{Table, no_candidate}
+use Rattle.cell_tables.specs.Spans.{Spans, value_at}
+use Rattle.cell_tables.specs.Tables.{Table}
+use Rattle.split_lines.specs.Entries.{no_candidate}
 use Rattle.split_lines.specs.Totals.{turned}
 
 -- the number that tells that there is no candidate, and the greatest absolute value of the others

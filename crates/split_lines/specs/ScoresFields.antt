@@ -7,7 +7,7 @@ use Rattle.adp_model.specs.Bellman.{HasBestScore}
 use Rattle.split_lines.specs.declared.scores.Scores.TheInside.{Inside}
 use Rattle.split_lines.specs.declared.scores.Packed.{Packed}
 use Rattle.split_lines.specs.declared.scores.Packed.TheVariants.{Short, Medium, Long, Whole}
-use Rattle.split_lines.specs.Entries.{Table}
+use Rattle.cell_tables.specs.Tables.{Table}
 use Rattle.split_lines.specs.Packing.{Width, AreProperSpans, short, medium, long, told_table}
 
 abbrev pub table_of : Goal → Packed → Table ℤ

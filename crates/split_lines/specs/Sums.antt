@@ -1,10 +1,11 @@
 -- Sums of two numbers of a width.
-use Rattle.std.specs.Prelude.{◌≡◌, ℕ, ◌+◌, ◌-◌, ◌<◌, ◌≤◌, ℤ, ◌+ℤ◌, ◌*ℤ◌, nat_abs, Bool, true, Some, List, length, slice_get}
+use Rattle.std.specs.Prelude.{◌≡◌, ℕ, ◌+◌, ◌-◌, ◌<◌, ◌≤◌, ℤ, ◌+ℤ◌, ◌*ℤ◌, nat_abs, Some, List, length, slice_get}
 use Rattle.std.specs.List.{Contains}
 use Rattle.adp_model.specs.ProblemFields.{greatest_score}
 use Rattle.split_lines.specs.declared.sums.Places.{Places}
 use Rattle.split_lines.specs.declared.sums.Scales.{Scales}
-use Rattle.split_lines.specs.Packing.{Width}
+use Rattle.split_lines.specs.Limits.{no_limit}
+use Rattle.split_lines.specs.Packing.{Width, short}
 
 -- there are two numbers at this place, neither of them marks that there is no candidate, and this is their sum
 pub record HasSum (width : Width) (firsts seconds : List ℤ) (k : ℕ) (sum : ℤ) : Type 0 where
@@ -52,7 +53,7 @@ AreLowSums mark scales places firsts seconds =
     → (it : HasScaledSum mark scales firsts seconds (number_at places place) sum)
     → nat_abs (scales.before *ℤ it.first) + nat_abs (scales.behind *ℤ it.second) ≤ greatest_score
 
--- two numbers side by side that are flagged have this sum
-abbrev pub HasFlaggedSum : Width → List Bool → List ℤ → List ℤ → ℤ → Type 0
-HasFlaggedSum width flags firsts seconds sum =
-    (k : ℕ) × (slice_get flags k ≡ Some true) × HasSum width firsts seconds k sum
+-- two numbers side by side, where there is no limit, have this sum
+abbrev pub HasUnlimitedSum : List ℤ → List ℤ → List ℤ → ℤ → Type 0
+HasUnlimitedSum limits firsts seconds sum =
+    (k : ℕ) × (slice_get limits k ≡ Some no_limit) × HasSum short firsts seconds k sum

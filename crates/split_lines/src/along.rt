@@ -1,68 +1,29 @@
 //! The greatest total along a line.
 
-ghost use Rattle.std.specs.Prelude.{◌≡◌, ℕ, ◌-◌, ◌+◌, ◌<◌, ◌≤◌, ◌^◌, [], ◌∷◌, ◌++◌, IfSome, IsTrue, false, length};
+ghost use Rattle.std.specs.Prelude.{◌≡◌, ℕ, ℤ, [], ◌∷◌, ◌++◌, IfSome, IsTrue, false};
 ghost use Rattle.std.specs.List.{AllByRecursion, Contains};
 ghost use Rattle.adp_model.specs.declared.cell.Cell.{Cell};
 ghost use Rattle.adp_model.specs.PosedProblem.{IsSpan};
-ghost use Rattle.adp_model.specs.Splits.{AtRule};
 ghost use Rattle.adp_model.specs.Bellman.{HasBestScore};
-ghost use Rattle.yield_sizes.specs.Placing.{on_span, Cover};
-ghost use Rattle.split_lines.specs.Flags.{AreFlagged};
-ghost use Rattle.split_lines.specs.Laid.{IsFixed, Demands, AreBoundaries};
-ghost use Rattle.split_lines.specs.Lines.{HasLine, IsLine, parts_by};
-ghost use Rattle.split_lines.specs.ArgumentEntries.{AreProperNumbers, AreWorthless, IsScaled, entries_of};
+ghost use Rattle.yield_sizes.specs.Placing.{Cover};
+ghost use Rattle.split_lines.specs.Laid.{IsFixed, Demands};
+ghost use Rattle.split_lines.specs.Lines.{IsLine};
+ghost use Rattle.split_lines.specs.ArgumentEntries.{AreWorthless, IsScaled};
+ghost use Rattle.split_lines.specs.Through.{HasTotalThrough};
 ghost use Rattle.split_lines.specs.Entries.{HasEntry};
-ghost use Rattle.split_lines.specs.Rows.{HasEntryAt};
+ghost use Rattle.split_lines.specs.Opened.{IsOpened};
 ghost use Rattle.split_lines.specs.Totals.{AreLow, AreWeighted, HasTotal, IsGreatestOf};
 
-use crate::argument_values::{Entries, Numbers, token_value, value_among};
-use crate::layout::Side;
-use crate::lines::{Boundary, Line, Lines};
+use crate::argument_values::{Numbers, token_value, value_among};
+use crate::lines::{Line, Lines};
 use crate::matches::fixed_length;
 use crate::numbers::greater;
+use crate::opened::{OpenedLine, open_line};
 use crate::scores::Scores;
 use crate::sums::{Places, Scales, greatest_long, greatest_medium, greatest_short};
 use adp_model::laws::bounds::bounds_are_sound;
 use adp_model::laws::order::answer_is_unique;
 use adp_model::{Arg, Goal};
-
-/// The arguments of a line with their factors: the two of open length, and the tokens between them and behind them.
-#[derive(Clone, Copy)]
-struct LineArguments<'s> {
-    first: &'s Arg,
-    first_factor: i64,
-    middle: &'s [Arg],
-    middle_factors: &'s [i64],
-    second: &'s Arg,
-    second_factor: i64,
-    tail: &'s [Arg],
-    tail_factors: &'s [i64],
-}
-
-/// The arguments of a line, where so many tokens stand between the two of open length.
-fn line_arguments<'s>(arguments: &'s [Arg], factors: &'s [i64], between: usize) -> LineArguments<'s>
-    requires line { HasLine arguments.now between }
-    requires each { length factors.now ≡ length arguments.now }
-    ensures first { result.first.now ≡ (parts_by arguments.now between).first }
-    ensures middle { result.middle.now ≡ (parts_by arguments.now between).middle }
-    ensures second { result.second.now ≡ (parts_by arguments.now between).second }
-    ensures tail { result.tail.now ≡ (parts_by arguments.now between).tail }
-    ensures factors { factors.now ≡ result.first_factor ∷ (result.middle_factors.now
-        ++ result.second_factor ∷ result.tail_factors.now) }
-    ensures middle_each { length result.middle_factors.now ≡ length result.middle.now }
-{
-    let second = between + 1;
-    LineArguments {
-        first: &arguments[0],
-        first_factor: factors[0],
-        middle: &arguments[1..second],
-        middle_factors: &factors[1..second],
-        second: &arguments[second],
-        second_factor: factors[second],
-        tail: &arguments[second + 1..],
-        tail_factors: &factors[second + 1..],
-    }
-}
 
 /// The total of tokens of fixed length that match the letters from `from` to `to`.
 fn fixed_total(lines: &Lines<'_>, tokens: &[Arg], factors: &[i64], from: u16, to: u16) -> i64
@@ -131,132 +92,99 @@ pub fn between_total(
     }
 }
 
-/// The greatest total of the arguments of a line up to its second one of open length, place by place.
-fn greatest_valued(
+/// The total of the arguments of a line up to its second one of open length where the boundary stands at this place;
+/// `None` where one of the two has no candidate. Tokens between them that do not weigh anything add nothing.
+#[inline(always)]
+pub fn total_through(
     lines: &Lines<'_>,
-    arguments: LineArguments<'_>,
-    boundary: Boundary<'_>,
-    from: u16,
-    row: Entries<'_>,
-    column: Entries<'_>,
+    line: &OpenedLine<'_>,
+    weigh: bool,
+    place: u16,
 ) -> Option<i64>
-    requires weighted { AreWeighted lines.now
-        (arguments.first.now ∷ (arguments.middle.now ++ arguments.second.now ∷ []))
-        (arguments.first_factor ∷ (arguments.middle_factors.now ++ arguments.second_factor ∷ [])) }
-    requires middle_each { length arguments.middle_factors.now ≡ length arguments.middle.now }
-    requires middle_fixed { AllByRecursion IsFixed arguments.middle.now }
-    requires boundary { AreBoundaries lines.now
-        (record {
-          first = arguments.first.now;
-          middle = arguments.middle.now;
-          second = arguments.second.now;
-          tail = [];
-        }) from boundary.last boundary.letters boundary.last boundary.places.now }
-    requires low { AreLow lines.now
-        (arguments.first.now ∷ (arguments.middle.now ++ arguments.second.now ∷ []))
-        (arguments.first_factor ∷ (arguments.middle_factors.now ++ arguments.second_factor ∷ []))
-        from boundary.last }
-    requires row { (place : ℕ) → Contains boundary.places.now place
-        → AtRule (HasEntryAt lines.now (entries_of row) row.first place) (on_span arguments.first.now from place) }
-    requires column { (place : ℕ) → Contains boundary.places.now place
-        → AtRule (HasEntryAt lines.now (entries_of column) column.first (place + boundary.letters))
-        (on_span arguments.second.now (place + boundary.letters) boundary.last) }
-    requires row_proper { AreProperNumbers row.numbers }
-    requires column_proper { AreProperNumbers column.numbers }
-    ensures { IsGreatestOf (HasTotal lines.now (HasBestScore lines.now)
-        (arguments.entry.first.now ∷ (arguments.entry.middle.now ++ arguments.entry.second.now ∷ []))
-        (arguments.entry.first_factor ∷ (arguments.entry.middle_factors.now ++ arguments.entry.second_factor ∷ []))
-        from boundary.entry.last) result }
+    requires opened { IsOpened lines.now line.now }
+    requires worthless { weigh ≡ false
+        → AreWorthless line.now.arguments.middle.now line.now.arguments.middle_factors.now }
+    requires stands { Contains line.now.boundary.places.now place }
+    ensures greatest { IsGreatestOf (HasTotalThrough lines.now (HasBestScore lines.now) line.now.arguments.first.now
+        line.now.arguments.middle.now line.now.arguments.second.now line.now.arguments.first_factor
+        line.now.arguments.middle_factors.now line.now.arguments.second_factor line.now.from line.now.boundary.letters
+        line.now.boundary.last place) result }
+    ensures only { IfSome result (λ total. (other : ℤ)
+        → HasTotalThrough lines.now (HasBestScore lines.now) line.now.arguments.first.now
+        line.now.arguments.middle.now line.now.arguments.second.now line.now.arguments.first_factor
+        line.now.arguments.middle_factors.now line.now.arguments.second_factor line.now.from line.now.boundary.letters
+        line.now.boundary.last place other → other ≡ total) }
 {
     lines.problem().admissible();
     bounds_are_sound();
     answer_is_unique();
-    let weigh = !are_worthless(arguments.middle, arguments.middle_factors);
+    let arguments = line.arguments;
+    let last = line.boundary.last;
+    let behind = place + line.boundary.letters;
+    let Some(first) = value_among(lines, line.row, arguments.first, place, line.from, place) else {
+        return None;
+    };
+    let Some(second) = value_among(lines, line.column, arguments.second, behind, behind, last)
+    else {
+        return None;
+    };
+    let between = between_total(
+        lines,
+        arguments.middle,
+        arguments.middle_factors,
+        weigh,
+        place,
+        behind,
+    );
+    Some(arguments.first_factor * first + between + arguments.second_factor * second)
+}
+
+/// The greatest total of the arguments of a line up to its second one of open length, place by place.
+#[inline(always)]
+fn greatest_valued(lines: &Lines<'_>, line: &OpenedLine<'_>) -> Option<i64>
+    requires opened { IsOpened lines.now line.now }
+    ensures { IsGreatestOf (HasTotal lines.now (HasBestScore lines.now)
+        (line.now.arguments.first.now ∷ (line.now.arguments.middle.now ++ line.now.arguments.second.now ∷ []))
+        (line.now.arguments.first_factor
+        ∷ (line.now.arguments.middle_factors.now ++ line.now.arguments.second_factor ∷ []))
+        line.now.from line.now.boundary.last) result }
+{
+    let weigh = !are_worthless(line.arguments.middle, line.arguments.middle_factors);
     let mut greatest = None;
-    for place in boundary.places {
-        let behind = *place + boundary.letters;
-        let Some(first) = value_among(lines, row, arguments.first, *place, from, *place) else {
-            continue;
-        };
-        let Some(second) = value_among(
-            lines,
-            column,
-            arguments.second,
-            behind,
-            behind,
-            boundary.last,
-        ) else {
-            continue;
-        };
-        let between = between_total(
-            lines,
-            arguments.middle,
-            arguments.middle_factors,
-            weigh,
-            *place,
-            behind,
-        );
-        let total = arguments.first_factor * first + between + arguments.second_factor * second;
-        greatest = greater(greatest, Some(total));
+    for place in line.boundary.places {
+        let total = total_through(lines, line, weigh, *place);
+        greatest = greater(greatest, total);
     }
     greatest
 }
 
 /// The greatest total of the arguments of a line up to its second one of open length.
-fn greatest_front(
-    lines: &Lines<'_>,
-    arguments: LineArguments<'_>,
-    boundary: Boundary<'_>,
-    from: u16,
-    row: Entries<'_>,
-    column: Entries<'_>,
-) -> Option<i64>
-    requires weighted { AreWeighted lines.now
-        (arguments.first.now ∷ (arguments.middle.now ++ arguments.second.now ∷ []))
-        (arguments.first_factor ∷ (arguments.middle_factors.now ++ arguments.second_factor ∷ [])) }
-    requires middle_each { length arguments.middle_factors.now ≡ length arguments.middle.now }
-    requires middle_fixed { AllByRecursion IsFixed arguments.middle.now }
-    requires boundary { AreBoundaries lines.now
-        (record {
-          first = arguments.first.now;
-          middle = arguments.middle.now;
-          second = arguments.second.now;
-          tail = [];
-        }) from boundary.last boundary.letters boundary.last boundary.places.now }
-    requires flags { AreFlagged boundary.places.now boundary.flags.now }
-    requires low { AreLow lines.now
-        (arguments.first.now ∷ (arguments.middle.now ++ arguments.second.now ∷ []))
-        (arguments.first_factor ∷ (arguments.middle_factors.now ++ arguments.second_factor ∷ []))
-        from boundary.last }
-    requires common { column.first ≡ row.first + boundary.letters }
-    requires row { (place : ℕ) → Contains boundary.places.now place
-        → AtRule (HasEntryAt lines.now (entries_of row) row.first place) (on_span arguments.first.now from place) }
-    requires column { (place : ℕ) → Contains boundary.places.now place
-        → AtRule (HasEntryAt lines.now (entries_of column) column.first (place + boundary.letters))
-        (on_span arguments.second.now (place + boundary.letters) boundary.last) }
-    requires row_proper { AreProperNumbers row.numbers }
-    requires column_proper { AreProperNumbers column.numbers }
+#[inline(always)]
+pub fn greatest_front(lines: &Lines<'_>, line: &OpenedLine<'_>) -> Option<i64>
+    requires opened { IsOpened lines.now line.now }
     ensures { IsGreatestOf (HasTotal lines.now (HasBestScore lines.now)
-        (arguments.entry.first.now ∷ (arguments.entry.middle.now ++ arguments.entry.second.now ∷ []))
-        (arguments.entry.first_factor ∷ (arguments.entry.middle_factors.now ++ arguments.entry.second_factor ∷ []))
-        from boundary.entry.last) result }
+        (line.now.arguments.first.now ∷ (line.now.arguments.middle.now ++ line.now.arguments.second.now ∷ []))
+        (line.now.arguments.first_factor
+        ∷ (line.now.arguments.middle_factors.now ++ line.now.arguments.second_factor ∷ []))
+        line.now.from line.now.boundary.last) result }
 {
+    let arguments = line.arguments;
     if let (Some(before), Some(behind)) = (
-        scale_of(arguments.first, arguments.first_factor, row.goal),
-        scale_of(arguments.second, arguments.second_factor, column.goal),
+        scale_of(arguments.first, arguments.first_factor, line.row.goal),
+        scale_of(arguments.second, arguments.second_factor, line.column.goal),
     ) {
         if are_worthless(arguments.middle, arguments.middle_factors) {
             lines.problem().admissible();
             bounds_are_sound();
             answer_is_unique();
             let places = Places {
-                at: boundary.places,
-                first: row.first,
+                at: line.boundary.places,
+                first: line.row.first,
             };
             let scales = Scales { before, behind };
-            match (row.numbers, column.numbers) {
+            match (line.row.numbers, line.column.numbers) {
                 (Numbers::Short(first), Numbers::Short(second)) => {
-                    return greatest_short(first, second, places, boundary.flags, scales);
+                    return greatest_short(first, second, places, line.boundary.limits, scales);
                 }
                 (Numbers::Medium(first), Numbers::Medium(second)) => {
                     return greatest_medium(first, second, places, scales);
@@ -268,10 +196,11 @@ fn greatest_front(
             }
         }
     }
-    greatest_valued(lines, arguments, boundary, from, row, column)
+    greatest_valued(lines, line)
 }
 
 /// The greatest total of arguments that begin with the first one of their line, laid from `from` to `to`.
+#[inline(never)]
 pub fn greatest_along(
     lines: &Lines<'_>,
     scores: &Scores<'_>,
@@ -292,28 +221,9 @@ pub fn greatest_along(
     lines.problem().admissible();
     bounds_are_sound();
     answer_is_unique();
-    let boundary = lines.boundary(line, arguments, from, to);
-    let Boundary {
-        places,
-        letters,
-        last,
-        ..
-    } = boundary;
-    let arguments = line_arguments(arguments, factors, line.between as usize);
-    if places.is_empty() {
-        return None;
-    }
-    let (low, high) = (places[0], places[places.len() - 1]);
-    let row = scores.entries(Side::Rows, arguments.first, from, low, high);
-    let column = scores.entries(
-        Side::Columns,
-        arguments.second,
-        last,
-        low + letters,
-        high + letters,
-    );
-    let Some(front) = greatest_front(lines, arguments, boundary, from, row, column) else {
-        return None;
-    };
+    let opened = open_line(lines, scores, line, arguments, factors, from, to)?;
+    let front = greatest_front(lines, &opened)?;
+    let arguments = opened.arguments;
+    let last = opened.boundary.last;
     Some(front + fixed_total(lines, arguments.tail, arguments.tail_factors, last, to))
 }

@@ -67,6 +67,7 @@ pub fn token_value(lines: &Lines<'_>, token: &Arg, from: u16, to: u16) -> i64
 
 /// The value of an argument on a span: the score of a rule's cell, `None` where it has no candidate, or what a token's
 /// letters are worth. It means nothing where the cell has no entry. Takes constant time and no memory.
+#[inline(always)]
 pub fn argument_value(
     lines: &Lines<'_>,
     scores: &Scores<'_>,
@@ -94,6 +95,7 @@ pub fn argument_value(
 }
 
 /// The same, where the entry of a rule's cell stands among others at this place.
+#[inline]
 pub fn value_among(
     lines: &Lines<'_>,
     entries: Entries<'_>,

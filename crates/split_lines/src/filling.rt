@@ -1,6 +1,6 @@
 //! The best score of a cell from those of its demanded children.
 
-ghost use Rattle.std.specs.Prelude.{◌≡◌, ℕ, ◌<◌, ◌≤◌, ◌↔◌, IsTrue, IfSome, MatchOption, List, length, drop};
+ghost use Rattle.std.specs.Prelude.{◌≡◌, ℕ, ◌<◌, ◌≤◌, ◌↔◌, IsTrue, IfSome, MatchOption, List, [], ◌∷◌, length, drop};
 ghost use Rattle.adp_model.specs.declared.cell.Answer.TheVariants.{NoCandidate};
 ghost use Rattle.adp_model.specs.declared.cell.Cell.{Cell};
 ghost use Rattle.adp_model.specs.PosedProblem.{IsSpan};
@@ -10,7 +10,7 @@ ghost use Rattle.adp_model.specs.Bellman.{HasBestScore};
 ghost use Rattle.adp_model.specs.FirstSplit.{IsScoredSplit};
 ghost use Rattle.adp_model.specs.Demand.{IsDemandedChild};
 ghost use Rattle.yield_sizes.specs.Placing.{Cover};
-ghost use Rattle.split_lines.specs.Kept.{IsAlternative};
+ghost use Rattle.split_lines.specs.Kept.{IsAlternative, factors_behind};
 ghost use Rattle.split_lines.specs.Laid.{Demands};
 ghost use Rattle.split_lines.specs.Lines.{IsLine};
 ghost use Rattle.split_lines.specs.Entries.{HasEntry};
@@ -35,6 +35,33 @@ struct Known<'s, 'a> {
     lines: &'s Lines<'a>,
     scores: &'s Scores<'a>,
     line: Option<Line<'s>>,
+}
+
+/// The total of one argument that has the letters from `from` to `to`; `None` where it can't have them, or has no value.
+#[inline(always)]
+fn last_total(
+    lines: &Lines<'_>,
+    scores: &Scores<'_>,
+    argument: &Arg,
+    factor: i64,
+    from: u16,
+    to: u16,
+) -> Option<i64>
+    requires same_problem { scores.now.problem ≡ lines.now }
+    requires weighted { AreWeighted lines.now (argument.now ∷ []) (factor ∷ []) }
+    requires span { IsSpan lines.now.word from to }
+    requires scored { (cell : Cell) → Demands lines.now (argument.now ∷ []) from to cell → HasEntry scores.now cell }
+    requires low { AreLow lines.now (argument.now ∷ []) (factor ∷ []) from to }
+    ensures { IsGreatestOf (HasTotal lines.now (HasBestScore lines.now) (argument.now ∷ []) (factor ∷ []) from to)
+        result }
+{
+    lines.problem().admissible();
+    bounds_are_sound();
+    answer_is_unique();
+    if !lines.fits(argument, from, to) {
+        return None;
+    }
+    Some(factor * argument_value(lines, scores, argument, from, to)?)
 }
 
 /// The greatest total of arguments that are laid from `from` to `to`. If they have a line, `ahead` of them come before
@@ -77,10 +104,7 @@ fn greatest_total(
         return Some(factor * token_value(lines, argument, from, end) + rest);
     }
     if others.is_empty() {
-        if !lines.fits(argument, from, to) {
-            return None;
-        }
-        return Some(factor * argument_value(lines, scores, argument, from, to)?);
+        return last_total(lines, scores, argument, *factor, from, to);
     }
     let places = lines.places(arguments, from, to);
     let mut greatest = None;
@@ -94,6 +118,42 @@ fn greatest_total(
         greatest = greater(greatest, Some(factor * value + rest));
     }
     greatest
+}
+
+/// The greatest total of the arguments behind the tokens in front of an alternative, laid from `from` to `to`.
+#[inline(always)]
+fn total_behind(
+    lines: &Lines<'_>,
+    scores: &Scores<'_>,
+    rule: u32,
+    alternative: &KeptAlternative<'_>,
+    alt: u8,
+    from: u16,
+    to: u16,
+) -> Option<i64>
+    requires same_problem { scores.now.problem ≡ lines.now }
+    requires in_range { alt < length (alternatives_of lines.now.grammar rule) }
+    requires alternative { IsAlternative lines.now rule alt alternative.now }
+    requires weighted { AreWeighted lines.now alternative.now.others.now (factors_behind alternative.now) }
+    requires span { IsSpan lines.now.word from to }
+    requires scored { (cell : Cell) → Demands lines.now alternative.now.others.now from to cell
+        → HasEntry scores.now cell }
+    requires low { AreLow lines.now alternative.now.others.now (factors_behind alternative.now) from to }
+    ensures { IsGreatestOf (HasTotal lines.now (HasBestScore lines.now)
+        alternative.now.others.now (factors_behind alternative.now) from to) result }
+{
+    let (others, factors) = (alternative.others, alternative.other_factors());
+    if others.len() == 1 {
+        return last_total(lines, scores, &others[0], factors[0], from, to);
+    }
+    let line = lines.line_behind(alternative, rule, alt);
+    let ahead = line.map_or(0, |line| line.first);
+    let known = Known {
+        lines,
+        scores,
+        line,
+    };
+    greatest_total(&known, ahead, others, factors, from, to)
 }
 
 /// The best score that an alternative gives a cell whose first letters its tokens in front have up to `from`, turned;
@@ -122,16 +182,7 @@ fn score_behind(
     words_keep_their_score_bound();
     answer_is_unique();
     arguments_are_few_and_known();
-    let line = lines.line_behind(alternative, cell.rule, alt);
-    let ahead = line.map_or(0, |line| line.first);
-    let known = Known {
-        lines,
-        scores,
-        line,
-    };
-    let factors = alternative.other_factors();
-    let Some(rest) = greatest_total(&known, ahead, alternative.others, factors, from, cell.to)
-    else {
+    let Some(rest) = total_behind(lines, scores, cell.rule, alternative, alt, from, cell.to) else {
         return None;
     };
     let front = between_total(

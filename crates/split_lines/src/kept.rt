@@ -1,13 +1,14 @@
 //! Alternatives, made ready for the cells of their rules.
 
-ghost use Rattle.std.specs.Prelude.{◌≡◌, ◌↔◌, ℕ, ◌+◌, ◌<◌, ◌≤◌, IfSome, IsTrue, Some, drop, length, slice_get, take};
+ghost use Rattle.std.specs.Prelude.{◌≡◌, ◌↔◌, ℕ, ◌+◌, ◌<◌, ◌≤◌, IfSome, IsTrue, Some, [], ◌∷◌, drop, length, slice_get, take};
 ghost use Rattle.std.specs.Bool.{OnTrue};
 ghost use Rattle.std.specs.List.{AllByRecursion};
+ghost use Rattle.adp_model.specs.declared.grammar.Arg.TheVariants.{Letter};
 ghost use Rattle.adp_model.specs.PosedProblem.{IsSpan};
 ghost use Rattle.adp_model.specs.Parts.{alternatives_of};
 ghost use Rattle.yield_sizes.specs.Placing.{Cover};
 ghost use Rattle.split_lines.specs.Laid.{IsFixed};
-ghost use Rattle.split_lines.specs.Kept.{AreInFront, AreOneLetter, BeginWith, IsAlternative};
+ghost use Rattle.split_lines.specs.Kept.{AreInFront, AreOneLetter, AreOneOfClass, BeginWith, IsAlternative, factors_behind};
 
 use crate::along::are_worthless;
 use crate::classes::ClassTables;
@@ -17,6 +18,7 @@ use crate::numbers::{turned, turned_factors};
 use crate::parts::{arguments, goal, letters, term};
 use adp_model::laws::well_formed::arguments_are_few_and_known;
 use adp_model::{Arg, Problem};
+use yield_sizes::Matcher;
 
 /// An alternative as it is kept: most spans are refused by the tokens before its first argument of open length.
 #[derive(Drop)]
@@ -31,6 +33,8 @@ pub struct KeptAlternative<'a> {
     pub first: Option<u8>,
     /// Whether they are that letter alone.
     pub alone: bool,
+    /// The class of the letter that they are, where they are one letter of a class and nothing more.
+    pub class: Option<u32>,
     /// Whether they may add something to a total.
     pub weighs: bool,
     /// The constant of the term, turned.
@@ -63,7 +67,7 @@ impl KeptAlternative<'_> {
     #[inline]
     pub fn other_factors(&self) -> &[i64]
         requires { length self.now.front.now + length self.now.others.now ≤ 4 }
-        ensures { result.now ≡ take (length self.now.others.now) (drop (length self.now.front.now) self.now.factors) }
+        ensures { result.now ≡ factors_behind self.now }
     {
         let number = self.front.len();
         &self.factors[number..number + self.others.len()]
@@ -106,6 +110,20 @@ fn are_one_letter(tokens: &[Arg]) -> bool
     others.is_empty() && text.bytes().len() == 1
 }
 
+/// The class of the letter that tokens are, where they are one letter of a class, and nothing more.
+fn class_of(tokens: &[Arg]) -> Option<u32>
+    ensures { IfSome result (AreOneOfClass tokens.now) }
+{
+    let Some((Arg::Letter(class), others)) = tokens.split_first() else {
+        return None;
+    };
+    if others.is_empty() {
+        Some(*class)
+    } else {
+        None
+    }
+}
+
 /// An alternative, made ready; its line is found apart. Takes time for each argument and for the letters of literals.
 pub fn kept_alternative<'a>(
     problem: &'a Problem<'a>,
@@ -132,6 +150,7 @@ pub fn kept_alternative<'a>(
         letters: fixed_letters(problem, front) as u16,
         first: first_letter(front),
         alone: are_one_letter(front),
+        class: class_of(front),
         weighs: !are_worthless(front, &factors[..number]),
         constant: turned(goal, term.constant),
         factors,
@@ -150,6 +169,20 @@ fn stands(word: &[u8], place: usize, letter: u8) -> bool
     }
 }
 
+/// Where a letter of the class that begins at `from` ends, where it stands there and ends at `to` or before.
+#[inline(always)]
+fn letter_end(tables: &ClassTables<'_>, class: u32, from: usize, to: usize) -> Option<usize>
+    requires known { class < length tables.now.grammar.classes }
+    requires span { IsSpan tables.now.word from to }
+    ensures { (end : ℕ) → (result ≡ Some end) ↔ ((end ≤ to) × Cover tables.now (Letter class ∷ []) from end) }
+{
+    if tables.class_end(class, from, to) > from {
+        Some(from + 1)
+    } else {
+        None
+    }
+}
+
 /// Where the tokens in front end that begin at `from`, where they match there and end at `to` or before. In most cases
 /// how many letters they have, or the first of these, tells that they don't.
 #[inline(always)]
@@ -164,6 +197,9 @@ pub fn front_end(
     requires short { to ≤ 4000 }
     ensures { (end : ℕ) → (result ≡ Some end) ↔ ((end ≤ to) × Cover tables.now alternative.now.front.now from end) }
 {
+    if let Some(class) = alternative.class {
+        return letter_end(tables, class, from, to);
+    }
     let end = from + alternative.letters as usize;
     if end > to {
         return None;

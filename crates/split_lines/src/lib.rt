@@ -5,31 +5,25 @@
 
 mod along;
 mod argument_values;
-mod bits;
 mod classes;
+mod extents;
 mod filling;
-mod grid;
+mod first_places;
 mod kept;
-mod layout;
 mod lines;
-mod marked_spans;
 mod marking;
-mod marks;
 mod matches;
 mod numbers;
+mod opened;
 mod packing;
 mod parts;
 mod scores;
 mod spans;
 mod sums;
-mod table;
 
 pub use argument_values::argument_value;
 pub use filling::{cell_score, gives_best};
-pub use grid::{Block, Grid};
-pub use layout::Side;
+pub use first_places::{BoundaryPlace, first_best_place};
 pub use lines::{Boundary, Line, Lines};
 pub use marking::mark_children;
-pub use marks::Marks;
 pub use scores::Scores;
-pub use table::Table;

@@ -16,21 +16,23 @@ ghost use Rattle.split_lines.specs.declared.kept.KeptAlternative.{KeptAlternativ
 ghost use Rattle.split_lines.specs.Kept.{AreInFront, IsAlternative};
 ghost use Rattle.split_lines.specs.Laid.{IsFixed, AreBoundaries};
 ghost use Rattle.split_lines.specs.Classes.{AreSums};
-ghost use Rattle.split_lines.specs.Flags.{AreBitsAmong, AreFlagged};
+ghost use Rattle.split_lines.specs.Flags.{AreBitsAmong};
+ghost use Rattle.split_lines.specs.Limits.{AreLimited};
 ghost use Rattle.split_lines.specs.Lines.{IsLine, IsLastOpen, HasLine, LeavesPlace, parts_by};
 ghost use Rattle.split_lines.specs.LinesFields.{AreMiddles, HasAllOf, IsNumberOf, IsKeptOrNone, AreKept};
 
 use crate::classes::ClassTables;
+use crate::extents::{Extent, extent_of};
 use crate::kept::{KeptAlternative, front_end, kept_alternative};
 use crate::matches::{Matches, covers, fixed_letters};
 use crate::parts::{alternatives, arguments};
-use crate::spans::{self, starts};
+use crate::spans;
 use adp_model::laws::well_formed::arguments_are_few_and_known;
 use adp_model::{Arg, Cell, Problem};
 use std::alloc::{AllocError, Global};
 use std::marker::Model;
 use std::ops::Range;
-use yield_sizes::{Cuts, Matcher, argument_ends, first_ends, first_visited, next_visited};
+use yield_sizes::{Cuts, Matcher, first_ends, first_visited, next_visited};
 
 /// How many of the kept lists are compared with tokens before these get a list of their own.
 const MOST_COMPARED: usize = 64;
@@ -45,18 +47,21 @@ pub struct Line<'l> {
     pub between: u8,
     /// How many letters the tokens behind the second one have.
     pub(crate) tail: u16,
+    /// How many letters each of the two may have.
+    pub(crate) before: Extent,
+    pub(crate) behind: Extent,
     /// Where the tokens between the two match.
     pub(crate) middle: &'l Matches,
 }
 
-/// The boundary of a line on a span: the places at which it may stand, for each place from the first of these to the
-/// last one whether it is one of them, how many letters lie between it and the second argument, and where that one
-/// ends. Where the line can't have the span, there is no place. Bits tell the places too, and where the second argument
-/// begins: they are those of the whole word, 64 places in a number.
+/// The boundary of a line on a span: the places at which it may stand, the limit of a sum at each place from the first
+/// of these to the last one, how many letters lie between it and the second argument, and where that one ends. Where
+/// the line can't have the span, there is no place. Bits tell the places too, and where the second argument begins:
+/// they are those of the whole word, 64 places in a number.
 #[derive(Clone, Copy)]
 pub struct Boundary<'l> {
     pub places: &'l [u16],
-    pub flags: &'l [bool],
+    pub limits: &'l [i16],
     pub here: &'l [u64],
     pub behind: &'l [u64],
     pub letters: u16,
@@ -76,6 +81,8 @@ pub struct KeptLine {
     pub first: u8,
     pub between: u8,
     pub tail: u16,
+    pub before: Extent,
+    pub behind: Extent,
     pub middle: usize,
 }
 
@@ -182,6 +189,8 @@ fn kept_line<'a>(
         first: first as u8,
         between: between as u8,
         tail: tail as u16,
+        before: extent_of(tables.problem(), &arguments[first]),
+        behind: extent_of(tables.problem(), &arguments[second]),
         middle,
     }))
 }
@@ -212,6 +221,22 @@ fn kept_alternatives<'a>(
         kept.push(kept_alternative(problem, rule, alt, line))?;
     }
     Ok(kept)
+}
+
+/// Whether tokens of fixed length match the letters from `from` to `to`; in most cases there are none.
+#[inline(always)]
+fn tail_covers(tables: &ClassTables<'_>, tokens: &[Arg], from: usize, to: usize) -> bool
+    requires known { AllByRecursion (IsKnown tables.now.grammar) tokens.now }
+    requires fixed { AllByRecursion IsFixed tokens.now }
+    requires span { IsSpan tables.now.word from to }
+    requires short { to ≤ 4000 }
+    ensures { IsTrue result ↔ Cover tables.now tokens.now from to }
+{
+    if tokens.is_empty() {
+        from == to
+    } else {
+        covers(tables, tokens, from, to)
+    }
 }
 
 /// The line, where none of the arguments comes before it.
@@ -245,7 +270,7 @@ impl<'a> Model for Lines<'a> {
 
 impl<'a> Lines<'a> {
     /// Works it out, in time for each alternative, and for each letter of the word once for each class and once for
-    /// each list of tokens. Memory is 20 bytes for each class and letter, three to five for each list and letter, and
+    /// each list of tokens. Memory is 20 bytes for each class and letter, four to six for each list and letter, and
     /// about a hundred for each alternative.
     pub fn new(alloc: Global, problem: &'a Problem<'a>) -> Result<Lines<'a>, AllocError>
         ensures { IfOk result (λ lines. lines ≡ problem.now) }
@@ -286,6 +311,8 @@ impl<'a> Lines<'a> {
             first: kept.first,
             between: kept.between,
             tail: kept.tail,
+            before: kept.before,
+            behind: kept.behind,
             middle: &self.middles[kept.middle].matches,
         })
     }
@@ -342,6 +369,7 @@ impl<'a> Lines<'a> {
 
     /// The places at which the boundary of a line may stand, as far as the arguments on both sides of it and the tokens
     /// behind tell: from where on, and before which.
+    #[inline(always)]
     fn range(&self, line: Line<'_>, arguments: &[Arg], from: usize, to: usize) -> Range<usize>
         requires line { IsLine self.now arguments.now line }
         requires known { AllByRecursion (IsKnown self.now.grammar) arguments.now }
@@ -356,11 +384,11 @@ impl<'a> Lines<'a> {
         let second = line.between as usize + 1;
         let letters = line.middle.letters as usize;
         let last = to.saturating_sub(line.tail as usize);
-        if last < from || !covers(&self.tables, &arguments[second + 1..], last, to) {
+        if last < from || !tail_covers(&self.tables, &arguments[second + 1..], last, to) {
             return from..from;
         }
-        let ends = argument_ends(&self.tables, &arguments[0], from, last);
-        let starts = starts(&self.tables, &arguments[second], from, last);
+        let ends = line.before.ends(&self.tables, from, last);
+        let starts = line.behind.starts(&self.tables, from, last);
         let start = ends.start.max(starts.start.saturating_sub(letters));
         let end = ends.end.min(starts.end.saturating_sub(letters));
         start.min(end)..end
@@ -368,6 +396,7 @@ impl<'a> Lines<'a> {
 
     /// The boundary of the line of these arguments, the first of which is the first one of the line. Takes constant
     /// time, but for literals behind the second one, and no memory.
+    #[inline(always)]
     pub fn boundary<'l>(
         &self,
         line: Line<'l>,
@@ -380,7 +409,7 @@ impl<'a> Lines<'a> {
         requires span { IsSpan self.now.word from to }
         ensures boundaries { AreBoundaries self.now (parts_by arguments.now line.entry.between) from to
             result.letters result.last result.places.now }
-        ensures flags { AreFlagged result.places.now result.flags.now }
+        ensures limits { AreLimited result.places.now result.limits.now }
         ensures here { AreBitsAmong result.places.now 0 result.here.now }
         ensures behind { AreBitsAmong result.places.now result.letters result.behind.now }
     {
@@ -389,7 +418,7 @@ impl<'a> Lines<'a> {
         let places = line.middle.between(range.start as u16, range.end as u16);
         Boundary {
             places,
-            flags: line.middle.flags_among(places),
+            limits: line.middle.limits_among(places),
             here: &line.middle.here,
             behind: &line.middle.behind,
             letters: line.middle.letters,

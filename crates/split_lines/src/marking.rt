@@ -1,6 +1,6 @@
 //! The cells that a cell demands.
 
-ghost use Rattle.std.specs.Prelude.{◌≡◌, ◌↔◌, ◌+◌, ◌<◌, ◌≤◌, ℕ, IfSome, IsTrue, drop, length};
+ghost use Rattle.std.specs.Prelude.{◌≡◌, ◌↔◌, ◌+◌, ◌<◌, ◌≤◌, ℕ, [], ◌∷◌, IfSome, IsTrue, drop, length};
 ghost use Rattle.std.specs.List.{AllAdjacentBelow, AllByRecursion, Contains};
 ghost use Rattle.std.specs.Option.{option_copied};
 ghost use Rattle.adp_model.specs.declared.cell.Cell.{Cell};
@@ -14,13 +14,13 @@ ghost use Rattle.split_lines.specs.Flags.{AreBitsAmong};
 ghost use Rattle.split_lines.specs.Kept.{IsAlternative};
 ghost use Rattle.split_lines.specs.Laid.{Demands, IsCellOf};
 ghost use Rattle.split_lines.specs.Lines.{IsLine};
-ghost use Rattle.split_lines.specs.Marks.{AreInRows, AreMarkedFrom, AreMarkedToo};
+ghost use Rattle.cell_tables.specs.Marks.{AreInRows, AreMarkedFrom, AreMarkedToo};
 
 use crate::kept::KeptAlternative;
 use crate::lines::{Boundary, Line, Lines, is_fixed, line_here};
-use crate::marks::Marks;
 use adp_model::laws::well_formed::arguments_are_few_and_known;
 use adp_model::{Arg, Cell};
+use cell_tables::Marks;
 
 /// Marks the cell of the argument on a span, where the argument is a rule.
 fn mark_argument(argument: &Arg, from: u16, to: u16, marks: &mut Marks<'_>)
@@ -91,6 +91,32 @@ fn mark_second(argument: &Arg, begin: u16, boundary: Boundary<'_>, marks: &mut M
             });
         }
     }
+}
+
+/// Whether an argument may have the letters from `from` to `to`. Where it may, the cell that it demands there is marked,
+/// and else nothing is; it is marked in its row, so those that begin at `begin` are.
+#[inline(always)]
+fn mark_last(
+    lines: &Lines<'_>,
+    argument: &Arg,
+    begin: u16,
+    from: u16,
+    to: u16,
+    marks: &mut Marks<'_>,
+) -> bool
+    requires known { IsKnown lines.now.grammar argument.now }
+    requires span { IsSpan lines.now.word from to }
+    requires same_problem { marks.old.problem ≡ lines.now }
+    requires counted { (cell : Cell) → Demands lines.now (argument.now ∷ []) from to cell
+        → IsCounted lines.now.grammar (length lines.now.word) cell }
+    ensures laid { IsTrue result ↔ Cover lines.now (argument.now ∷ []) from to }
+    ensures marked { AreMarkedFrom begin marks.old marks.new (Demands lines.now (argument.now ∷ []) from to) }
+{
+    if !lines.fits(argument, from, to) {
+        return false;
+    }
+    mark_argument(argument, from, to, marks);
+    true
 }
 
 /// Whether the arguments of a line may have the letters from `from` to `to`. Where they may, the cells that they demand
@@ -164,11 +190,7 @@ fn mark_arguments(
         };
     }
     if others.is_empty() {
-        let fits = lines.fits(argument, from, to);
-        if fits {
-            mark_argument(argument, from, to, marks);
-        }
-        return fits;
+        return mark_last(lines, argument, begin, from, to, marks);
     }
     let mut is_laid = false;
     let ends = lines.places(arguments, from, to);
@@ -201,9 +223,13 @@ fn mark_others(
         → IsCounted lines.now.grammar (length lines.now.word) child }
     ensures { AreMarkedFrom cell.from marks.old marks.new (Demands lines.now alternative.now.others.now from cell.to) }
 {
+    let others = alternative.others;
+    if others.len() == 1 {
+        mark_last(lines, &others[0], cell.from, from, cell.to, marks);
+        return;
+    }
     let line = lines.line_behind(alternative, cell.rule, alt);
     let ahead = line.map_or(0, |line| line.first);
-    let others = alternative.others;
     mark_arguments(
         lines,
         line.as_ref(),

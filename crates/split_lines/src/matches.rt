@@ -6,15 +6,16 @@ ghost use Rattle.adp_model.specs.PosedProblem.{IsSpan};
 ghost use Rattle.adp_model.specs.WellFormed.{IsKnown};
 ghost use Rattle.yield_sizes.specs.Placing.{Cover};
 ghost use Rattle.split_lines.specs.Laid.{IsFixed};
-ghost use Rattle.split_lines.specs.Flags.{AreBits, AreFlagged};
-ghost use Rattle.split_lines.specs.Matching.{fixed_length, HaveLetters, AreCounts, AreFlagsOf, AreMatches};
+ghost use Rattle.split_lines.specs.Flags.{AreBits};
+ghost use Rattle.split_lines.specs.Limits.{AreLimited};
+ghost use Rattle.split_lines.specs.Matching.{fixed_length, HaveLetters, AreCounts, AreLimitsOf, AreMatches};
 
-use crate::bits::{WORD, set_each};
 use crate::classes::ClassTables;
-use crate::grid::set_places;
+use crate::packing::{NO_LIMIT, SHORT_MARK};
 use crate::parts::letters;
 use crate::spans::token_end;
 use adp_model::{Arg, Problem};
+use cell_tables::{WORD, set_each, set_places};
 use std::alloc::{AllocError, Global};
 
 /// The places of a word at which some tokens of fixed length (literals and letters) match one behind the other, in
@@ -25,9 +26,9 @@ pub struct Matches {
     pub letters: u16,
     pub places: Vec<u16>,
     pub before: Vec<u16>,
-    /// For each place of the word whether they match there.
-    pub flags: Vec<bool>,
-    /// The same as bits, 64 places in a number.
+    /// The limit of a sum of 16 bits at each place of the word: none where they match, else the mark.
+    pub limits: Vec<i16>,
+    /// Bits of the places where they match, 64 places in a number.
     pub here: Vec<u64>,
     /// Bits of the places behind their letters.
     pub behind: Vec<u64>,
@@ -76,14 +77,15 @@ pub fn covers(tables: &ClassTables<'_>, tokens: &[Arg], from: usize, to: usize) 
     }
 }
 
-/// For each of so many places whether it is one of these. Fails for want of memory alone.
-fn flags_of(alloc: Global, count: usize, places: &[u16]) -> Result<Vec<bool>, AllocError>
+/// The limit of a sum at each of so many places: none where it is one of these, else the mark. Fails for want of memory
+/// alone.
+fn limits_of(alloc: Global, count: usize, places: &[u16]) -> Result<Vec<i16>, AllocError>
     requires { (place : ℕ) → Contains places.now place → place < count }
-    ensures { IfOk result (λ flags. AreFlagsOf count places.now flags.items) }
+    ensures { IfOk result (λ limits. AreLimitsOf count places.now limits.items) }
 {
-    let mut flags = vec![in alloc; false; count]?;
-    set_places(&mut flags, places, 0, 0, true);
-    Ok(flags)
+    let mut limits = vec![in alloc; SHORT_MARK; count]?;
+    set_places(&mut limits, places, 0, 0, NO_LIMIT);
+    Ok(limits)
 }
 
 /// Bits for so many places, of which those of these places are set, each moved by `shift`. Fails for want of memory
@@ -99,7 +101,7 @@ fn bits_of(alloc: Global, count: usize, places: &[u16], shift: u16) -> Result<Ve
 }
 
 impl Matches {
-    /// Where the tokens match. Memory is three bytes and two bits for each place of the word, and two bytes more where
+    /// Where the tokens match. Memory is four bytes and two bits for each place of the word, and two bytes more where
     /// they match.
     pub fn new(
         alloc: Global,
@@ -124,14 +126,14 @@ impl Matches {
         }
         before.push(places.len() as u16)?;
         let letters = width as u16;
-        let flags = flags_of(alloc, len + 1, &places)?;
+        let limits = limits_of(alloc, len + 1, &places)?;
         let here = bits_of(alloc, len + 1, &places, 0)?;
         let behind = bits_of(alloc, len + 1, &places, letters)?;
         Ok(Matches {
             letters,
             places,
             before,
-            flags,
+            limits,
             here,
             behind,
         })
@@ -152,18 +154,18 @@ impl Matches {
         &self.places[start..end]
     }
 
-    /// For each place from the first of these to the last one whether it is one of these, where these are all of the
-    /// places that lie there. Takes constant time and no memory.
-    pub fn flags_among(&self, places: &[u16]) -> &[bool]
+    /// The limit of a sum at each place from the first of these to the last one: none where it is one of these, else
+    /// the mark, where these are all of the places that lie there. Takes constant time and no memory.
+    pub fn limits_among(&self, places: &[u16]) -> &[i16]
         requires some { (place : ℕ) → Contains places.now place → Contains self.now.places.items place }
         requires whole { (first place last : ℕ) → Contains places.now first → Contains places.now last
             → first ≤ place → place ≤ last → Contains self.now.places.items place → Contains places.now place }
         requires rising { AllAdjacentBelow (λ (a b : ℕ). a < b) places.now (length places.now) }
-        requires flags { AreFlagsOf (length self.now.flags.items) self.now.places.items self.now.flags.items }
-        ensures { AreFlagged places.now result.now }
+        requires limits { AreLimitsOf (length self.now.limits.items) self.now.places.items self.now.limits.items }
+        ensures { AreLimited places.now result.now }
     {
         match (places.first(), places.last()) {
-            (Some(first), Some(last)) => &self.flags[*first as usize..*last as usize + 1],
+            (Some(first), Some(last)) => &self.limits[*first as usize..*last as usize + 1],
             _ => &[],
         }
     }

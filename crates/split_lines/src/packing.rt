@@ -15,6 +15,9 @@ pub const NO_CANDIDATE: i64 = i64::MIN;
 /// What marks in 16 bits that there is no candidate.
 pub const SHORT_MARK: i16 = -0x4000;
 
+/// A limit of sums of 16 bits that no sum passes.
+pub const NO_LIMIT: i16 = i16::MAX;
+
 /// The greatest absolute value of a score in 16 bits.
 pub const SHORT_LIMIT: i16 = 0x1000;
 

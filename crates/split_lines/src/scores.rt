@@ -7,21 +7,20 @@ ghost use Rattle.adp_model.specs.declared.grammar.Arg.TheVariants.{Rule};
 ghost use Rattle.adp_model.specs.Answers.{IsAnswer};
 ghost use Rattle.adp_model.specs.Bellman.{HasBestScore};
 ghost use Rattle.adp_model.specs.Cells.{IsCounted};
-ghost use Rattle.split_lines.specs.Spans.{value_at};
-ghost use Rattle.split_lines.specs.Entries.{HasEntry, in_row};
-ghost use Rattle.split_lines.specs.ArgumentEntries.{AreProperNumbers, entries_of, spans_of};
+ghost use Rattle.cell_tables.specs.Spans.{value_at};
+ghost use Rattle.cell_tables.specs.Tables.{in_row, spans_of};
+ghost use Rattle.split_lines.specs.Entries.{HasEntry};
+ghost use Rattle.split_lines.specs.ArgumentEntries.{AreProperNumbers, entries_of};
 
 use crate::argument_values::{Entries, Numbers};
-use crate::grid::Grid;
-use crate::layout::Side;
 use crate::packing::{
     LONG_LIMIT, LONG_MARK, MEDIUM_LIMIT, MEDIUM_MARK, NO_CANDIDATE, SHORT_LIMIT, SHORT_MARK,
     long_entry, long_number, medium_entry, medium_number, score_of, short_entry, short_number,
 };
 use crate::parts::goal;
-use crate::table::Table;
 use adp_model::laws::bounds::words_keep_their_score_bound;
-use adp_model::{Arg, Cell, Goal, Problem};
+use adp_model::{Arg, Cell, Goal};
+use cell_tables::{Grid, Layout, Side, Table};
 use std::alloc::{AllocError, Global};
 use std::marker::Model;
 
@@ -47,7 +46,7 @@ pub struct Scores<'a> {
 
 impl<'a> Model for Scores<'a> {
     ghost use Rattle.std.specs.Prelude.{ℤ};
-    ghost use Rattle.split_lines.specs.Entries.{Table as EntryTable};
+    ghost use Rattle.cell_tables.specs.Tables.{Table as EntryTable};
 
     ghost Value = { EntryTable ℤ };
 
@@ -83,26 +82,27 @@ fn numbers_between<'s, V: Copy>(
 }
 
 impl<'a> Scores<'a> {
-    /// Scores that tell of no candidate anywhere. Fails for want of memory alone.
-    pub fn new(alloc: Global, problem: &'a Problem<'a>) -> Result<Scores<'a>, AllocError>
-        ensures { IfOk result (λ scores. scores.problem ≡ problem.now) }
+    /// Scores of the layout's problem that tell of no candidate anywhere. Fails for want of memory alone.
+    pub fn new(alloc: Global, layout: Layout<'a>) -> Result<Scores<'a>, AllocError>
+        ensures { IfOk result (λ scores. scores.problem ≡ layout.entry) }
     {
+        let problem = layout.problem();
         problem.admissible();
         words_keep_their_score_bound();
         let packed = if problem.score_bound <= SHORT_LIMIT as u64 {
-            let table = Table::new(alloc, problem, SHORT_MARK)?;
+            let table = Table::new(alloc, layout, SHORT_MARK)?;
             table.cells();
             Packed::Short(table)
         } else if problem.score_bound <= MEDIUM_LIMIT as u64 {
-            let table = Table::new(alloc, problem, MEDIUM_MARK)?;
+            let table = Table::new(alloc, layout, MEDIUM_MARK)?;
             table.cells();
             Packed::Medium(table)
         } else if problem.score_bound <= LONG_LIMIT as u64 {
-            let table = Table::new(alloc, problem, LONG_MARK)?;
+            let table = Table::new(alloc, layout, LONG_MARK)?;
             table.cells();
             Packed::Long(table)
         } else {
-            Packed::Whole(Table::new(alloc, problem, NO_CANDIDATE)?)
+            Packed::Whole(Table::new(alloc, layout, NO_CANDIDATE)?)
         };
         Ok(Scores {
             goal: goal(problem),
@@ -111,6 +111,7 @@ impl<'a> Scores<'a> {
     }
 
     /// The entry of a counted cell. Takes constant time and no memory.
+    #[inline(always)]
     pub(crate) fn entry(&self, cell: Cell) -> Option<i64>
         ensures { result ≡ in_row self.now cell }
     {

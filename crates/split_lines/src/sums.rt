@@ -1,12 +1,12 @@
 //! The greatest sum of numbers before and behind the places of a boundary.
 
-ghost use Rattle.std.specs.Prelude.{◌≡◌, ℕ, pos, ◌+◌, ◌<◌, ◌≤◌, ◌⊎◌, ◌+ℤ◌, ◌*ℤ◌, IsTrue, nat_abs, length, map, if◌then◌else◌};
+ghost use Rattle.std.specs.Prelude.{◌≡◌, ℕ, pos, ◌+◌, ◌<◌, ◌≤◌, ◌⊎◌, ◌+ℤ◌, ◌*ℤ◌, IsTrue, nat_abs, length, map};
 ghost use Rattle.std.specs.List.{AllAdjacentBelow};
 ghost use Rattle.adp_model.specs.ProblemFields.{greatest_score};
 ghost use Rattle.split_lines.specs.Entries.{no_candidate};
 ghost use Rattle.split_lines.specs.Packing.{AreProper, long, medium, short};
-ghost use Rattle.split_lines.specs.Flags.{AreFlagged};
-ghost use Rattle.split_lines.specs.Sums.{AreLowSums, HasFlaggedSum, HasScaledSumAt, HasSum, HasSumAt, HaveNumbers};
+ghost use Rattle.split_lines.specs.Limits.{AreLimited, AreLimits};
+ghost use Rattle.split_lines.specs.Sums.{AreLowSums, HasScaledSumAt, HasSum, HasSumAt, HasUnlimitedSum, HaveNumbers};
 ghost use Rattle.split_lines.specs.Totals.{IsGreatestOf};
 
 use crate::packing::{
@@ -114,24 +114,18 @@ fn greatest_scattered_short(first: &[i16], second: &[i16], places: Places<'_>) -
     }
 }
 
-/// The number, or the mark of 16 bits where the flag is not set.
-fn marked_unless(flag: bool, number: i16) -> i16
-    ensures { result ≡ (if flag then number else short.mark) }
-{
-    if flag { number } else { SHORT_MARK }
-}
-
-/// The greatest sum of numbers of 16 bits side by side that are flagged.
-fn greatest_flagged_short(first: &[i16], second: &[i16], flags: &[bool]) -> Option<i64>
+/// The greatest sum of numbers of 16 bits side by side, where there is no limit.
+fn greatest_limited_short(first: &[i16], second: &[i16], limits: &[i16]) -> Option<i64>
     requires first { AreProper short first.now }
     requires second { AreProper short second.now }
-    requires as_many { length first.now ≡ length flags.now }
-    requires as_many_behind { length second.now ≡ length flags.now }
-    ensures { IsGreatestOf (HasFlaggedSum short flags.now first.now second.now) result }
+    requires limits { AreLimits limits.now }
+    requires as_many { length first.now ≡ length limits.now }
+    requires as_many_behind { length second.now ≡ length limits.now }
+    ensures { IsGreatestOf (HasUnlimitedSum limits.now first.now second.now) result }
 {
     let mut greatest = SHORT_MARK;
-    for (k, flag) in flags.iter().enumerate() {
-        greatest = greatest.max(marked_unless(*flag, first[k] + second[k]));
+    for (k, limit) in limits.iter().enumerate() {
+        greatest = greatest.max((first[k] + second[k]).min(*limit));
     }
     if greatest < -2 * SHORT_LIMIT {
         None
@@ -140,33 +134,34 @@ fn greatest_flagged_short(first: &[i16], second: &[i16], flags: &[bool]) -> Opti
     }
 }
 
-/// The greatest sum of numbers of 16 bits before and behind the places, each times its factor. The places are flagged
+/// The greatest sum of numbers of 16 bits before and behind the places, each times its factor. Limits tell the places
 /// too, from the first of them to the last one.
+#[inline(always)]
 pub fn greatest_short(
     first: &[i16],
     second: &[i16],
     places: Places<'_>,
-    flags: &[bool],
+    limits: &[i16],
     scales: Scales,
 ) -> Option<i64>
     requires first { AreProper short first.now }
     requires second { AreProper short second.now }
     requires have { HaveNumbers places first.now second.now }
     requires rising { AllAdjacentBelow (λ (a b : ℕ). a < b) places.at.now (length places.at.now) }
-    requires flags { AreFlagged places.at.now flags.now }
+    requires limits { AreLimited places.at.now limits.now }
     requires low { AreLowSums short.mark scales places first.now second.now }
     ensures { IsGreatestOf (HasScaledSumAt short.mark scales places.entry first.now second.now) result }
 {
     if !scales.are_plain() {
         return greatest_scaled(first, second, i64::from(SHORT_MARK), places, scales);
     }
-    let (count, span) = (places.at.len(), flags.len());
+    let (count, span) = (places.at.len(), limits.len());
     if first.len() != span || second.len() != span || span / SPARSE >= count {
         greatest_scattered_short(first, second, places)
     } else if count == span {
         greatest_aligned_short(first, second)
     } else {
-        greatest_flagged_short(first, second, flags)
+        greatest_limited_short(first, second, limits)
     }
 }
 

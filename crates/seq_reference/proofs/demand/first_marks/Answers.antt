@@ -3,7 +3,7 @@ use Rattle.std.proofs.lemmas.Bool.{false≢true}
 use Rattle.adp_model.specs.declared.cell.Cell.{Cell}
 use Rattle.adp_model.specs.PosedProblem.{PosedProblem, axiom_cell}
 use Rattle.adp_model.specs.Demand.{IsDemanded}
-use Rattle.split_lines.specs.Marks.{IsMarked, AreMarkedToo}
+use Rattle.cell_tables.specs.Marks.{IsMarked, AreMarkedToo}
 use Rattle.seq_reference.proofs.Sweeps.{Counted, swept_nothing, swept_root}
 use Rattle.seq_reference.proofs.demand.first_marks.Goals as goal
 use Rattle.seq_reference.proofs.demand.first_marks.Goals.{After-bytes}
@@ -17,7 +17,7 @@ root_is c =
     λ i. record { rule = rule_is i; from = 0; to = to_is i }
 
 same_problem : (c : After-bytes) → c.in_ok-marks.marks.problem ≡ c.args.lines.now
-same_problem c = c.in_ok-marks.ensures.problem ∙ c.problem-problem.ensures
+same_problem c = c.in_ok-marks.ensures.problem ∙ c.requires
 
 unmarked : (c : After-bytes) → (cell : Cell) → IsMarked c.in_ok-marks.marks cell → ⊥
 unmarked c = c.in_ok-marks.ensures.none

@@ -2,7 +2,7 @@ use Rattle.std.proofs.Common.{ℕ, ◌≤◌, length, refl, subst, arith, rules}
 use Rattle.adp_model.specs.declared.cell.Cell.{Cell}
 use Rattle.adp_model.specs.PosedProblem.{PosedProblem}
 use Rattle.adp_model.specs.Demand.{IsDemanded}
-use Rattle.split_lines.specs.Marks.{IsEndMarked}
+use Rattle.cell_tables.specs.Marks.{IsEndMarked}
 use Rattle.seq_reference.specs.Filling.{IsFilledBefore, IsFromStart}
 use Rattle.seq_reference.proofs.Sweeps.{Counted}
 use Rattle.seq_reference.proofs.Fills.{filled_fewer, first_filled, filled_up_to, filled_block}

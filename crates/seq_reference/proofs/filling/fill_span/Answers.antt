@@ -6,7 +6,7 @@ use Rattle.adp_model.specs.PosedProblem.{PosedProblem}
 use Rattle.adp_model.specs.Answers.{IsAnswer}
 use Rattle.adp_model.specs.Bellman.{HasBestScore}
 use Rattle.adp_model.specs.Demand.{IsDemandedChild, IsBelow, IsDemanded, Child}
-use Rattle.split_lines.specs.Entries.{Table}
+use Rattle.cell_tables.specs.Tables.{Table}
 use Rattle.seq_reference.specs.Filling.{AreFilled, AreKept, IsFilledBeforeRule, IsShorterWithin, IsWithin}
 use Rattle.seq_reference.proofs.Sweeps.{Counted, visited}
 use Rattle.seq_reference.proofs.Fills.{filled_fewer, filled_past, filled_kept, fill_cases, child_before, none_filled, all_filled}

@@ -2,7 +2,7 @@ use Rattle.std.proofs.Common.{◌↔◌, sym, subst}
 use Rattle.adp_model.specs.declared.cell.Cell.{Cell}
 use Rattle.adp_model.specs.PosedProblem.{PosedProblem}
 use Rattle.adp_model.specs.Demand.{IsDemanded}
-use Rattle.split_lines.specs.Marks.{IsMarkedInRow}
+use Rattle.cell_tables.specs.Marks.{IsMarkedInRow}
 use Rattle.seq_reference.proofs.solving.solve.Goals as goal
 
 pub count-cells-requires : goal.count-cells-requires

@@ -1,6 +1,6 @@
-use Rattle.std.proofs.Common.{◌≡◌, ◌<◌, ◌≤◌, ◌⊎◌, ℕ, ℤ, pos, ◌+ℤ◌, ◌*ℤ◌, Option, Some, None, List, [], ◌∷◌, length, drop, refl, ap, FitsSigned, w64, nat_abs, sym, subst, arith, rules}
+use Rattle.std.proofs.Common.{◌≡◌, ◌<◌, ◌≤◌, ◌⊎◌, ℕ, ℤ, ◌+ℤ◌, ◌*ℤ◌, Option, Some, None, List, [], ◌∷◌, length, drop, ap, FitsSigned, w64, nat_abs, sym, subst, arith, rules}
 use Rattle.std.specs.Option.{option_copied}
-use Rattle.std.specs.Prelude.{IfSome, MatchOption, ◌==◌, if◌then◌else◌}
+use Rattle.std.specs.Prelude.{IfSome, ◌==◌, if◌then◌else◌}
 use Rattle.std.proofs.lemmas.Int.{to_z-of_z, fits_signed_from_abs}
 use Rattle.adp_model.specs.declared.grammar.Arg.{Arg}
 use Rattle.split_lines.specs.declared.lines.Line.{Line}
@@ -15,10 +15,10 @@ use Rattle.split_lines.specs.Totals.{HasTotal, IsGreatestOf}
 use Rattle.split_lines.proofs.LineDemands.{line_now, line_later}
 use Rattle.split_lines.proofs.Bounding.{best_within}
 use Rattle.split_lines.proofs.Scoring.{one_score}
-use Rattle.split_lines.proofs.FirstEnds.{AreLaid, AreSound, first_low, rest_laid, parts_low, found_more, unvalued_more, untotalled_more, none_first, all_found, first_known_entry}
-use Rattle.split_lines.proofs.OneEnds.{IsEndTold, none_ends, one_ends, total_nowhere, none_from, greatest_from, unvalued_from, fixed_value, total_of_none, empty_without, nothing_more}
+use Rattle.split_lines.proofs.FirstEnds.{AreLaid, AreSound, first_low, rest_laid, parts_low, found_more, unvalued_more, untotalled_more, none_first, all_found}
+use Rattle.split_lines.proofs.OneEnds.{IsEndTold, none_ends, one_ends, total_nowhere, none_from, greatest_from, fixed_value, empty_without}
 use Rattle.split_lines.proofs.filling.+greatest_total.Goals as goal
-use Rattle.split_lines.proofs.filling.+greatest_total.Goals.{After-answer_is_unique, After-places-places, After-token_value, After-argument_value, In_ok-end}
+use Rattle.split_lines.proofs.filling.+greatest_total.Goals.{After-answer_is_unique, After-places-places, After-token_value, In_ok-end}
 
 -- the arguments, from the first one on
 laid : (t : ℕ) (c : After-answer_is_unique t) → AreLaid c.args.known.now.lines.now c.args.known.now.scores.now (c.in-Some-Some.argument.now ∷ c.in-Some-Some.others.now) (c.in-Some-Some.factor.now ∷ c.in-Some-Some.factors.now) c.args.from c.args.to
@@ -51,13 +51,13 @@ loop-end-init t c =
     let at = (goal.at.loop-end-init t c).After-places-places in
     none_first c.args.known.now.lines.now c.in-Some-Some.argument.now c.in-Some-Some.others.now c.in-Some-Some.factor.now c.in-Some-Some.factors.now c.args.from c.args.to c.places-places.result (places t at)
 
-pub argument_value-requires-in-loop-end-clause-fits : goal.argument_value-requires-in-loop-end-clause-fits
-argument_value-requires-in-loop-end-clause-fits t c = fits t (goal.at.argument_value-requires-in-loop-end-clause-fits t c).After-places-places c.loop-end.end c.loop-end.auto.end c.loop-end-test.true
+pub argument_value-requires-clause-fits : goal.argument_value-requires-clause-fits
+argument_value-requires-clause-fits t c = fits t (goal.at.argument_value-requires-clause-fits t c).After-places-places c.loop-end.end c.loop-end.auto.end c.loop-end-test.true
 
-pub argument_value-requires-in-loop-end-clause-low : goal.argument_value-requires-in-loop-end-clause-low
-argument_value-requires-in-loop-end-clause-low t c =
-    let at = (goal.at.argument_value-requires-in-loop-end-clause-low t c).After-places-places in
-    let begun = (goal.at.argument_value-requires-in-loop-end-clause-low t c).After-answer_is_unique in
+pub argument_value-requires-clause-low : goal.argument_value-requires-clause-low
+argument_value-requires-clause-low t c =
+    let at = (goal.at.argument_value-requires-clause-low t c).After-places-places in
+    let begun = (goal.at.argument_value-requires-clause-low t c).After-answer_is_unique in
     first_low c.args.known.now.lines.now c.args.known.now.scores.now c.in-Some-Some.argument.now c.in-Some-Some.others.now c.in-Some-Some.factor.now c.in-Some-Some.factors.now c.args.from c.args.to (laid t begun) c.loop-end.end
     (fits t at c.loop-end.end c.loop-end.auto.end c.loop-end-test.true)
 
@@ -295,77 +295,44 @@ returns-then-is_fixed t c =
 -- ---- the last argument
 
 -- nothing stands behind it
-none_behind : (t : ℕ) (c : After-argument_value t) → c.in-Some-Some.others.now ≡ []
-none_behind t c = empty_without c.in-Some-Some.others.now (search rules)
+none_behind : (t : ℕ) (c : After-answer_is_unique t) → length c.in-Some-Some.others.now ≡ 0 → (c.in-Some-Some.others.now ≡ []) × (c.in-Some-Some.factors.now ≡ [])
+none_behind t c none =
+    let none' = empty_without c.in-Some-Some.others.now none in
+    let each : length c.in-Some-Some.factors.now ≡ 0 = omega (arith, c.requires.weighted.factors_each, ap length c.in-Some-Some.ensures.cases.0, ap length c.in-Some-Some.ensures'.cases.0, ap length none') in
+    (none', empty_without c.in-Some-Some.factors.now each)
 
-fits_whole : (t : ℕ) (c : After-argument_value t) → FitsSpan c.args.known.now.lines.now (on_span c.in-Some-Some.argument.now c.args.from c.args.to)
-fits_whole t c = c.fits.ensures.0 (search rules)
-
-covers_whole : (t : ℕ) (c : After-argument_value t) → Cover c.args.known.now.lines.now c.in-Some-Some.others.now c.args.to c.args.to
-covers_whole t c = let C : List Arg → Type 0 = λ others. Cover c.args.known.now.lines.now others c.args.to c.args.to in subst C (sym (none_behind t c)) refl
-
-only_whole : (t : ℕ) (c : After-argument_value t) (other : ℕ) → FitsSpan c.args.known.now.lines.now (on_span c.in-Some-Some.argument.now c.args.from other) → Cover c.args.known.now.lines.now c.in-Some-Some.others.now other c.args.to → other ≡ c.args.to
-only_whole t c other fits cover = let C : List Arg → Type 0 = λ others. Cover c.args.known.now.lines.now others other c.args.to in subst C (none_behind t c) cover
-
--- the total of no arguments
-total_whole : (t : ℕ) (c : After-argument_value t) → IsGreatestOf (HasTotal c.args.known.now.lines.now (HasBestScore c.args.known.now.lines.now) c.in-Some-Some.others.now c.in-Some-Some.factors.now c.args.to c.args.to) (Some (pos 0))
-total_whole t c =
+laid_alone : (t : ℕ) (c : After-answer_is_unique t) → length c.in-Some-Some.others.now ≡ 0 → AreLaid c.args.known.now.lines.now c.args.known.now.scores.now (c.in-Some-Some.argument.now ∷ []) (c.in-Some-Some.factor.now ∷ []) c.args.from c.args.to
+laid_alone t c none =
+    let it = none_behind t c none in
     let p = c.args.known.now.lines.now in
-    let G : List Arg → Type 0 = λ others. IsGreatestOf (HasTotal p (HasBestScore p) others c.in-Some-Some.factors.now c.args.to c.args.to) (Some (pos 0)) in
-    let each : length c.in-Some-Some.factors.now ≡ 0 = omega (arith, c.requires.weighted.factors_each, ap length c.in-Some-Some.ensures.cases.0, ap length c.in-Some-Some.ensures'.cases.0, ap length (none_behind t c)) in
-    subst G (sym (none_behind t c)) (total_of_none p (HasBestScore p) c.in-Some-Some.factors.now c.args.to each)
+    let table = c.args.known.now.scores.now in
+    subst (λ others. AreLaid p table (c.in-Some-Some.argument.now ∷ others) (c.in-Some-Some.factor.now ∷ []) c.args.from c.args.to) it.0
+    (subst (λ factors. AreLaid p table (c.in-Some-Some.argument.now ∷ c.in-Some-Some.others.now) (c.in-Some-Some.factor.now ∷ factors) c.args.from c.args.to) it.1 (laid t c))
 
-pub returns-in_err-argument_value : goal.returns-in_err-argument_value
-returns-in_err-argument_value t c =
-    let begun = (goal.at.returns-in_err-argument_value t c).After-answer_is_unique in
-    let valued = (goal.at.returns-in_err-argument_value t c).After-argument_value in
-    let p = c.args.known.now.lines.now in
-    let argument = c.in-Some-Some.argument.now in
-    let others = c.in-Some-Some.others.now in
-    let fits' = fits_whole t valued in
-    let entry = first_known_entry p c.args.known.now.scores.now argument others c.in-Some-Some.factor.now c.in-Some-Some.factors.now c.args.from c.args.to (laid t begun) c.args.to fits' (covers_whole t valued) in
-    let M : Option ℤ → Type 0 = λ result. MatchOption result ((value : ℤ) → IsValue p (HasBestScore p) (on_span argument c.args.from c.args.to) value → ⊥) (IsValue p (HasBestScore p) (on_span argument c.args.from c.args.to)) in
-    let none : (value : ℤ) → IsValue p (HasBestScore p) (on_span argument c.args.from c.args.to) value → ⊥ = subst M c.in_err-argument_value.was (c.argument_value.ensures entry) in
-    of_all t begun c.from_residual-in_err-argument_value.result (subst (λ (result : Option ℤ). IsGreatestOf (HasTotal p (HasBestScore p) (argument ∷ others) (c.in-Some-Some.factor.now ∷ c.in-Some-Some.factors.now) c.args.from c.args.to) result) (sym c.from_residual-in_err-argument_value.ensures)
-    (unvalued_from p argument others c.args.from c.args.to c.args.to fits' (only_whole t valued) (HasBestScore p) c.in-Some-Some.factor.now c.in-Some-Some.factors.now none))
+pub last_total-requires-clause-weighted : goal.last_total-requires-clause-weighted
+last_total-requires-clause-weighted t c =
+    let it = laid_alone t (goal.at.last_total-requires-clause-weighted t c).After-answer_is_unique (search rules) in
+    let fits_factor : FitsSigned w64 c.in-Some-Some.factor.now = search rules in
+    simp to_z-of_z it.weighted
 
-pub overflow_mul-result-then-is_empty : goal.overflow_mul-result-then-is_empty
-overflow_mul-result-then-is_empty t c =
-    let begun = (goal.at.overflow_mul-result-then-is_empty t c).After-answer_is_unique in
-    let valued = (goal.at.overflow_mul-result-then-is_empty t c).After-argument_value in
-    let p = c.args.known.now.lines.now in
-    let argument = c.in-Some-Some.argument.now in
-    let others = c.in-Some-Some.others.now in
-    let factor = c.in-Some-Some.factor.now in
-    let factors = c.in-Some-Some.factors.now in
-    let value = c.in_ok-argument_value.field-0 in
-    let fits' = fits_whole t valued in
-    let M : Option ℤ → Type 0 = λ result. MatchOption result ((value : ℤ) → IsValue p (HasBestScore p) (on_span argument c.args.from c.args.to) value → ⊥) (IsValue p (HasBestScore p) (on_span argument c.args.from c.args.to)) in
-    let entry = first_known_entry p c.args.known.now.scores.now argument others factor factors c.args.from c.args.to (laid t begun) c.args.to fits' (covers_whole t valued) in
-    let is_value : IsValue p (HasBestScore p) (on_span argument c.args.from c.args.to) value = subst M c.in_ok-argument_value.was (c.argument_value.ensures entry) in
-    let it = parts_low p c.args.known.now.scores.now argument others factor factors c.args.from c.args.to (laid t begun) c.args.to fits' (sound t begun) value (λ _. is_value) (pos 0) (total_whole t valued).0 in
-    let fits_factor : FitsSigned w64 factor = search rules in
-    let fits_value : FitsSigned w64 value = search rules in
-    simp to_z-of_z (fits_below (factor *ℤ value) it.0)
+pub last_total-requires-clause-scored : goal.last_total-requires-clause-scored
+last_total-requires-clause-scored t c = (laid_alone t (goal.at.last_total-requires-clause-scored t c).After-answer_is_unique (search rules)).scored
+
+pub last_total-requires-clause-low : goal.last_total-requires-clause-low
+last_total-requires-clause-low t c =
+    let it = laid_alone t (goal.at.last_total-requires-clause-low t c).After-answer_is_unique (search rules) in
+    let fits_factor : FitsSigned w64 c.in-Some-Some.factor.now = search rules in
+    simp to_z-of_z it.low
 
 pub returns-then-is_empty : goal.returns-then-is_empty
 returns-then-is_empty t c =
     let begun = (goal.at.returns-then-is_empty t c).After-answer_is_unique in
-    let valued = (goal.at.returns-then-is_empty t c).After-argument_value in
+    let it = none_behind t begun (search rules) in
     let p = c.args.known.now.lines.now in
     let argument = c.in-Some-Some.argument.now in
-    let others = c.in-Some-Some.others.now in
     let factor = c.in-Some-Some.factor.now in
-    let factors = c.in-Some-Some.factors.now in
-    let value = c.in_ok-argument_value.field-0 in
-    let fits' = fits_whole t valued in
-    let M : Option ℤ → Type 0 = λ result. MatchOption result ((value : ℤ) → IsValue p (HasBestScore p) (on_span argument c.args.from c.args.to) value → ⊥) (IsValue p (HasBestScore p) (on_span argument c.args.from c.args.to)) in
-    let entry = first_known_entry p c.args.known.now.scores.now argument others factor factors c.args.from c.args.to (laid t begun) c.args.to fits' (covers_whole t valued) in
-    let is_value : IsValue p (HasBestScore p) (on_span argument c.args.from c.args.to) value = subst M c.in_ok-argument_value.was (c.argument_value.ensures entry) in
-    let it = parts_low p c.args.known.now.scores.now argument others factor factors c.args.from c.args.to (laid t begun) c.args.to fits' (sound t begun) value (λ _. is_value) (pos 0) (total_whole t valued).0 in
     let fits_factor : FitsSigned w64 factor = search rules in
-    let fits_value : FitsSigned w64 value = search rules in
-    let fits_product : FitsSigned w64 (factor *ℤ value) = fits_below (factor *ℤ value) it.0 in
-    let found = greatest_from p argument others c.args.from c.args.to c.args.to fits' (only_whole t valued) (HasBestScore p) factor factors (sound t begun).one value (pos 0) is_value (total_whole t valued) in
-    let G : ℤ → Type 0 = λ total. IsGreatestOf (HasTotal p (HasBestScore p) (argument ∷ others) (factor ∷ factors) c.args.from c.args.to) (Some total) in
-    simp to_z-of_z (of_all t begun (Some (factor *ℤ value)) (subst G (nothing_more (factor *ℤ value)) found))
+    let found : IsGreatestOf (HasTotal p (HasBestScore p) (argument ∷ []) (factor ∷ []) c.args.from c.args.to) c.last_total.result = simp to_z-of_z at c.last_total.ensures in
+    of_all t begun c.last_total.result
+    (subst (λ others. IsGreatestOf (HasTotal p (HasBestScore p) (argument ∷ others) (factor ∷ c.in-Some-Some.factors.now) c.args.from c.args.to) c.last_total.result) (sym it.0)
+    (subst (λ factors. IsGreatestOf (HasTotal p (HasBestScore p) (argument ∷ []) (factor ∷ factors) c.args.from c.args.to) c.last_total.result) (sym it.1) found))

@@ -1,4 +1,4 @@
-use Rattle.std.proofs.Common.{◌≡◌, ◌↔◌, ℕ, ◌+◌, ◌-◌, ◌<◌, Bool, false, IsTrue, Option, Some, List, [], ◌∷◌, length, take, drop, refl, sym, ap, subst, inl, inr, ◌∙◌, arith, rules}
+use Rattle.std.proofs.Common.{◌≡◌, ◌↔◌, ℕ, ◌+◌, ◌-◌, ◌<◌, Bool, false, IsTrue, Option, Some, List, [], ◌∷◌, length, get_or, take, drop, refl, sym, ap, subst, inl, inr, ◌∙◌, arith, rules}
 use Rattle.std.specs.Option.{option_copied}
 use Rattle.std.specs.Prelude.{IfSome}
 use Rattle.std.specs.List.{AllByRecursion}
@@ -7,16 +7,15 @@ use Rattle.adp_model.specs.declared.grammar.Arg.{Arg}
 use Rattle.adp_model.specs.declared.cell.Cell.{Cell}
 use Rattle.adp_model.specs.PosedProblem.{PosedProblem}
 use Rattle.adp_model.specs.Cells.{IsCounted}
-use Rattle.adp_model.specs.Splits.{FitsSpan}
 use Rattle.adp_model.specs.WellFormed.{IsKnown}
-use Rattle.yield_sizes.specs.Placing.{on_span, Cover}
+use Rattle.yield_sizes.specs.Placing.{Cover}
 use Rattle.split_lines.specs.Laid.{Demands, IsCellOf}
 use Rattle.split_lines.specs.Lines.{IsLine}
-use Rattle.split_lines.specs.Marks.{CellMarks, AreMarkedFrom}
+use Rattle.cell_tables.specs.Marks.{CellMarks, AreMarkedFrom}
 use Rattle.split_lines.proofs.MarkSteps.{marked_in_rows}
 use Rattle.split_lines.proofs.Lists.{split_at_first}
 use Rattle.split_lines.proofs.LineDemands.{CoversBelow, DemandsBelow, line_now, line_later, marked_none, marked_some, covers_none, all_covered, all_marked}
-use Rattle.split_lines.proofs.OneEnds.{IsEndTold, none_ends, one_ends, cover_nowhere, cover_from, marked_nowhere, marked_behind, empty_without, last_misses, last_marked}
+use Rattle.split_lines.proofs.OneEnds.{IsEndTold, none_ends, one_ends, cover_nowhere, cover_from, marked_nowhere, marked_behind, empty_without}
 use Rattle.split_lines.proofs.marking.+mark_arguments.Goals as goal
 use Rattle.split_lines.proofs.marking.+mark_arguments.Goals.{then-mark_arguments, else-mark_arguments}
 
@@ -65,8 +64,8 @@ mark_arguments-requires-in-loop-end t c =
       ),
     )
 
-pub mark_argument-requires-then-mark_arguments : goal.mark_argument-requires-then-mark_arguments
-mark_argument-requires-then-mark_arguments t c =
+pub mark_argument-requires : goal.mark_argument-requires
+mark_argument-requires t c =
     λ cell is.
     let p = c.args.lines.now in
     let all = c.args.arguments.now in
@@ -104,7 +103,7 @@ loop-end-preserved t c =
           let cover : Cover p others end to = w.if-mark_arguments.ensures.laid.0 refl in
           record {
             laid = subst S (sym w.is_laid-is) (λ _. (end, above, omega arith, fits, cover), λ _. refl);
-            marked = subst M (sym w.marks-is) (marked_some p argument others from to low end fits above c.args.begin c.args.marks.now c.loop-end.marks c.mark_arguments-in-loop-end.new.marks was.marked c.mark_arguments-in-loop-end.ensures.marked w.mark_argument-then-mark_arguments.new.marks cover (marked_in_rows c.args.begin c.mark_arguments-in-loop-end.new.marks w.mark_argument-then-mark_arguments.new.marks (IsCellOf argument from end) w.mark_argument-then-mark_arguments.ensures.marked w.mark_argument-then-mark_arguments.ensures.in_row));
+            marked = subst M (sym w.marks-is) (marked_some p argument others from to low end fits above c.args.begin c.args.marks.now c.loop-end.marks c.mark_arguments-in-loop-end.new.marks was.marked c.mark_arguments-in-loop-end.ensures.marked w.mark_argument.new.marks cover (marked_in_rows c.args.begin c.mark_arguments-in-loop-end.new.marks w.mark_argument.new.marks (IsCellOf argument from end) w.mark_argument.ensures.marked w.mark_argument.ensures.in_row));
           }
       | else-mark_arguments w ↦
           let none : Cover p others end to → ⊥ = λ cover. let yes = w.if-mark_arguments.ensures.laid.1 cover in absurd cc in
@@ -251,34 +250,24 @@ returns-in-None-clause-marked t c =
 
 -- ---- the last argument
 
-pub returns-then-fits-clause-marked : goal.returns-then-fits-clause-marked
-returns-then-fits-clause-marked t c =
-    let p = c.args.lines.now in
-    let all = c.args.arguments.now in
-    let from = c.args.from in
-    let to = c.args.to in
-    let argument = c.index-arguments-0.result in
+-- nothing stands behind it
+alone : (all : List Arg) (argument : Arg) → 0 < length all → argument ≡ get_or all 0 argument → length (take (length all - 1) (drop 1 all)) ≡ 0 → all ≡ argument ∷ []
+alone all argument some is none =
     let others : List Arg = take (length all - 1) (drop 1 all) in
-    let some : 0 < length all = search rules in
-    let split : all ≡ argument ∷ others = split_at_first all argument some c.index-arguments-0.is in
-    let last : others ≡ [] = empty_without others (search rules) in
-    let one : all ≡ argument ∷ [] = split ∙ ap (λ xs. argument ∷ xs) last in
-    let fits = c.fits-fits.ensures.0 c.if-fits.true in
-    let T : List Arg → Type 0 = λ xs. AreMarkedFrom c.args.begin c.args.marks.now c.mark_argument.new.marks (Demands p xs from to) in
-    subst T (sym one) (last_marked p argument from to fits c.args.begin c.args.marks.now c.mark_argument.new.marks (marked_in_rows c.args.begin c.args.marks.now c.mark_argument.new.marks (IsCellOf argument from to) c.mark_argument.ensures.marked c.mark_argument.ensures.in_row))
+    split_at_first all argument some is ∙ ap (λ xs. argument ∷ xs) (empty_without others none)
 
-pub returns-else-fits-clause-marked : goal.returns-else-fits-clause-marked
-returns-else-fits-clause-marked t c =
+pub mark_last-requires-clause-counted : goal.mark_last-requires-clause-counted
+mark_last-requires-clause-counted t c =
     let p = c.args.lines.now in
-    let all = c.args.arguments.now in
-    let from = c.args.from in
-    let to = c.args.to in
-    let argument = c.index-arguments-0.result in
-    let others : List Arg = take (length all - 1) (drop 1 all) in
-    let some : 0 < length all = search rules in
-    let split : all ≡ argument ∷ others = split_at_first all argument some c.index-arguments-0.is in
-    let last : others ≡ [] = empty_without others (search rules) in
-    let one : all ≡ argument ∷ [] = split ∙ ap (λ xs. argument ∷ xs) last in
-    let misses : FitsSpan p (on_span argument from to) → ⊥ = λ fits. false≢true (sym c.if-fits.false ∙ c.fits-fits.ensures.1 fits) in
-    let T : List Arg → Type 0 = λ xs. AreMarkedFrom c.args.begin c.args.marks.now c.args.marks.now (Demands p xs from to) in
-    subst T (sym one) (marked_nowhere p argument [] from to (last_misses p argument from to misses) c.args.begin c.args.marks.now)
+    let one = alone c.args.arguments.now c.index-arguments-0.result (search rules) c.index-arguments-0.is (search rules) in
+    let D : List Arg → Type 0 = λ xs. (cell : Cell) → Demands p xs c.args.from c.args.to cell → IsCounted p.grammar (length p.word) cell in
+    subst D one c.requires.counted
+
+pub returns-then-is_empty-2 : goal.returns-then-is_empty-2
+returns-then-is_empty-2 t c =
+    let p = c.args.lines.now in
+    let one = alone c.args.arguments.now c.index-arguments-0.result (search rules) c.index-arguments-0.is (search rules) in
+    record {
+      laid = subst (λ xs. IsTrue c.mark_last.result ↔ Cover p xs c.args.from c.args.to) (sym one) c.mark_last.ensures.laid;
+      marked = subst (λ xs. AreMarkedFrom c.args.begin c.args.marks.now c.mark_last.new.marks (Demands p xs c.args.from c.args.to)) (sym one) c.mark_last.ensures.marked;
+    }

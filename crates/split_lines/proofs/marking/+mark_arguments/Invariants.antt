@@ -1,5 +1,5 @@
 use Rattle.std.proofs.Common.{◌↔◌, IsTrue, length}
-use Rattle.split_lines.specs.Marks.{AreMarkedFrom}
+use Rattle.cell_tables.specs.Marks.{AreMarkedFrom}
 use Rattle.split_lines.proofs.LineDemands.{CoversBelow, DemandsBelow}
 use Rattle.split_lines.proofs.marking.+mark_arguments.Given as goal
 

@@ -2,7 +2,7 @@ use Rattle.std.proofs.Common.{ℕ, Option, Some, None, List, sym, subst}
 use Rattle.std.proofs.lemmas.Bool.{eqb-true}
 use Rattle.adp_model.specs.declared.grammar.Arg.{Arg}
 use Rattle.split_lines.specs.Laid.{Demands}
-use Rattle.split_lines.specs.Marks.{AreMarkedFrom}
+use Rattle.cell_tables.specs.Marks.{AreMarkedFrom}
 use Rattle.split_lines.proofs.Fronts.{IsFrontTold, demanded_behind, marked_behind_front, marked_alone, marked_without}
 use Rattle.split_lines.proofs.Dividing.{cover_forward}
 use Rattle.split_lines.proofs.OneEnds.{empty_without}

@@ -2,7 +2,7 @@ use Rattle.std.proofs.Common.{◌≡◌, ℕ, ◌≤◌, length, subst, arith}
 use Rattle.adp_model.specs.PosedProblem.{PosedProblem}
 use Rattle.adp_model.specs.ProblemFields.{IsAdmissible}
 use Rattle.adp_model.specs.Parts.{alternatives_of, arguments_of}
-use Rattle.split_lines.specs.Marks.{AreMarkedFrom}
+use Rattle.cell_tables.specs.Marks.{AreMarkedFrom}
 use Rattle.split_lines.proofs.Formed.{alternatives_few}
 use Rattle.split_lines.proofs.Splitting.{child_of_demands}
 use Rattle.split_lines.proofs.LineDemands.{DemandsByFirst, one_more_alternative, all_alternatives}

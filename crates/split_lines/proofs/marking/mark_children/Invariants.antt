@@ -1,4 +1,4 @@
-use Rattle.split_lines.specs.Marks.{AreMarkedFrom}
+use Rattle.cell_tables.specs.Marks.{AreMarkedFrom}
 use Rattle.split_lines.proofs.LineDemands.{DemandsByFirst}
 use Rattle.split_lines.proofs.marking.mark_children.Given as goal
 

@@ -1,7 +1,7 @@
 use Rattle.std.proofs.Common.{◌≡◌, ℕ, ◌+◌, ◌-◌, length, get_or, refl, sym, ap, subst, ◌∙◌, arith, rules}
 use Rattle.std.specs.List.{Contains}
 use Rattle.adp_model.specs.declared.grammar.Arg.TheVariants.{Rule}
-use Rattle.split_lines.specs.Bits.{IsBitOf}
+use Rattle.cell_tables.specs.Bits.{IsBitOf}
 use Rattle.split_lines.specs.Laid.{IsCellOf}
 use Rattle.split_lines.proofs.BitPlaces.{first_here, last_here, room_here, place_here, here_of_place}
 use Rattle.split_lines.proofs.MarkSteps.{too_like, same_rule}

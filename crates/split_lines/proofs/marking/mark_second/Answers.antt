@@ -4,7 +4,7 @@ use Rattle.adp_model.specs.declared.grammar.Arg.TheVariants.{Rule}
 use Rattle.adp_model.specs.declared.cell.Cell.{Cell}
 use Rattle.adp_model.specs.PosedProblem.{PosedProblem}
 use Rattle.adp_model.specs.Cells.{IsCounted}
-use Rattle.split_lines.specs.Bits.{IsBitOf}
+use Rattle.cell_tables.specs.Bits.{IsBitOf}
 use Rattle.split_lines.specs.Laid.{IsCellOf}
 use Rattle.split_lines.proofs.BitPlaces.{first_set, last_set, room_behind, place_of_bit, bit_of_place}
 use Rattle.split_lines.proofs.MarkSteps.{too_like, too_more, same_rule}

@@ -2,7 +2,7 @@ use Rattle.std.proofs.Common.{◌≡◌, length, map, w64, to_z, of_z, sym, ap, 
 use Rattle.split_lines.specs.Packing.{short}
 use Rattle.split_lines.specs.Sums.{AreLowSums, HasScaledSumAt, HaveNumbers}
 use Rattle.split_lines.specs.Totals.{IsGreatestOf}
-use Rattle.split_lines.proofs.LargestSums.{aligned_places, as_values, flagged_places, from_values, plain_greatest}
+use Rattle.split_lines.proofs.LargestSums.{aligned_places, as_values, limited_places, from_values, plain_greatest}
 use Rattle.split_lines.proofs.sums.greatest_short.Goals as goal
 
 pub greatest_scaled-requires-clause-have : goal.greatest_scaled-requires-clause-have
@@ -36,7 +36,7 @@ returns-then-count-span c =
 
 pub returns-else-count-span : goal.returns-else-count-span
 returns-else-count-span c =
-    let as_many : length c.args.first.now ≡ length c.args.flags.now = omega arith in
+    let as_many : length c.args.first.now ≡ length c.args.limits.now = omega arith in
     let plain = c.are_plain.ensures c.if-not-are_plain.false in
-    plain_greatest short c.args.scales plain.0 plain.1 c.args.first.now c.args.second.now c.args.places c.greatest_flagged_short.result
-    (flagged_places c.args.places c.args.first.now c.args.second.now c.args.flags.now c.requires.have c.requires.flags as_many short c.greatest_flagged_short.result c.greatest_flagged_short.ensures)
+    plain_greatest short c.args.scales plain.0 plain.1 c.args.first.now c.args.second.now c.args.places c.greatest_limited_short.result
+    (limited_places c.args.places c.args.first.now c.args.second.now c.args.limits.now c.requires.have c.requires.limits as_many c.greatest_limited_short.result c.greatest_limited_short.ensures)

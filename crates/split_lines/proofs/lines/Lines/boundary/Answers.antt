@@ -5,11 +5,11 @@ use Rattle.split_lines.proofs.BitPlaces.{bits_among}
 use Rattle.split_lines.proofs.LinePlaces.{boundaries}
 use Rattle.split_lines.proofs.lines.Lines.boundary.Goals as goal
 
-pub flags_among-requires-clause-some : goal.flags_among-requires-clause-some
-flags_among-requires-clause-some c = λ place there. ((c.between-places.ensures.exact place).0 there).0
+pub limits_among-requires-clause-some : goal.limits_among-requires-clause-some
+limits_among-requires-clause-some c = λ place there. ((c.between-places.ensures.exact place).0 there).0
 
-pub flags_among-requires-clause-whole : goal.flags_among-requires-clause-whole
-flags_among-requires-clause-whole c = λ first place last begins ends low high there.
+pub limits_among-requires-clause-whole : goal.limits_among-requires-clause-whole
+limits_among-requires-clause-whole c = λ first place last begins ends low high there.
     let from_first = ((c.between-places.ensures.exact first).0 begins).1 in
     let to_last = ((c.between-places.ensures.exact last).0 ends).2 in
     (c.between-places.ensures.exact place).1 (there, omega (arith, from_first), omega (arith, to_last))

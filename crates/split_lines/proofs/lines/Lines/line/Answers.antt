@@ -3,6 +3,7 @@ use Rattle.adp_model.specs.declared.grammar.Arg.{Arg}
 use Rattle.adp_model.specs.PosedProblem.{PosedProblem}
 use Rattle.adp_model.specs.Parts.{alternatives_of, arguments_of}
 use Rattle.split_lines.specs.declared.lines.Line.{Line}
+use Rattle.split_lines.specs.Extents.{IsExtent}
 use Rattle.split_lines.specs.Matching.{HaveLetters, AreMatches}
 use Rattle.split_lines.specs.Lines.{parts_by, HasLine, IsLine}
 use Rattle.split_lines.specs.LinesFields.{IsKept, IsKeptOrNone}
@@ -45,4 +46,6 @@ returns c =
       has_line = subst (λ p. HasLine (rest p) line.between) c.self.view_is it.has_line;
       middle = subst (λ p. AreMatches p (parts_by (rest p) line.between).middle c.index-3.result.now.matches) c.self.view_is matches;
       tail = subst (λ p. HaveLetters p (parts_by (rest p) line.between).tail line.tail) c.self.view_is it.tail;
+      before = subst (λ p. IsExtent p (parts_by (rest p) line.between).first line.before) c.self.view_is it.before;
+      behind = subst (λ p. IsExtent p (parts_by (rest p) line.between).second line.behind) c.self.view_is it.behind;
     }

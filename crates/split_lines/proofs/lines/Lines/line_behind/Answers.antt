@@ -22,4 +22,4 @@ pub returns : goal.returns
 returns c =
     let at = (goal.at.returns c).In_ok-line in
     let it = line_behind_front c.args.self.now c.args.alternative.now.front.now c.args.alternative.now.others.now c.requires.alternative.in_front.fixed c.in_ok-line.line (line_is at) in
-    record { has_line = it.has_line; middle = it.middle; tail = it.tail }
+    record { has_line = it.has_line; middle = it.middle; tail = it.tail; before = it.before; behind = it.behind }

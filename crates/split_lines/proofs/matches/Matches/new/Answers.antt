@@ -6,7 +6,7 @@ use Rattle.adp_model.specs.declared.grammar.Arg.{Arg}
 use Rattle.adp_model.specs.PosedProblem.{PosedProblem}
 use Rattle.yield_sizes.specs.Placing.{Cover}
 use Rattle.split_lines.specs.Flags.{AreBits}
-use Rattle.split_lines.specs.Matching.{HaveLetters, AreMatchPlaces, AreCounts, AreFlagsOf}
+use Rattle.split_lines.specs.Matching.{HaveLetters, AreMatchPlaces, AreCounts, AreLimitsOf}
 use Rattle.split_lines.proofs.Matched.{no_counts, one_count_more, one_place_more, no_places, places_below, one_match_more, no_match_there}
 use Rattle.split_lines.proofs.Tokens.{cover_within}
 use Rattle.split_lines.proofs.matches.Matches.new.Goals as goal
@@ -79,21 +79,21 @@ returns c =
     let past : place ≡ length p.word + 1 = omega (arith, len_is) in
     let H : PosedProblem → Type 0 = λ p. HaveLetters p tokens width in
     let M : ℕ → Type 0 = λ past. AreMatchPlaces p tokens width past places in
-    let P : List ℕ → Type 0 = λ told. AreFlagsOf (length c.letters-len.result.now + 1) told c.in_ok-flags.flags.items in
-    let F : ℕ → Type 0 = λ count. AreFlagsOf count places c.in_ok-flags.flags.items in
-    let flags : F (length c.letters-len.result.now + 1) = subst P c.deref.ensures.value c.in_ok-flags.ensures in
+    let P : List ℕ → Type 0 = λ told. AreLimitsOf (length c.letters-len.result.now + 1) told c.in_ok-limits.limits.items in
+    let F : ℕ → Type 0 = λ count. AreLimitsOf count places c.in_ok-limits.limits.items in
+    let limits : F (length c.letters-len.result.now + 1) = subst P c.deref.ensures.value c.in_ok-limits.ensures in
     record {
       letters = subst H c.problem-problem.ensures c.fixed_letters-width.ensures.letters;
       places = subst M past kept.places;
       each = omega (arith, c.in_ok-push-3.ensures.len, kept.each, past);
       before = counted places c.loop-place.before.items c.push-2.new.self.items c.len-2.result place kept.before kept.each (λ number. places_below p tokens width place places kept.places number 0) (omega (arith, c.len-2.ensures)) c.in_ok-push-3.ensures.items;
-      flags = subst F (omega (arith, len_is)) flags;
+      limits = subst F (omega (arith, len_is)) limits;
       here = subst (λ told. AreBits told 0 c.in_ok-here.here.items) c.deref-2.ensures.value c.in_ok-here.ensures;
       behind = subst (λ told. AreBits told width c.in_ok-behind.behind.items) c.deref-3.ensures.value c.in_ok-behind.ensures;
     }
 
-pub flags_of-requires : goal.flags_of-requires
-flags_of-requires c = λ place there.
+pub limits_of-requires : goal.limits_of-requires
+limits_of-requires c = λ place there.
     let C : List ℕ → Type 0 = λ places. Contains places place in
     let below = ((c.loop-place.invariant.places.exact place).0 (subst C c.deref.ensures.value there)).0 in
     omega (arith, below)

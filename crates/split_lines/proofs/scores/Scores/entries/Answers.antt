@@ -1,14 +1,14 @@
 use Rattle.std.proofs.Common.{◌≡◌, ℕ, ℤ, ◌-◌, IsSome, slice_get, sym, ap, subst, ◌∙◌}
 use Rattle.split_lines.specs.declared.argument_values.Numbers.{Numbers}
-use Rattle.split_lines.specs.declared.layout.Side.{Side}
+use Rattle.cell_tables.specs.declared.layout.Side.{Side}
 use Rattle.split_lines.specs.declared.scores.Packed.{Packed}
 use Rattle.split_lines.specs.declared.scores.Packed.TheVariants.{Short, Medium, Long, Whole}
 use Rattle.split_lines.specs.declared.scores.Scores.TheInside.{Inside}
-use Rattle.split_lines.specs.Spans.{Spans, value_at}
-use Rattle.split_lines.specs.Entries.{Table}
+use Rattle.cell_tables.specs.Spans.{Spans, value_at}
+use Rattle.cell_tables.specs.Tables.{Table, spans_of}
 use Rattle.split_lines.specs.Packing.{short, medium, long}
 use Rattle.split_lines.specs.ScoresFields.{scores_table, table_of}
-use Rattle.split_lines.specs.ArgumentEntries.{spans_of, told_numbers}
+use Rattle.split_lines.specs.ArgumentEntries.{told_numbers}
 use Rattle.split_lines.proofs.PackedScores.{spans_told, told_between, some_untold}
 use Rattle.split_lines.proofs.scores.Scores.entries.Goals as goal
 use Rattle.split_lines.proofs.scores.Scores.entries.Goals.{in-Short, in-Medium, in-Long, in-Whole}

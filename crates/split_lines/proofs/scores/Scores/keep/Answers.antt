@@ -8,8 +8,9 @@ use Rattle.adp_model.specs.Bellman.{HasBestScore}
 use Rattle.split_lines.specs.declared.scores.Packed.{Packed}
 use Rattle.split_lines.specs.declared.scores.Packed.TheVariants.{Short, Medium, Long, Whole}
 use Rattle.split_lines.specs.declared.scores.Scores.TheInside.{Inside}
-use Rattle.split_lines.specs.Spans.{IsWritten}
-use Rattle.split_lines.specs.Entries.{Table, HasEntry}
+use Rattle.cell_tables.specs.Spans.{IsWritten}
+use Rattle.cell_tables.specs.Tables.{Table}
+use Rattle.split_lines.specs.Entries.{HasEntry}
 use Rattle.split_lines.specs.Packing.{short, medium, long, told_table}
 use Rattle.split_lines.specs.ScoresFields.{IsPacked, IsOfWidth, AreScores, AreWithin, scores_table, table_of}
 use Rattle.split_lines.proofs.PackedScores.{right_within, has_now, has_still, width_kept, told_now, told_still}

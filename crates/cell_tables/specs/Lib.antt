@@ -1,0 +1,9 @@
+pub mod Bits
+pub mod Flags
+pub mod Layout
+pub mod LayoutFields
+pub mod Marks
+pub mod MarksFields
+pub mod Spans
+pub mod Tables
+pub mod WordBits

@@ -1,0 +1,17 @@
+//! What is kept of a problem's cells, in rows, by starts, and in columns, by ends: a value for each counted cell, or a
+//! bit that marks it. Values lie side by side, so that those of a row or a column are read forwards.
+#![tactic(auto)]
+
+mod bits;
+mod flags;
+mod grid;
+mod layout;
+mod marked_spans;
+mod marks;
+mod table;
+
+pub use bits::{WORD, set_each};
+pub use grid::{Block, Grid, set_places};
+pub use layout::{Layout, Side};
+pub use marks::Marks;
+pub use table::Table;

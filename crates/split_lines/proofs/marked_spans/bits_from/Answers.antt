@@ -1,6 +1,0 @@
-use Rattle.std.proofs.Common.{arith}
-use Rattle.split_lines.proofs.SetBits.{mask_from}
-use Rattle.split_lines.proofs.marked_spans.bits_from.Goals as goal
-
-pub returns : goal.returns
-returns c = λ place. mask_from c.args.least c.args.number place c.saturating_sub.result c.requires.from (omega (arith, c.saturating_sub.ensures))

@@ -1,6 +1,0 @@
-use Rattle.std.proofs.Common.{ℕ, ◌↔◌, ◌<◌, ◌≤◌}
-use Rattle.split_lines.specs.Bits.{IsBitIn, IsSet}
-use Rattle.split_lines.proofs.marked_spans.turned_bits.Given as goal
-
-abbrev pub invariant-loop-to : goal.invariant-loop-to
-invariant-loop-to l = (to : ℕ) → IsBitIn l.bits l.number to ↔ ((l.first ≤ to) × (to < l.to) × IsSet l.columns l.rule to l.from)
