@@ -9,7 +9,7 @@ use Rattle.adp_model.specs.declared.grammar.Sign.{Sign}
 use Rattle.adp_model.specs.declared.grammar.Alt.{Alt}
 use Rattle.adp_model.specs.declared.grammar.Rule as rules
 use Rattle.adp_model.specs.declared.grammar.Grammar.{Grammar}
-use Rattle.adp_model.specs.Parts.{sign_at, alternatives_of, alternative_at, arguments_of}
+use Rattle.adp_model.specs.Parts.{sign_at, rule_at, alternatives_of, alternative_at, arguments_of}
 use Rattle.adp_model.specs.WellFormed.{is_name, is_class, is_sign, is_algebra, is_high_bound, is_argument, is_alternative, is_rule, counts_fit, names_differ, parts_fit, is_well_formed}
 use Rattle.adp_model.proofs.Derived.{HasFewArguments}
 
@@ -158,3 +158,26 @@ some_arguments-formed grammar h rule alternative in_range =
     let some : 1 ≤ length sign.kinds = leb-true _ _ (and_second (is_name sign.name) (nat_le 1 (length sign.kinds)) (and_first (is_name sign.name && nat_le 1 (length sign.kinds)) (nat_le (length sign.kinds) 4) k)) in
     let count = signed.count in
     omega arith
+
+-- ---- counts of alternatives
+
+counts-formed : (grammar : Grammar) (r : rules.Rule) → is_rule grammar r ≡ true → (1 ≤ length r.alts) × (length r.alts ≤ 64)
+counts-formed grammar r h =
+    let some = nat_le 1 (length r.alts) in
+    let few = nat_le (length r.alts) 64 in
+    let counts = and_first (is_name r.name && some && few) (list_all (is_alternative grammar) r.alts) h in
+    (leb-true _ _ (and_second (is_name r.name) some (and_first (is_name r.name && some) few counts)), leb-true _ _ (and_second (is_name r.name && some) few counts))
+
+-- a rule has at least one alternative
+pub alternatives-some : (grammar : Grammar) → IsTrue (is_well_formed grammar) → (rule : ℕ) → rule < length grammar.rules → 1 ≤ length (alternatives_of grammar rule)
+alternatives-some grammar h rule known =
+    (counts-formed grammar (rule_at grammar rule) (kept_in (is_rule grammar) grammar.rules rule (record { name = []; alts = [] }) (rules-formed grammar h) known)).0
+
+-- a rule has at most 64 alternatives
+pub alternatives-few : (grammar : Grammar) → IsTrue (is_well_formed grammar) → (rule : ℕ) → length (alternatives_of grammar rule) ≤ 64
+alternatives-few grammar h rule =
+    kept_at (is_rule grammar) (λ r. length r.alts ≤ 64) (λ (r : rules.Rule) k. (counts-formed grammar r k).1) grammar.rules rule (record { name = []; alts = [] }) (rules-formed grammar h) (omega arith)
+
+-- the sign of an alternative is there
+pub sign-known : (grammar : Grammar) → IsTrue (is_well_formed grammar) → (rule alternative : ℕ) → alternative < length (alternatives_of grammar rule) → (alternative_at grammar rule alternative).sign < length grammar.signs
+sign-known grammar h rule alternative in_range = (IsSigned-at grammar h rule alternative in_range).known

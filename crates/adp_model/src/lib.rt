@@ -20,7 +20,7 @@ pub use fault::{GrammarFault, LimitFault, TextFault};
 pub use grammar::{Algebra, Alt, Arg, Class, Goal, Grammar, Kind, Linear, Rule, Sign};
 pub use job::Job;
 pub use output::{push_decimal, push_escaped, push_quoted, push_signed};
-pub use problem::Problem;
+pub use problem::{MOST_LETTERS, Problem};
 pub use sequence::Sequence;
 pub use text::{Text, is_printable};
 pub use well_formed::{is_name, is_well_formed, is_word_byte};

@@ -1,6 +1,9 @@
+mod parts;
+
 use crate::grammar::Grammar;
 use crate::sequence::Sequence;
 use crate::text::Text;
+pub use parts::MOST_LETTERS;
 use std::marker::Model;
 
 /// A problem that was admitted: a grammar that passed its checks, one of its algebras by its number, and a word within

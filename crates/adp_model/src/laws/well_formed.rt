@@ -1,11 +1,12 @@
 //! Arguments, numbers and names of well-formed grammars.
 
-ghost use Rattle.std.specs.Prelude.{◌≡◌, ℕ, ◌<◌, ◌≤◌, Some, IsTrue, List, length};
+ghost use Rattle.std.specs.Prelude.{◌≡◌, ℕ, ◌<◌, ◌≤◌, pos, nat_abs, Some, IsTrue, List, length, slice_index_or};
 ghost use Rattle.std.specs.List.{AllByRecursion, Contains};
 ghost use Rattle.adp_model.specs.declared.grammar.Arg.TheVariants.{Rule, Run};
 ghost use Rattle.adp_model.specs.declared.grammar.Grammar.{Grammar};
-ghost use Rattle.adp_model.specs.Parts.{algebra_at, arguments_of, rule_at, sign_at, term_for};
+ghost use Rattle.adp_model.specs.Parts.{algebra_at, alternative_at, alternatives_of, arguments_of, rule_at, sign_at, term_at, term_for};
 ghost use Rattle.adp_model.specs.Printable.{IsPrintable};
+ghost use Rattle.adp_model.specs.ProblemFields.{greatest_score};
 ghost use Rattle.adp_model.specs.WellFormed.{IsKnown, is_name, is_well_formed};
 
 /// An alternative has at most four arguments, and the rules and classes that they name are there.
@@ -35,6 +36,40 @@ pub fn terms_fit_their_signs()
     ensures factors { (grammar : Grammar) → IsTrue (is_well_formed grammar) → (algebra sign : ℕ)
         → algebra < length grammar.algebras → sign < length grammar.signs
         → length (term_for grammar algebra sign).factors ≡ length (sign_at grammar sign).kinds }
+{}
+
+/// A rule has one to 64 alternatives, and only the grammar's rules have any. The sign of an alternative is there, and
+/// it has at least one argument.
+pub fn alternatives_fit()
+    ensures some { (grammar : Grammar) → IsTrue (is_well_formed grammar) → (rule : ℕ)
+        → rule < length grammar.rules → 1 ≤ length (alternatives_of grammar rule) }
+    ensures few { (grammar : Grammar) → IsTrue (is_well_formed grammar) → (rule : ℕ)
+        → length (alternatives_of grammar rule) ≤ 64 }
+    ensures rule { (grammar : Grammar) (rule alternative : ℕ) → alternative < length (alternatives_of grammar rule)
+        → rule < length grammar.rules }
+    ensures sign { (grammar : Grammar) → IsTrue (is_well_formed grammar) → (rule alternative : ℕ)
+        → alternative < length (alternatives_of grammar rule)
+        → (alternative_at grammar rule alternative).sign < length grammar.signs }
+    ensures arguments { (grammar : Grammar) → IsTrue (is_well_formed grammar) → (rule alternative : ℕ)
+        → alternative < length (alternatives_of grammar rule) → 1 ≤ length (arguments_of grammar rule alternative) }
+{}
+
+/// An algebra's term for an alternative is there and has a factor for each argument, and all its numbers lie from
+/// -(2^62 - 1) to 2^62 - 1.
+pub fn terms_fit_their_alternatives()
+    ensures there { (grammar : Grammar) → IsTrue (is_well_formed grammar) → (algebra rule alternative : ℕ)
+        → algebra < length grammar.algebras → alternative < length (alternatives_of grammar rule)
+        → (alternative_at grammar rule alternative).sign < length (algebra_at grammar algebra).terms }
+    ensures factors { (grammar : Grammar) → IsTrue (is_well_formed grammar) → (algebra rule alternative : ℕ)
+        → algebra < length grammar.algebras → alternative < length (alternatives_of grammar rule)
+        → length (term_at grammar algebra rule alternative).factors ≡ length (arguments_of grammar rule alternative) }
+    ensures low_constant { (grammar : Grammar) → IsTrue (is_well_formed grammar) → (algebra rule alternative : ℕ)
+        → algebra < length grammar.algebras → alternative < length (alternatives_of grammar rule)
+        → nat_abs (term_at grammar algebra rule alternative).constant ≤ greatest_score }
+    ensures low_factors { (grammar : Grammar) → IsTrue (is_well_formed grammar) → (algebra rule alternative : ℕ)
+        → algebra < length grammar.algebras → alternative < length (alternatives_of grammar rule)
+        → (k : ℕ) → k < length (term_at grammar algebra rule alternative).factors
+        → nat_abs (slice_index_or (term_at grammar algebra rule alternative).factors k (pos 0)) ≤ greatest_score }
 {}
 
 /// A name has at most 32 bytes, and all of them are printable.
