@@ -28,6 +28,9 @@ pub mod Monotone
 pub mod Checked
 pub mod Demanded
 pub mod DemandDecided
+pub mod Heights
+pub mod TurnedRanks
+pub mod RanksApart
 pub mod Reports
 pub mod ReportExists
 pub mod Strict

@@ -25,6 +25,7 @@ pub mod Report
 pub mod Spelling
 pub mod WellFormed
 pub mod Checks
+pub mod Heights
 pub mod ProblemFields
 pub mod GrammarFaults
 pub mod LimitFaults
