@@ -39,3 +39,5 @@ pub mod Declarations
 pub mod DeclaredNames
 pub mod TextFaults
 pub mod JobText
+pub mod SplitArguments
+pub mod Visits

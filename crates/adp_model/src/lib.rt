@@ -12,6 +12,7 @@ mod output;
 mod problem;
 mod sequence;
 mod text;
+mod visit;
 mod well_formed;
 
 pub use answers::Answers;
@@ -23,4 +24,5 @@ pub use output::{push_decimal, push_escaped, push_quoted, push_signed};
 pub use problem::{MOST_LETTERS, Problem};
 pub use sequence::Sequence;
 pub use text::{Text, is_printable};
+pub use visit::{Position, Visit};
 pub use well_formed::{is_name, is_well_formed, is_word_byte};
