@@ -41,3 +41,5 @@ pub mod TextFaults
 pub mod JobText
 pub mod SplitArguments
 pub mod Visits
+pub mod StepsMade
+pub mod Memos
