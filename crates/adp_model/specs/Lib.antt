@@ -43,3 +43,5 @@ pub mod SplitArguments
 pub mod Visits
 pub mod StepsMade
 pub mod Memos
+pub mod Machines
+pub mod StepBound

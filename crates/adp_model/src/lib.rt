@@ -30,5 +30,5 @@ pub use problem::{MOST_LETTERS, Problem};
 pub use sequence::Sequence;
 pub use steps::Steps;
 pub use text::{Text, is_printable};
-pub use visit::{Position, Visit};
+pub use visit::{Frame, Hand, Position, Visit};
 pub use well_formed::{is_name, is_well_formed, is_word_byte};

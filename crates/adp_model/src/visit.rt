@@ -18,3 +18,17 @@ pub struct Visit {
     pub turns: [u32; 3],
     pub at: Option<Position>,
 }
+
+/// A cell that a machine has opened, with how far its visit has come and the probe that will publish its answer.
+#[derive(Drop)]
+pub struct Frame<P> {
+    pub visit: Visit,
+    pub probe: P,
+}
+
+/// A cell that is being looked up, with the probe for it.
+#[derive(Drop)]
+pub struct Hand<P> {
+    pub cell: Cell,
+    pub probe: P,
+}
