@@ -26,7 +26,7 @@ precedes_transitive a b c (inr (same, inr (equal, less))) (inr (same', inr (equa
 pub same_cell : (a b : Cell) → a.rule ≡ b.rule → a.from ≡ b.from → a.to ≡ b.to → a ≡ b
 same_cell a b r f t = λ i. record { rule = r i; from = f i; to = t i }
 
-three_ways : (m n : ℕ) → (m < n) ⊎ ((m ≡ n) ⊎ (n < m))
+pub three_ways : (m n : ℕ) → (m < n) ⊎ ((m ≡ n) ⊎ (n < m))
 three_ways m n = grind arith
 
 pub precedes_total : (a b : Cell) → CellPrecedes a b ⊎ ((a ≡ b) ⊎ CellPrecedes b a)

@@ -25,7 +25,7 @@ use Rattle.adp_model.proofs.Checked.{measure, measure_falls, shorter, IsSolvable
 
 -- ---- searches
 
-same_decided : {A B : Type 0} → (A → B) → (B → A) → Decided A → Decided B
+pub same_decided : {A B : Type 0} → (A → B) → (B → A) → Decided A → Decided B
 same_decided to back (inl a) = inl (to a)
 same_decided to back (inr wrong) = inr (λ b. wrong (back b))
 
@@ -98,7 +98,7 @@ all_at : (most to : ℕ) → to ≤ most → (ends : List ℕ) → AllByRecursio
 all_at most to within [] h = tt
 all_at most to within (end ∷ ends) h = ((let e : end ≡ to = h.0 in omega arith), all_at most to within ends h.1)
 
-ends_within : (p : PosedProblem) (to : ℕ) → to ≤ length p.word → (arguments : List Arg) (before from : ℕ) (ends : List ℕ) → before ≡ length arguments - 1
+pub ends_within : (p : PosedProblem) (to : ℕ) → to ≤ length p.word → (arguments : List Arg) (before from : ℕ) (ends : List ℕ) → before ≡ length arguments - 1
     → AllByRecursion (λ boundary. boundary ≡ to) (drop before ends) → AllByRecursion (FitsSpan p) (place arguments from ends) → AllByRecursion (λ end. end ≤ length p.word) ends
 ends_within p to within arguments zero from ends e last fits = all_at (length p.word) to within ends last
 ends_within p to within arguments (suc before) from [] e last fits = tt
@@ -160,7 +160,7 @@ child_or_not p measure solvable cell child within = same_decided found searched 
 
 -- ---- demanded cells
 
-same_cell_decided : (a b : Cell) → Decided (a ≡ b)
+pub same_cell_decided : (a b : Cell) → Decided (a ≡ b)
 same_cell_decided a b =
     same_decided (λ (h : (a.rule ≡ b.rule) × ((a.from ≡ b.from) × (a.to ≡ b.to))). same_cell a b h.0 h.1.0 h.1.1)
     (λ e. (ap (λ (x : Cell). x.rule) e, (ap (λ (x : Cell). x.from) e, ap (λ (x : Cell). x.to) e)))

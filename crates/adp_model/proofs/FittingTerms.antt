@@ -1,5 +1,5 @@
 -- The terms of a well-formed grammar's algebras fit their signs.
-use Rattle.std.proofs.Common.{◌≡◌, ℕ, zero, suc, ℤ, ◌<◌, ◌≤◌, Bool, true, ◌&&◌, ◌==◌, IsTrue, pos, nat_abs, List, [], ◌∷◌, length, slice_index_or, arith, sym, ◌∙◌, eqb-true, ltb-true}
+use Rattle.std.proofs.Common.{◌≡◌, ℕ, zero, suc, ℤ, ◌<◌, ◌≤◌, true, ◌&&◌, ◌==◌, IsTrue, pos, nat_abs, List, [], ◌∷◌, length, slice_index_or, arith, sym, ◌∙◌, eqb-true, ltb-true}
 use Rattle.std.specs.List.{list_all, zip}
 use Rattle.adp_model.specs.declared.grammar.Sign.{Sign}
 use Rattle.adp_model.specs.declared.grammar.Goal.TheVariants.{Least}

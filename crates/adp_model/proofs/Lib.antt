@@ -31,6 +31,8 @@ pub mod DemandDecided
 pub mod Heights
 pub mod TurnedRanks
 pub mod RanksApart
+pub mod RisingLists
+pub mod RuleArguments
 pub mod Reports
 pub mod ReportExists
 pub mod Strict
