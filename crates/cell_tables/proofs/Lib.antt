@@ -8,6 +8,7 @@ pub mod FarBits
 pub mod FlaggedMarks
 pub mod GatheredMarks
 pub mod Lists
+pub mod NotedCells
 pub mod NumberBits
 pub mod RowCounts
 pub mod SetBits

@@ -4,6 +4,7 @@ pub mod Layout
 pub mod LayoutFields
 pub mod Marks
 pub mod MarksFields
+pub mod Noted
 pub mod Spans
 pub mod Tables
 pub mod WordBits

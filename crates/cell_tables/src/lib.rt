@@ -8,10 +8,12 @@ mod grid;
 mod layout;
 mod marked_spans;
 mod marks;
+mod noted;
 mod table;
 
 pub use bits::{WORD, set_each};
 pub use grid::{Block, Grid, set_places};
 pub use layout::{Layout, Side};
 pub use marks::Marks;
+pub use noted::Noted;
 pub use table::Table;
