@@ -4,6 +4,8 @@
 #![tactic(auto)]
 
 #[cfg(test)]
+mod codes;
+#[cfg(test)]
 mod grammars;
 #[cfg(test)]
 mod jobs;

@@ -1,2 +1,10 @@
 //! The words of the memo table, what each pass knows of them, and the rule that holds between any two steps.
 #![tactic(auto)]
+
+mod codes;
+mod homes;
+
+pub use codes::{
+    cell_code, choice_code, code_cell, code_choice, code_score, codes_tell_apart, score_code,
+};
+pub use homes::{each_position_is_tried_once, home, next_position};
