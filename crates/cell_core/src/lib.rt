@@ -1,2 +1,8 @@
 //! The step machine: a top-down computation over a memo that can be stopped between any two steps.
 #![tactic(auto)]
+
+mod noted_cells;
+mod walk;
+
+pub use noted_cells::NotedCells;
+pub use walk::{asked, seek};

@@ -1,0 +1,165 @@
+//! The walk over the arguments of a cell's splits, in the order of a visit, and the search for the next one whose cell
+//! isn't noted.
+
+ghost use Rattle.std.specs.Prelude.{◌≡◌, ◌<◌, ◌≤◌, MatchOption, ◌∷◌, length, slice_index};
+ghost use Rattle.adp_model.specs.declared.cell.Cell.{Cell as AnyCell};
+ghost use Rattle.adp_model.specs.PosedProblem.{IsSpan};
+ghost use Rattle.adp_model.specs.Splits.{ends_by};
+ghost use Rattle.adp_model.specs.SplitArguments.{IsSplitArgument, AsksFor};
+ghost use Rattle.adp_model.specs.Visits.{argument_at, turned_number, IsWalk};
+ghost use Rattle.cell_core.specs.Seeking.{IsLast, IsNext, IsNextSought, IsNoneSought, IsFirstFrom, IsNoneFrom};
+
+use crate::noted_cells::NotedCells;
+use adp_model::laws::splits::ranks_tell_splits_apart;
+use adp_model::laws::well_formed::{alternatives_fit, arguments_are_few_and_known};
+use adp_model::{Arg, Cell, Position, Problem, Visit};
+use random_orders::rotated;
+use yield_sizes::{Cuts, first_viable, next_viable};
+
+/// The alternative that is visited behind so many others where the visit begins with `first`.
+fn alternative_behind(first: u32, count: u32, turned: u32) -> u32
+    requires first { first < count }
+    requires turned { turned < count }
+    requires few { count ≤ 64 }
+    ensures below { result < count }
+    ensures turned { turned_number count first result ≡ turned }
+{
+    rotated(first, count, turned)
+}
+
+/// The first argument of the alternatives that the visit comes to from this turned number on. Takes no memory.
+fn first_from(problem: &Problem<'_>, visit: Visit, turned: u32) -> Option<Position>
+    requires span { IsSpan problem.now.word visit.cell.from visit.cell.to }
+    requires walk { IsWalk problem.now visit }
+    ensures { MatchOption result (IsNoneFrom problem.now visit turned) (IsFirstFrom problem.now visit turned) }
+{
+    problem.admissible();
+    alternatives_fit();
+    ranks_tell_splits_apart();
+    let count = problem.alternatives(visit.cell.rule).len() as u32;
+    let turns = visit.turns;
+    let mut cuts = Cuts { at: [0; 3], turns };
+    for number in turned..count {
+        let alternative = alternative_behind(visit.first, count, number) as u8;
+        if first_viable(problem, visit.cell, alternative, turns, &mut cuts) {
+            let cuts = cuts.at;
+            return Some(Position {
+                alternative,
+                cuts,
+                number: 0,
+            });
+        }
+    }
+    None
+}
+
+/// The argument that the visit comes to next. Takes no memory.
+fn next_position(problem: &Problem<'_>, visit: Visit) -> Option<Position>
+    requires span { IsSpan problem.now.word visit.cell.from visit.cell.to }
+    requires walk { IsWalk problem.now visit }
+    ensures { MatchOption result (IsLast problem.now visit) (IsNext problem.now visit) }
+{
+    let Some(at) = visit.at else {
+        return first_from(problem, visit, 0);
+    };
+    problem.admissible();
+    alternatives_fit();
+    ranks_tell_splits_apart();
+    let count = problem.alternatives(visit.cell.rule).len() as u32;
+    if at.number as usize + 1 < problem.arguments(visit.cell.rule, at.alternative).len() {
+        let cuts = at.cuts;
+        return Some(Position {
+            alternative: at.alternative,
+            cuts,
+            number: at.number + 1,
+        });
+    }
+    let here = at.cuts;
+    let turns = visit.turns;
+    let mut cuts = Cuts { at: here, turns };
+    if next_viable(problem, visit.cell, at.alternative, &mut cuts) {
+        let cuts = cuts.at;
+        return Some(Position {
+            alternative: at.alternative,
+            cuts,
+            number: 0,
+        });
+    }
+    let turned = (u32::from(at.alternative) + count - visit.first) % count;
+    first_from(problem, visit, turned + 1)
+}
+
+/// Where an argument of a split begins, as a position in the word.
+fn start_of(cell: Cell, at: Position) -> u16
+    requires { at.number ≤ 3 }
+    ensures { result ≡ slice_index (cell.from ∷ ends_by cell at.cuts) at.number }
+{
+    if at.number == 0 {
+        return cell.from;
+    }
+    at.cuts[at.number as usize - 1]
+}
+
+/// Where it ends.
+fn end_of(cell: Cell, at: Position) -> u16
+    requires { at.number ≤ 3 }
+    ensures { result ≡ slice_index (ends_by cell at.cuts) at.number }
+{
+    if at.number == 3 {
+        return cell.to;
+    }
+    at.cuts[at.number as usize]
+}
+
+/// The cell of an argument, where that is a rule. Takes no memory.
+pub fn asked(problem: &Problem<'_>, cell: Cell, at: Position) -> Option<Cell>
+    requires { IsSplitArgument problem.now (argument_at cell at) }
+    ensures { MatchOption result ((child : AnyCell) → AsksFor problem.now (argument_at cell at) child → ⊥)
+        (AsksFor problem.now (argument_at cell at)) }
+{
+    let argument = &problem.arguments(cell.rule, at.alternative)[at.number as usize];
+    match argument {
+        Arg::Rule(rule) => Some(Cell {
+            rule: *rule,
+            from: start_of(cell, at),
+            to: end_of(cell, at),
+        }),
+        _ => None,
+    }
+}
+
+/// The next argument of a visit whose cell isn't noted, with its cell; `None` where all are. Takes no memory.
+pub fn seek<N: NotedCells>(
+    problem: &Problem<'_>,
+    noted: &N,
+    visit: Visit,
+) -> Option<(Position, Cell)>
+    requires span { IsSpan problem.now.word visit.cell.from visit.cell.to }
+    requires walk { IsWalk problem.now visit }
+    ensures { MatchOption result (IsNoneSought problem.now (N.is_noted noted.now) visit)
+        (λ found. IsSplitArgument problem.now (argument_at visit.cell found.0)
+        × IsNextSought problem.now (N.is_noted noted.now) visit found.0 found.1) }
+{
+    problem.admissible();
+    alternatives_fit();
+    arguments_are_few_and_known();
+    let mut at = visit.at;
+    loop {
+        let turns = visit.turns;
+        let now = Visit {
+            cell: visit.cell,
+            first: visit.first,
+            turns,
+            at,
+        };
+        let Some(position) = next_position(problem, now) else {
+            return None;
+        };
+        at = Some(position);
+        if let Some(cell) = asked(problem, visit.cell, position) {
+            if !noted.has(cell) {
+                return Some((position, cell));
+            }
+        }
+    }
+}
