@@ -1,6 +1,6 @@
 //! Where a key is looked for.
 
-ghost use Rattle.std.specs.Prelude.{◌≡◌, ℕ, ◌+◌, ◌%◌, ◌<◌, ◌≤◌, ◌^◌};
+ghost use Rattle.std.specs.Prelude.{◌≡◌, ℕ, ◌<◌, ◌≤◌, ◌^◌};
 ghost use Rattle.memo_words.specs.Probes.{home, probed};
 
 /// The whole part of 2^64 times the golden ratio less 1, so that neighbouring codes fall far from each other.
@@ -17,16 +17,14 @@ pub fn home(code: u64, bits: u32) -> u32
     (code.wrapping_mul(SPREAD) >> (64 - bits)) as u32
 }
 
-/// The position behind this one in the search for a key, which comes to each of the `2^bits` positions once.
-pub fn next_position(position: u32, bits: u32) -> u32
-    requires bits { (1 ≤ bits) × (bits ≤ 22) }
-    requires below { position < 2 ^ bits }
-    ensures next { result ≡ (position + 1) % 2 ^ bits }
+/// The position, of `2^bits`, to which the search for a key comes after so many others.
+pub fn nth_position(code: u64, bits: u32, turn: u32) -> u32
+    requires { (1 ≤ bits) × (bits ≤ 22) }
+    ensures probed { result ≡ probed code bits turn }
     ensures below { result < 2 ^ bits }
-    ensures probed { (code turn : ℕ) → probed code bits turn ≡ position → probed code bits (turn + 1) ≡ result }
 {
-    let next = position + 1;
-    if next == 1 << bits { 0 } else { next }
+    let positions = 1u64 << bits;
+    ((u64::from(home(code, bits)) + u64::from(turn)) % positions) as u32
 }
 
 /// As many tries as there are positions come to each position once.

@@ -7,4 +7,4 @@ mod homes;
 pub use codes::{
     cell_code, choice_code, code_cell, code_choice, code_score, codes_tell_apart, score_code,
 };
-pub use homes::{each_position_is_tried_once, home, next_position};
+pub use homes::{each_position_is_tried_once, home, nth_position};
