@@ -7,7 +7,7 @@ use Rattle.adp_model.specs.declared.cell.Cell.{Cell}
 use Rattle.adp_model.specs.PosedProblem.{PosedProblem}
 use Rattle.adp_model.specs.Demand.{IsDemandedChild, IsBelow, IsDemanded}
 use Rattle.cell_tables.specs.Tables.{Table}
-use Rattle.split_lines.specs.Entries.{HasEntry}
+use Rattle.cell_answers.specs.Entries.{HasEntry}
 use Rattle.cell_tables.specs.Marks.{CellMarks, IsMarkedInRow, IsEndMarked}
 use Rattle.seq_reference.specs.Sweeping.{AreRanked}
 use Rattle.seq_reference.specs.Filling.{AreFilled, AreKept, IsFromStart, IsFilledBefore, IsFilledFrom, IsWithin, IsShorterWithin, IsFilledBeforeRule}

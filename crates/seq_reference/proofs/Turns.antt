@@ -13,7 +13,7 @@ use Rattle.adp_model.specs.Parts.{arguments_of}
 use Rattle.adp_model.specs.Preference.{LexicographicallyLess}
 use Rattle.adp_model.specs.Splits.{IsViable}
 use Rattle.adp_model.specs.Walk.{rank_of, IsVisitedBefore, IsFirstVisited}
-use Rattle.split_lines.specs.FirstPlaces.{IsFirstPlace, TellsCuts}
+use Rattle.cell_answers.specs.FirstPlaces.{IsFirstPlace, TellsCuts}
 use Rattle.seq_reference.specs.Cuts.{HasScoreBy, IsFirstScored}
 use Rattle.seq_reference.proofs.Cuts.{InCell, cuts_within}
 

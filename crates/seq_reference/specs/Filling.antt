@@ -5,7 +5,7 @@ use Rattle.adp_model.specs.declared.cell.Cell.{Cell}
 use Rattle.adp_model.specs.PosedProblem.{PosedProblem}
 use Rattle.adp_model.specs.Demand.{IsDemanded}
 use Rattle.cell_tables.specs.Tables.{Table}
-use Rattle.split_lines.specs.Entries.{HasEntry}
+use Rattle.cell_answers.specs.Entries.{HasEntry}
 
 -- the cells that begin at this start or later
 abbrev pub IsFromStart : ℕ → Cell → Type 0

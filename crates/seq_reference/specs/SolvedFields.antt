@@ -2,7 +2,7 @@
 use Rattle.std.specs.Prelude.{◌≡◌, ◌↔◌}
 use Rattle.adp_model.specs.declared.cell.Cell.{Cell}
 use Rattle.adp_model.specs.Demand.{IsDemanded, IsDemandedCount}
-use Rattle.split_lines.specs.Entries.{HasEntry}
+use Rattle.cell_answers.specs.Entries.{HasEntry}
 use Rattle.cell_tables.specs.Marks.{IsMarkedInRow}
 use Rattle.seq_reference.specs.declared.solved.Solved.TheInside.{Inside}
 

@@ -7,7 +7,7 @@ ghost use Rattle.adp_model.specs.Answers.{IsAnswer};
 ghost use Rattle.adp_model.specs.Bellman.{HasBestScore};
 ghost use Rattle.adp_model.specs.FirstSplit.{IsScoredSplit};
 ghost use Rattle.adp_model.specs.Demand.{IsDemandedChild};
-ghost use Rattle.split_lines.specs.Entries.{HasEntry};
+ghost use Rattle.cell_answers.specs.Entries.{HasEntry};
 ghost use Rattle.seq_reference.specs.Cuts.{HasNoneScored, IsFirstScored};
 
 use crate::parts::alternatives;
@@ -16,7 +16,8 @@ use crate::viable_cuts::{cuts_at, first_cuts, next_cuts};
 use adp_model::laws::bellman::bellman;
 use adp_model::laws::order::answer_is_unique;
 use adp_model::{Answer, Cell, Choice, Problem};
-use split_lines::{Lines, Scores, first_best_place, gives_best};
+use cell_answers::{Scores, first_best_place, gives_best};
+use split_lines::Lines;
 
 /// Whether the split has the score, at the best scores of its arguments' cells.
 fn has_score(

@@ -7,8 +7,9 @@ ghost use Rattle.seq_reference.specs.Sweeping.{AreGathered, AreRanked, AreSwept,
 use crate::rank_order::rules_by_rank;
 use adp_model::Cell;
 use adp_model::laws::demand::{demanded_cells_are_counted, demanded_children_are_below};
+use cell_demands::mark_children;
 use cell_tables::{Layout, Marks};
-use split_lines::{Lines, mark_children};
+use split_lines::Lines;
 use std::alloc::{AllocError, Global};
 
 /// Settles the marked cells of a span, by falling ranks.

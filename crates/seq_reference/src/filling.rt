@@ -1,7 +1,7 @@
 ghost use Rattle.std.specs.Prelude.{◌≡◌, ◌↔◌, ◌+◌, IfOk};
 ghost use Rattle.adp_model.specs.declared.cell.Cell.{Cell};
 ghost use Rattle.adp_model.specs.Demand.{IsDemanded};
-ghost use Rattle.split_lines.specs.Entries.{HasEntry};
+ghost use Rattle.cell_answers.specs.Entries.{HasEntry};
 ghost use Rattle.cell_tables.specs.Marks.{IsMarkedInRow};
 ghost use Rattle.seq_reference.specs.Sweeping.{AreRanked};
 ghost use Rattle.seq_reference.specs.Filling.{AreFilled, AreKept, IsFilledBefore, IsFromStart, IsShorterWithin, IsWithin};
@@ -9,8 +9,9 @@ ghost use Rattle.seq_reference.specs.Filling.{AreFilled, AreKept, IsFilledBefore
 use crate::rank_order::rules_by_rank;
 use adp_model::Cell;
 use adp_model::laws::demand::{demanded_cells_are_counted, demanded_children_are_below};
+use cell_answers::{Scores, cell_score};
 use cell_tables::{Layout, Marks};
-use split_lines::{Lines, Scores, cell_score};
+use split_lines::Lines;
 use std::alloc::{AllocError, Global};
 
 /// How many starts are filled together. Each end touches the columns of its rules once for all of them: with one start

@@ -2,14 +2,15 @@ ghost use Rattle.std.specs.Prelude.{◌≡◌, ◌↔◌, IfSome, IsSome, Some, 
 ghost use Rattle.adp_model.specs.declared.cell.Cell.{Cell};
 ghost use Rattle.adp_model.specs.Answers.{IsAnswer};
 ghost use Rattle.adp_model.specs.Demand.{IsDemanded, IsDemandedCount};
-ghost use Rattle.split_lines.specs.Entries.{HasEntry};
+ghost use Rattle.cell_answers.specs.Entries.{HasEntry};
 ghost use Rattle.cell_tables.specs.Marks.{IsMarkedInRow};
 
 use crate::answering::cell_answer;
 use adp_model::laws::demand::demanded_cells_are_counted;
 use adp_model::{Answer, Answers, Cell};
+use cell_answers::Scores;
 use cell_tables::Marks;
-use split_lines::{Lines, Scores};
+use split_lines::Lines;
 use std::marker::Model;
 
 /// The answers of a problem's demanded cells. Contracts see it as the problem.

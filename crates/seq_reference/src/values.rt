@@ -5,7 +5,7 @@ ghost use Rattle.adp_model.specs.Splits.{IsViable};
 ghost use Rattle.adp_model.specs.Bellman.{HasBestScore};
 ghost use Rattle.adp_model.specs.FirstSplit.{IsScoredSplit};
 ghost use Rattle.adp_model.specs.Demand.{IsDemandedChild};
-ghost use Rattle.split_lines.specs.Entries.{HasEntry};
+ghost use Rattle.cell_answers.specs.Entries.{HasEntry};
 
 use crate::parts::{arguments, term};
 use adp_model::laws::bounds::words_keep_their_score_bound;
@@ -13,7 +13,8 @@ use adp_model::laws::derivation::derived_trees_span_their_cell;
 use adp_model::laws::well_formed::arguments_are_few_and_known;
 use adp_model::{Cell, Choice, Problem};
 use algebra_terms::eval;
-use split_lines::{Lines, Scores, argument_value};
+use cell_answers::{Scores, argument_value};
+use split_lines::Lines;
 
 /// The score of a split at the best scores of its arguments' cells; `None` where one of these has no candidate.
 pub fn split_score(

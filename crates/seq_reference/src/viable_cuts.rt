@@ -2,11 +2,12 @@ ghost use Rattle.std.specs.Prelude.{◌≡◌, ℕ, ◌<◌, List, MatchOption, 
 ghost use Rattle.adp_model.specs.PosedProblem.{IsSpan};
 ghost use Rattle.adp_model.specs.Parts.{alternatives_of};
 ghost use Rattle.adp_model.specs.Splits.{IsViable};
-ghost use Rattle.split_lines.specs.FirstPlaces.{TellsCuts};
+ghost use Rattle.cell_answers.specs.FirstPlaces.{TellsCuts};
 ghost use Rattle.seq_reference.specs.Cuts.{HasNoCuts, IsFirstCuts, IsNextCuts, IsLastCuts};
 
 use adp_model::{Cell, Problem};
-use split_lines::{BoundaryPlace, Lines};
+use cell_answers::BoundaryPlace;
+use split_lines::Lines;
 use yield_sizes::Cuts;
 
 /// The first viable cuts of an alternative. Takes no memory.

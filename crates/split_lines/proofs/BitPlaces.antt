@@ -1,4 +1,4 @@
--- Places of a word told by bits: of all places of a list, and of those from the first of some to the last one.
+-- Positions of a word told by bits: of all of a list, and of those from the first of some to the last one.
 use Rattle.std.proofs.Common.{◌≡◌, ℕ, zero, suc, ◌+◌, ◌-◌, ◌*◌, ◌/◌, ◌%◌, ◌<◌, ◌≤◌, List, length, get_or, replicate, refl, sym, ap, subst, ⊎_elim, inr, ◌∙◌, arith}
 use Rattle.std.specs.Int.{bit_at}
 use Rattle.std.specs.List.{AllAdjacentBelow, Contains}
@@ -7,7 +7,7 @@ use Rattle.std.proofs.lemmas.Nat.Bits.{bit_at-zero}
 use Rattle.cell_tables.specs.Bits.{IsBitOf}
 use Rattle.cell_tables.specs.WordBits.{AreBitsSet, IsBitOfFar}
 use Rattle.split_lines.specs.Flags.{AreBits, AreBitsAmong}
-use Rattle.split_lines.proofs.WholeLines.{between_ends, first_stands, last_stands}
+use Rattle.split_lines.proofs.RisingPlaces.{between_ends, first_stands, last_stands}
 
 none_set : (count number : ℕ) → get_or (replicate {A = ℕ} count 0) number 0 ≡ 0
 none_set zero number = refl
@@ -61,62 +61,3 @@ module _ (all part : List ℕ) (shift : ℕ) (bits : List ℕ) (told : AreBits a
           let found = (told.exact (place + shift)).0 is.bit in
           let same : found.0 ≡ place = omega (arith, found.2) in
           whole (get_or part 0 0) place (get_or part (length part - 1) 0) (first_stands part has) (last_stands part has) (omega (arith, is.from_first)) (omega (arith, is.before)) (subst (Contains all) same found.1)
-
--- ---- the places of a boundary, moved
-
-module _ (places : List ℕ) (shift : ℕ) (bits : List ℕ) (told : AreBitsAmong places shift bits) (some : 0 < length places) where
-  abbrev first : ℕ
-  first = get_or places 0 0
-
-  abbrev last : ℕ
-  last = get_or places (length places - 1) 0
-
-  pub first_set : IsBitOf bits (first + shift) (last + shift + 1) (first + shift)
-  first_set = (told.exact some first).0 (first_stands places some)
-
-  pub last_set : IsBitOf bits (first + shift) (last + shift + 1) (last + shift)
-  last_set = (told.exact some last).0 (last_stands places some)
-
-  pub room_behind : last + shift + 1 ≤ 64 * length bits
-  room_behind = omega (arith, told.room last (last_stands places some))
-
-  -- the place of a bit
-  pub place_of_bit : (at : ℕ) → IsBitOf bits (first + shift) (last + shift + 1) at → (place : ℕ) × Contains places place × (at ≡ place + shift)
-  place_of_bit at is =
-      let same : at ≡ at - shift + shift = omega (arith, is.from_first) in
-      (at - shift, (told.exact some (at - shift)).1 (subst (IsBitOf bits (first + shift) (last + shift + 1)) same is), same)
-
-  pub bit_of_place : (place : ℕ) → Contains places place → IsBitOf bits (first + shift) (last + shift + 1) (place + shift)
-  bit_of_place place contains = (told.exact some place).0 contains
-
--- ---- the places of a boundary themselves
-
-module _ (places : List ℕ) (bits : List ℕ) (told : AreBitsAmong places 0 bits) (some : 0 < length places) where
-  abbrev IsHere : ℕ → Type 0
-  IsHere = IsBitOf bits (get_or places 0 0) (get_or places (length places - 1) 0 + 1)
-
-  here : (at : ℕ) → IsBitOf bits (get_or places 0 0 + 0) (get_or places (length places - 1) 0 + 0 + 1) at → IsHere at
-  here at is = record { from_first = omega (arith, is.from_first); before = omega (arith, is.before); bit = is.bit }
-
-  moved : (at : ℕ) → IsHere at → IsBitOf bits (get_or places 0 0 + 0) (get_or places (length places - 1) 0 + 0 + 1) at
-  moved at is = record { from_first = omega (arith, is.from_first); before = omega (arith, is.before); bit = is.bit }
-
-  pub here_of_place : (place : ℕ) → Contains places place → IsHere place
-  here_of_place place contains =
-      let same : place + 0 ≡ place = omega arith in
-      subst IsHere same (here (place + 0) (bit_of_place places 0 bits told some place contains))
-
-  pub place_here : (at : ℕ) → IsHere at → Contains places at
-  place_here at is =
-      let found = place_of_bit places 0 bits told some at (moved at is) in
-      let same : found.0 ≡ at = omega (arith, found.2) in
-      subst (Contains places) same found.1
-
-  pub first_here : IsHere (get_or places 0 0)
-  first_here = here_of_place (get_or places 0 0) (first_stands places some)
-
-  pub last_here : IsHere (get_or places (length places - 1) 0)
-  last_here = here_of_place (get_or places (length places - 1) 0) (last_stands places some)
-
-  pub room_here : get_or places (length places - 1) 0 + 1 ≤ 64 * length bits
-  room_here = omega (arith, told.room (get_or places (length places - 1) 0) (last_stands places some))

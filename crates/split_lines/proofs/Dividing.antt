@@ -1,5 +1,5 @@
 -- Lists of arguments and their first one; what arguments cover.
-use Rattle.std.proofs.Common.{◌≡◌, ℕ, suc, ◌-◌, ◌<◌, ◌≤◌, List, [], ◌∷◌, length, take, drop, get_or, sym, ap, ◌∙◌, arith}
+use Rattle.std.proofs.Common.{◌≡◌, ℕ, suc, ◌-◌, ◌<◌, ◌≤◌, List, [], ◌∷◌, ◌++◌, refl, length, take, drop, get_or, sym, ap, ◌∙◌, arith}
 use Rattle.std.proofs.lemmas.List.{take_all}
 use Rattle.adp_model.specs.declared.grammar.Arg.{Arg}
 use Rattle.adp_model.specs.PosedProblem.{PosedProblem}
@@ -19,3 +19,10 @@ cover_forward p (argument ∷ arguments) from to h =
     let first = h.1.0.in_order in
     let others = cover_forward p arguments h.0 to h.2 in
     omega arith
+
+module _ (p : PosedProblem) where
+  pub cover_parts : (front back : List Arg) (from to : ℕ) → Cover p (front ++ back) from to → (middle : ℕ) × Cover p front from middle × Cover p back middle to
+  cover_parts [] back from to cover = (from, refl, cover)
+  cover_parts (argument ∷ front) back from to (end, fits, cover) =
+      let parts = cover_parts front back end to cover in
+      (parts.0, (end, fits, parts.1), parts.2)

@@ -9,7 +9,7 @@ use Rattle.yield_sizes.specs.Placing.{AreEnds}
 use Rattle.split_lines.specs.declared.extents.Extent.{Extent}
 use Rattle.split_lines.specs.Begins.{AreStarts}
 use Rattle.split_lines.specs.Extents.{AreOfClass, IsExtent}
-use Rattle.split_lines.proofs.Tokens.{length-letters_between}
+use Rattle.split_lines.proofs.TokenSpans.{length-letters_between}
 
 -- a length keeps two bounds exactly where it keeps those of the extent
 abbrev pub KeepsExtent : ℕ → Option ℕ → Extent → Type 0

@@ -4,12 +4,12 @@ use Rattle.std.specs.List.{AllAdjacentBelow, Contains}
 use Rattle.std.proofs.lemmas.Int.{ints}
 use Rattle.std.proofs.lemmas.List.{length-replicate}
 use Rattle.std.proofs.lemmas.Option.{slice_get_within, slice_get-get_or}
-use Rattle.split_lines.specs.Packing.{short}
-use Rattle.split_lines.specs.Limits.{no_limit, AreLimits, IsUnlimited, AreLimited}
+use Rattle.score_numbers.specs.Packing.{short}
+use Rattle.score_numbers.specs.Limits.{no_limit, AreLimits, IsUnlimited, AreLimited}
 use Rattle.cell_tables.specs.Spans.{AreSet}
 use Rattle.split_lines.specs.Matching.{AreLimitsOf}
 use Rattle.split_lines.proofs.Lists.{contained_or_not, slice_get-take, slice_get-drop}
-use Rattle.split_lines.proofs.WholeLines.{between_ends, first_stands, last_stands}
+use Rattle.split_lines.proofs.RisingPlaces.{between_ends, first_stands, last_stands}
 
 -- ---- the places of a list
 

@@ -1,8 +1,7 @@
 -- Elements of a list and of a part of it.
-use Rattle.std.proofs.Common.{◌≡◌, ◌⊎◌, ℕ, zero, suc, ◌+◌, ◌-◌, ◌<◌, List, [], ◌∷◌, length, get_or, take, drop, slice_get, inl, inr, sym, ap, refl, ◌∙◌, arith}
-use Rattle.std.specs.List.{Contains}
+use Rattle.std.proofs.Common.{◌≡◌, ◌⊎◌, ℕ, zero, suc, ◌+◌, ◌-◌, ◌<◌, List, [], ◌∷◌, ◌++◌, length, get_or, take, drop, slice_get, inl, inr, sym, ap, refl, ◌∙◌, arith}
+use Rattle.std.specs.List.{AllByRecursion, Contains}
 use Rattle.std.proofs.lemmas.Bool.{cases_eq}
-use Rattle.std.proofs.Math.Seq.{take_all}
 
 pub contained_or_not : (xs : List ℕ) (x : ℕ) → Contains xs x ⊎ (Contains xs x → ⊥)
 contained_or_not [] x = inr (λ (k, l, e). absurd (omega arith))
@@ -31,15 +30,14 @@ slice_get-take (suc n) k [] l = refl
 slice_get-take (suc n) zero (x ∷ xs) l = refl
 slice_get-take (suc n) (suc k) (x ∷ xs) l = slice_get-take n k xs (omega arith)
 
--- a list that is not empty begins with its first element
-pub split_at_first : {V : Type 0} (xs : List V) (first : V) → 0 < length xs → first ≡ get_or xs 0 first → xs ≡ first ∷ take (length xs - 1) (drop 1 xs)
-split_at_first [] first l e = absurd (omega arith)
-split_at_first (x ∷ xs) first l e =
-    let all : take (suc (length xs) - 1) xs ≡ xs = take_all (suc (length xs) - 1) xs (omega arith) in
-    λ k. sym e k ∷ sym all k
+pub all_front : {X : Type 0} (P : X → Type 0) (xs ys : List X) → AllByRecursion P (xs ++ ys) → AllByRecursion P xs
+all_front P [] ys all = tt
+all_front P (x ∷ xs) ys all = (all.0, all_front P xs ys all.1)
 
--- a list of one element
-pub one_alone : {V : Type 0} (xs : List V) (first : V) → length xs ≡ 1 → first ≡ get_or xs 0 first → xs ≡ first ∷ []
-one_alone [] first l e = absurd cc
-one_alone (x ∷ []) first l e = ap (λ it. it ∷ []) (sym e)
-one_alone (x ∷ y ∷ xs) first l e = absurd (omega (arith, l))
+pub all_back : {X : Type 0} (P : X → Type 0) (xs ys : List X) → AllByRecursion P (xs ++ ys) → AllByRecursion P ys
+all_back P [] ys all = all
+all_back P (x ∷ xs) ys all = all_back P xs ys all.1
+
+pub empty_without : {X : Type 0} (xs : List X) → length xs ≡ 0 → xs ≡ []
+empty_without [] l = refl
+empty_without (x ∷ xs) l = absurd (omega arith)

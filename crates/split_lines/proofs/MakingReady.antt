@@ -10,14 +10,12 @@ use Rattle.adp_model.specs.Parts.{algebra_of, arguments_of, term_of}
 use Rattle.adp_model.specs.WellFormed.{IsKnown}
 use Rattle.yield_sizes.specs.Placing.{Cover}
 use Rattle.split_lines.specs.declared.kept.KeptAlternative.{KeptAlternative}
-use Rattle.split_lines.specs.ArgumentEntries.{AreWorthless}
+use Rattle.score_numbers.specs.Worthless.{AreWorthless}
 use Rattle.split_lines.specs.Kept.{AreOneLetter, AreOneOfClass, BeginWith, IsAlternative}
 use Rattle.split_lines.specs.Laid.{IsFixed}
 use Rattle.split_lines.specs.Matching.{HaveLetters}
-use Rattle.split_lines.specs.Totals.{turned}
-use Rattle.split_lines.proofs.FrontPlaces.{all_front, all_back}
-use Rattle.split_lines.proofs.Lists.{slice_get-drop}
-use Rattle.split_lines.proofs.OneEnds.{empty_without}
+use Rattle.score_numbers.specs.Turned.{turned}
+use Rattle.split_lines.proofs.Lists.{all_front, all_back, slice_get-drop, empty_without}
 
 -- ---- the first letter
 

@@ -8,7 +8,7 @@ use Rattle.yield_sizes.specs.Placing.{Cover, CoverNone, IsNextPlace}
 use Rattle.split_lines.specs.declared.matches.Matches.{Matches}
 use Rattle.split_lines.specs.Matching.{AreMatches}
 use Rattle.split_lines.specs.Lines.{HasLine, parts_by}
-use Rattle.split_lines.proofs.LineDemands.{cover_parts}
+use Rattle.split_lines.proofs.Dividing.{cover_parts}
 use Rattle.split_lines.proofs.LineFacts.{parts_join}
 use Rattle.split_lines.proofs.MatchLists.{AreRising}
 

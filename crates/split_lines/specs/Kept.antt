@@ -7,10 +7,10 @@ use Rattle.adp_model.specs.PosedProblem.{PosedProblem}
 use Rattle.adp_model.specs.Parts.{algebra_of, arguments_of, term_of}
 use Rattle.adp_model.specs.WellFormed.{IsKnown}
 use Rattle.split_lines.specs.declared.kept.KeptAlternative.{KeptAlternative}
-use Rattle.split_lines.specs.ArgumentEntries.{AreWorthless}
+use Rattle.score_numbers.specs.Worthless.{AreWorthless}
 use Rattle.split_lines.specs.Laid.{IsFixed}
 use Rattle.split_lines.specs.Matching.{HaveLetters}
-use Rattle.split_lines.specs.Totals.{turned}
+use Rattle.score_numbers.specs.Turned.{turned}
 
 -- the first of the tokens is a literal that begins with this letter
 pub record BeginWith (tokens : List Arg) (letter : ℕ) : Type 0 where

@@ -6,7 +6,7 @@ use Rattle.adp_model.specs.declared.grammar.Arg.TheVariants.{Rule, Literal, Lett
 use Rattle.adp_model.specs.PosedProblem.{PosedProblem}
 use Rattle.yield_sizes.specs.Placing.{Cover}
 use Rattle.split_lines.specs.Flags.{AreBits}
-use Rattle.split_lines.specs.Limits.{no_limit, AreLimits}
+use Rattle.score_numbers.specs.Limits.{no_limit, AreLimits}
 use Rattle.split_lines.specs.declared.matches.Matches.{Matches}
 
 -- how many letters a token of fixed length has

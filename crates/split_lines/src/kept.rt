@@ -10,14 +10,14 @@ ghost use Rattle.yield_sizes.specs.Placing.{Cover};
 ghost use Rattle.split_lines.specs.Laid.{IsFixed};
 ghost use Rattle.split_lines.specs.Kept.{AreInFront, AreOneLetter, AreOneOfClass, BeginWith, IsAlternative, factors_behind};
 
-use crate::along::are_worthless;
 use crate::classes::ClassTables;
-use crate::lines::{KeptLine, is_fixed};
+use crate::lines::KeptLine;
 use crate::matches::{covers, fixed_letters};
-use crate::numbers::{turned, turned_factors};
 use crate::parts::{arguments, goal, letters, term};
+use crate::tokens::is_fixed;
 use adp_model::laws::well_formed::arguments_are_few_and_known;
 use adp_model::{Arg, Problem};
+use score_numbers::{are_worthless, turned, turned_factors};
 use yield_sizes::Matcher;
 
 /// An alternative as it is kept: most spans are refused by the tokens before its first argument of open length.

@@ -17,7 +17,7 @@ ghost use Rattle.split_lines.specs.Kept.{AreInFront, IsAlternative};
 ghost use Rattle.split_lines.specs.Laid.{IsFixed, AreBoundaries};
 ghost use Rattle.split_lines.specs.Classes.{AreSums};
 ghost use Rattle.split_lines.specs.Flags.{AreBitsAmong};
-ghost use Rattle.split_lines.specs.Limits.{AreLimited};
+ghost use Rattle.score_numbers.specs.Limits.{AreLimited};
 ghost use Rattle.split_lines.specs.Lines.{IsLine, IsLastOpen, HasLine, LeavesPlace, parts_by};
 ghost use Rattle.split_lines.specs.LinesFields.{AreMiddles, HasAllOf, IsNumberOf, IsKeptOrNone, AreKept};
 
@@ -27,6 +27,7 @@ use crate::kept::{KeptAlternative, front_end, kept_alternative};
 use crate::matches::{Matches, covers, fixed_letters};
 use crate::parts::{alternatives, arguments};
 use crate::spans;
+use crate::tokens::is_fixed;
 use adp_model::laws::well_formed::arguments_are_few_and_known;
 use adp_model::{Arg, Cell, Problem};
 use std::alloc::{AllocError, Global};
@@ -84,17 +85,6 @@ pub struct KeptLine {
     pub before: Extent,
     pub behind: Extent,
     pub middle: usize,
-}
-
-/// Whether the argument is a token of fixed length.
-#[inline(always)]
-pub fn is_fixed(argument: &Arg) -> bool
-    ensures { IsTrue result ↔ IsFixed argument.now }
-{
-    match argument {
-        Arg::Literal(_) | Arg::Letter(_) => true,
-        Arg::Rule(_) | Arg::Run { .. } => false,
-    }
 }
 
 /// The number of the last argument of open length.
@@ -319,7 +309,7 @@ impl<'a> Lines<'a> {
 
     /// The alternatives of a rule, as they are kept. Takes constant time and no memory.
     #[inline]
-    pub(crate) fn alternatives(&self, rule: u32) -> &[KeptAlternative<'a>]
+    pub fn alternatives(&self, rule: u32) -> &[KeptAlternative<'a>]
         requires { rule < length self.now.grammar.rules }
         ensures each { length result.now ≡ length (alternatives_of self.now.grammar rule) }
         ensures are { (alternative : ℕ) (d : KeptAlternative) → alternative < length result.now
@@ -332,7 +322,7 @@ impl<'a> Lines<'a> {
     /// Where the tokens in front of an alternative end that begin at `from`, where they match there and end at `to` or
     /// before. Takes constant time, but for the letters of literals, and no memory.
     #[inline(always)]
-    pub(crate) fn front_end(
+    pub fn front_end(
         &self,
         alternative: &KeptAlternative<'_>,
         from: u16,
@@ -349,7 +339,7 @@ impl<'a> Lines<'a> {
 
     /// The line of an alternative, with the number of its first argument among those behind the tokens in front. Takes
     /// constant time and no memory.
-    pub(crate) fn line_behind(
+    pub fn line_behind(
         &self,
         alternative: &KeptAlternative<'_>,
         rule: u32,
@@ -428,7 +418,7 @@ impl<'a> Lines<'a> {
 
     /// Where a token of fixed length that begins at `from` ends, where it matches there and ends at `last` or before.
     /// Takes constant time, but for the letters of a literal, and no memory.
-    pub(crate) fn token_end(&self, token: &Arg, from: u16, last: u16) -> Option<u16>
+    pub fn token_end(&self, token: &Arg, from: u16, last: u16) -> Option<u16>
         requires known { IsKnown self.now.grammar token.now }
         requires fixed { IsFixed token.now }
         requires span { IsSpan self.now.word from last }
@@ -443,7 +433,7 @@ impl<'a> Lines<'a> {
     /// Whether an argument may have the letters from `from` to `to`. Takes constant time, but for the letters of a
     /// literal, and no memory.
     #[inline(always)]
-    pub(crate) fn fits(&self, argument: &Arg, from: u16, to: u16) -> bool
+    pub fn fits(&self, argument: &Arg, from: u16, to: u16) -> bool
         requires known { IsKnown self.now.grammar argument.now }
         requires span { IsSpan self.now.word from to }
         ensures { IsTrue result ↔ FitsSpan self.now (on_span argument.now from to) }

@@ -7,15 +7,16 @@ ghost use Rattle.adp_model.specs.WellFormed.{IsKnown};
 ghost use Rattle.yield_sizes.specs.Placing.{Cover};
 ghost use Rattle.split_lines.specs.Laid.{IsFixed};
 ghost use Rattle.split_lines.specs.Flags.{AreBits};
-ghost use Rattle.split_lines.specs.Limits.{AreLimited};
+ghost use Rattle.score_numbers.specs.Limits.{AreLimited};
 ghost use Rattle.split_lines.specs.Matching.{fixed_length, HaveLetters, AreCounts, AreLimitsOf, AreMatches};
 
 use crate::classes::ClassTables;
-use crate::packing::{NO_LIMIT, SHORT_MARK};
 use crate::parts::letters;
 use crate::spans::token_end;
+use crate::tokens::fixed_length;
 use adp_model::{Arg, Problem};
 use cell_tables::{WORD, set_each, set_places};
+use score_numbers::{NO_LIMIT, SHORT_MARK};
 use std::alloc::{AllocError, Global};
 
 /// The places of a word at which some tokens of fixed length (literals and letters) match one behind the other, in
@@ -32,17 +33,6 @@ pub struct Matches {
     pub here: Vec<u64>,
     /// Bits of the places behind their letters.
     pub behind: Vec<u64>,
-}
-
-/// How many letters a token of fixed length has.
-pub fn fixed_length(token: &Arg) -> usize
-    ensures { result ≡ fixed_length token.now }
-{
-    match token {
-        Arg::Literal(text) => text.bytes().len(),
-        Arg::Letter(_) => 1,
-        Arg::Rule(_) | Arg::Run { .. } => 0,
-    }
 }
 
 /// How many letters tokens of fixed length have, or one more than the word has, where they have more than that.

@@ -3,7 +3,7 @@ use Rattle.std.specs.Prelude.{MatchOption}
 use Rattle.std.proofs.lemmas.Int.{to_z-of_z}
 use Rattle.std.proofs.lemmas.Bool.{false≢true}
 use Rattle.adp_model.specs.PosedProblem.{PosedProblem}
-use Rattle.split_lines.specs.FirstPlaces.{IsFirstPlace, TellsCuts}
+use Rattle.cell_answers.specs.FirstPlaces.{IsFirstPlace, TellsCuts}
 use Rattle.seq_reference.specs.Cuts.{HasNoneScored, IsFirstScored}
 use Rattle.seq_reference.proofs.Turns.{first_scored_there}
 use Rattle.seq_reference.proofs.answering.first_best.Goals as goal

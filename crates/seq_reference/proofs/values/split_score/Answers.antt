@@ -19,7 +19,7 @@ use Rattle.adp_model.specs.Bounds.{IsScoreBound}
 use Rattle.adp_model.specs.ProblemFields.{IsAdmissible, most_letters, greatest_score}
 use Rattle.adp_model.specs.Splits.{placed, FitsSpan, IsViable}
 use Rattle.adp_model.specs.Tokens.{letters_between, token_value}
-use Rattle.split_lines.specs.Entries.{HasEntry}
+use Rattle.cell_answers.specs.Entries.{HasEntry}
 use Rattle.seq_reference.proofs.Formed.{Fits, fits}
 use Rattle.seq_reference.proofs.Rooted.{split_magnitude}
 use Rattle.seq_reference.proofs.Placing.{on_span}

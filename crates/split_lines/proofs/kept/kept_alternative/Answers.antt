@@ -7,7 +7,7 @@ use Rattle.adp_model.specs.declared.grammar.Linear.{Linear}
 use Rattle.adp_model.specs.Parts.{algebra_of, term_of}
 use Rattle.std.specs.Bool.{OnTrue}
 use Rattle.split_lines.specs.Kept.{AreOneLetter}
-use Rattle.split_lines.specs.Totals.{turned}
+use Rattle.score_numbers.specs.Turned.{turned}
 use Rattle.split_lines.proofs.Formed.{Fits, fits, IsLowTerm, alternative_term_low}
 use Rattle.split_lines.proofs.MakingReady.{alternative_kept}
 use Rattle.split_lines.proofs.kept.kept_alternative.Goals as goal

@@ -6,7 +6,8 @@ use Rattle.adp_model.specs.WellFormed.{IsKnown}
 use Rattle.yield_sizes.specs.Placing.{Cover}
 use Rattle.split_lines.specs.Laid.{IsFixed}
 use Rattle.split_lines.proofs.Dividing.{split_at_first}
-use Rattle.split_lines.proofs.OneEnds.{IsEndTold, none_ends, one_ends, cover_nowhere, cover_from}
+use Rattle.split_lines.specs.Ends.{IsEndTold}
+use Rattle.split_lines.proofs.OneEnds.{none_ends, one_ends, cover_nowhere, cover_from}
 use Rattle.split_lines.proofs.matches.+covers.Goals as goal
 
 pub returns-in-None : goal.returns-in-None

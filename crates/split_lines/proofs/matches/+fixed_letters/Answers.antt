@@ -4,7 +4,7 @@ use Rattle.adp_model.specs.declared.grammar.Arg.{Arg}
 use Rattle.split_lines.specs.Laid.{IsFixed}
 use Rattle.split_lines.specs.Matching.{HaveLetters}
 use Rattle.split_lines.proofs.Dividing.{split_at_first}
-use Rattle.split_lines.proofs.Tokens.{more_letters}
+use Rattle.split_lines.proofs.TokenSpans.{more_letters}
 use Rattle.split_lines.proofs.matches.+fixed_letters.Goals as goal
 
 pub returns-clause-letters : goal.returns-clause-letters

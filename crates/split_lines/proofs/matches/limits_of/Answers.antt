@@ -1,7 +1,7 @@
 use Rattle.std.proofs.Common.{◌≡◌, ℤ, List, length, sym, subst, ap, ◌∙◌, arith}
 use Rattle.std.specs.Vec.{with_items}
 use Rattle.std.proofs.lemmas.List.{with_items_is, length-replicate}
-use Rattle.split_lines.specs.Packing.{short}
+use Rattle.score_numbers.specs.Packing.{short}
 use Rattle.split_lines.specs.Matching.{AreLimitsOf}
 use Rattle.split_lines.proofs.LimitLists.{limits_set}
 use Rattle.split_lines.proofs.matches.limits_of.Goals as goal

@@ -1,6 +1,6 @@
 use Rattle.std.proofs.Common.{ℕ, Option, Some, None, sym, subst, arith}
 use Rattle.adp_model.specs.PosedProblem.{PosedProblem}
-use Rattle.split_lines.proofs.Fronts.{IsFrontTold}
+use Rattle.split_lines.specs.Ends.{IsFrontTold}
 use Rattle.split_lines.proofs.lines.Lines.front_end.Goals as goal
 use Rattle.split_lines.proofs.lines.Lines.front_end.Goals.{In_ok-end}
 

@@ -1,5 +1,5 @@
 use Rattle.std.proofs.Common.{◌+◌, ◌-◌, ◌<◌, ◌≤◌, ℤ, List, length, take, drop, sym, subst, rules, arith}
-use Rattle.split_lines.specs.Limits.{AreLimited}
+use Rattle.score_numbers.specs.Limits.{AreLimited}
 use Rattle.split_lines.proofs.LimitLists.{first_before, last_within, limited_among}
 use Rattle.split_lines.proofs.matches.Matches.limits_among.Goals as goal
 use Rattle.split_lines.proofs.matches.Matches.limits_among.Goals.{After-row_known-in-Some-Some-1}

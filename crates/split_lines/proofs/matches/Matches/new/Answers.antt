@@ -8,7 +8,7 @@ use Rattle.yield_sizes.specs.Placing.{Cover}
 use Rattle.split_lines.specs.Flags.{AreBits}
 use Rattle.split_lines.specs.Matching.{HaveLetters, AreMatchPlaces, AreCounts, AreLimitsOf}
 use Rattle.split_lines.proofs.Matched.{no_counts, one_count_more, one_place_more, no_places, places_below, one_match_more, no_match_there}
-use Rattle.split_lines.proofs.Tokens.{cover_within}
+use Rattle.split_lines.proofs.TokenSpans.{cover_within}
 use Rattle.split_lines.proofs.matches.Matches.new.Goals as goal
 use Rattle.split_lines.proofs.matches.Matches.new.Goals.{then-end-len+then-covers+in_ok-push-2, else-end-len, else-end-len-via-then-end-len+else-covers, else-end-len-via-else-end-len}
 

@@ -1,0 +1,85 @@
+use Rattle.std.proofs.Common.{◌≤◌, ℤ, ◌+ℤ◌, Some, FitsSigned, w64, nat_abs, sym, subst, arith, rules}
+use Rattle.std.proofs.lemmas.Int.{to_z-of_z, fits_signed_from_abs}
+use Rattle.adp_model.specs.PosedProblem.{PosedProblem}
+use Rattle.adp_model.specs.ProblemFields.{greatest_score}
+use Rattle.adp_model.specs.Bellman.{HasBestScore}
+use Rattle.cell_answers.specs.Totals.{HasTotal}
+use Rattle.score_numbers.specs.Greatest.{IsGreatestOf}
+use Rattle.cell_answers.proofs.Bounding.{best_within}
+use Rattle.cell_answers.proofs.Scoring.{one_score}
+use Rattle.cell_answers.proofs.FirstEnds.{AreLaid, AreSound}
+use Rattle.cell_answers.proofs.OpenedLines.{opened_whole, opened_stands, opened_holds}
+use Rattle.cell_answers.proofs.WholeLines.{IsWhole, tail_weighted, tail_covers, tail_low, none_without_front, greatest_whole, whole_low}
+use Rattle.cell_answers.proofs.along.greatest_along.Goals as goal
+use Rattle.cell_answers.proofs.along.greatest_along.Goals.{After-greatest_front}
+
+laid : (c : After-greatest_front) → AreLaid c.args.lines.now c.args.scores.now c.args.arguments.now c.args.factors.now c.args.from c.args.to
+laid c = record { weighted = c.requires.weighted; span = c.requires.span; scored = c.requires.scored; low = c.requires.low }
+
+whole : (c : After-greatest_front) → IsWhole c.args.lines.now c.args.scores.now c.in_ok-opened.opened.arguments c.in_ok-opened.opened.from c.args.to c.in_ok-opened.opened.boundary
+whole c = opened_whole c.args.lines.now c.args.scores.now c.args.arguments.now c.args.factors.now c.args.from c.args.to (laid c) c.in_ok-opened.opened c.in_ok-opened.ensures
+
+pub fixed_total-requires-clause-weighted : goal.fixed_total-requires-clause-weighted
+fixed_total-requires-clause-weighted c =
+    let at = (goal.at.fixed_total-requires-clause-weighted c).After-greatest_front in
+    let line = c.in_ok-opened.opened in
+    tail_weighted c.args.lines.now c.args.scores.now line.arguments line.from c.args.to line.boundary (whole at)
+
+pub fixed_total-requires-clause-covers : goal.fixed_total-requires-clause-covers
+fixed_total-requires-clause-covers c =
+    let at = (goal.at.fixed_total-requires-clause-covers c).After-greatest_front in
+    let line = c.in_ok-opened.opened in
+    tail_covers c.args.lines.now c.args.scores.now line.arguments line.from c.args.to line.boundary (whole at) _
+    (opened_stands c.args.lines.now c.args.scores.now c.args.arguments.now c.args.factors.now c.args.from c.args.to (laid at) line c.in_ok-opened.ensures)
+
+pub fixed_total-requires-clause-low : goal.fixed_total-requires-clause-low
+fixed_total-requires-clause-low c =
+    let at = (goal.at.fixed_total-requires-clause-low c).After-greatest_front in
+    let line = c.in_ok-opened.opened in
+    tail_low c.args.lines.now c.args.scores.now line.arguments line.from c.args.to line.boundary (whole at) _
+    (opened_stands c.args.lines.now c.args.scores.now c.args.arguments.now c.args.factors.now c.args.from c.args.to (laid at) line c.in_ok-opened.ensures)
+
+pub returns-in_err-front : goal.returns-in_err-front
+returns-in_err-front c =
+    let at = (goal.at.returns-in_err-front c).After-greatest_front in
+    let p = c.args.lines.now in
+    let line = c.in_ok-opened.opened in
+    subst (IsGreatestOf (HasTotal p (HasBestScore p) c.args.arguments.now c.args.factors.now c.args.from c.args.to)) (sym c.from_residual-in_err-front.ensures)
+    (opened_holds p c.args.scores.now c.args.arguments.now c.args.factors.now c.args.from c.args.to (laid at) line c.in_ok-opened.ensures
+    (λ arguments factors from. (total : ℤ) → HasTotal p (HasBestScore p) arguments factors from c.args.to total → ⊥)
+    (none_without_front p c.args.scores.now line.arguments line.from c.args.to line.boundary (whole at) c.in_err-front.ensures))
+
+sound : (c : After-greatest_front) → AreSound c.args.lines.now
+sound c =
+    let S : PosedProblem → Type 0 = AreSound in
+    subst S c.problem.ensures (record {
+      within = best_within c.problem.result.now c.admissible.ensures (c.bounds_are_sound.ensures.score c.problem.result.now);
+      one = one_score c.problem.result.now (λ cell a b. c.answer_is_unique.ensures c.problem.result.now cell a b c.admissible.ensures.checked.well_formed);
+    })
+
+fits_below : (z : ℤ) → nat_abs z ≤ greatest_score → FitsSigned w64 z
+fits_below z below = fits_signed_from_abs w64 z (omega arith)
+
+pub overflow_add-result : goal.overflow_add-result
+overflow_add-result c =
+    let at = (goal.at.overflow_add-result c).After-greatest_front in
+    let line = c.in_ok-opened.opened in
+    let low = whole_low c.args.lines.now c.args.scores.now line.arguments line.from c.args.to line.boundary (whole at) (sound at) c.in_ok-front.front c.fixed_total.result c.in_ok-front.ensures.0 c.fixed_total.ensures in
+    let fits_front : FitsSigned w64 c.in_ok-front.front = search rules in
+    let fits_tail : FitsSigned w64 c.fixed_total.result = search rules in
+    simp to_z-of_z (fits_below (c.in_ok-front.front +ℤ c.fixed_total.result) low)
+
+pub returns : goal.returns
+returns c =
+    let at = (goal.at.returns c).After-greatest_front in
+    let p = c.args.lines.now in
+    let line = c.in_ok-opened.opened in
+    let low = whole_low p c.args.scores.now line.arguments line.from c.args.to line.boundary (whole at) (sound at) c.in_ok-front.front c.fixed_total.result c.in_ok-front.ensures.0 c.fixed_total.ensures in
+    let fits_front : FitsSigned w64 c.in_ok-front.front = search rules in
+    let fits_tail : FitsSigned w64 c.fixed_total.result = search rules in
+    let fits_sum : FitsSigned w64 (c.in_ok-front.front +ℤ c.fixed_total.result) = fits_below (c.in_ok-front.front +ℤ c.fixed_total.result) low in
+    let found : IsGreatestOf (HasTotal p (HasBestScore p) c.args.arguments.now c.args.factors.now c.args.from c.args.to) (Some (c.in_ok-front.front +ℤ c.fixed_total.result)) =
+    opened_holds p c.args.scores.now c.args.arguments.now c.args.factors.now c.args.from c.args.to (laid at) line c.in_ok-opened.ensures
+    (λ arguments factors from. IsGreatestOf (HasTotal p (HasBestScore p) arguments factors from c.args.to) (Some (c.in_ok-front.front +ℤ c.fixed_total.result)))
+    (greatest_whole p c.args.scores.now line.arguments line.from c.args.to line.boundary (whole at) c.in_ok-front.front c.fixed_total.result c.in_ok-front.ensures c.fixed_total.ensures) in
+    simp to_z-of_z found

@@ -1,0 +1,171 @@
+use Rattle.std.proofs.Common.{◌≡◌, ◌+◌, ◌<◌, ◌≤◌, ℤ, ◌+ℤ◌, ◌*ℤ◌, Some, FitsSigned, w64, nat_abs, subst, arith, rules}
+use Rattle.std.proofs.lemmas.Int.{to_z-of_z, fits_signed_from_abs}
+use Rattle.adp_model.specs.PosedProblem.{PosedProblem}
+use Rattle.adp_model.specs.ProblemFields.{greatest_score}
+use Rattle.adp_model.specs.Bellman.{HasBestScore}
+use Rattle.adp_model.specs.FirstSplit.{IsValue}
+use Rattle.yield_sizes.specs.Placing.{on_span}
+use Rattle.cell_answers.specs.Through.{HasTotalThrough}
+use Rattle.cell_answers.specs.Totals.{HasTotal}
+use Rattle.score_numbers.specs.Greatest.{IsGreatestOf}
+use Rattle.cell_answers.proofs.Bounding.{best_within}
+use Rattle.cell_answers.proofs.Scoring.{one_score}
+use Rattle.cell_answers.proofs.FirstEnds.{AreSound}
+use Rattle.cell_answers.proofs.FrontPlaces.{first_fits, middle_weighted, middle_low, second_known, second_fits, first_token_low, second_token_low, through_parts_low, greatest_here, one_here, sums_low}
+use Rattle.cell_answers.proofs.along.total_through.Goals as goal
+use Rattle.cell_answers.proofs.along.total_through.Goals.{After-answer_is_unique}
+
+sound : (c : After-answer_is_unique) → AreSound c.args.lines.now
+sound c =
+    let S : PosedProblem → Type 0 = AreSound in
+    subst S c.problem.ensures (record {
+      within = best_within c.problem.result.now c.admissible.ensures (c.bounds_are_sound.ensures.score c.problem.result.now);
+      one = one_score c.problem.result.now (λ at a b. c.answer_is_unique.ensures c.problem.result.now at a b c.admissible.ensures.checked.well_formed);
+    })
+
+pub overflow_add-behind : goal.overflow_add-behind
+overflow_add-behind c =
+    let fits = second_fits c.args.lines.now c.args.line.now c.requires.opened c.args.place c.requires.stands in
+    let last : c.args.line.now.boundary.last < 65536 = search rules in
+    omega (arith, fits.0.in_order)
+
+pub value_among-requires-clause-fits : goal.value_among-requires-clause-fits
+value_among-requires-clause-fits c =
+    first_fits c.args.lines.now c.args.line.now c.requires.opened _ c.requires.stands
+
+pub value_among-requires-clause-low : goal.value_among-requires-clause-low
+value_among-requires-clause-low c =
+    first_token_low c.args.lines.now c.args.line.now c.requires.opened _ c.requires.stands
+
+pub value_among-requires-clause-there : goal.value_among-requires-clause-there
+value_among-requires-clause-there c = c.requires.opened.row _ c.requires.stands
+
+pub returns-in_default-clause-greatest : goal.returns-in_default-clause-greatest
+returns-in_default-clause-greatest c = λ number it. c.in_default.ensures it.value it.is_value
+
+pub value_among-requires-2-clause-known : goal.value_among-requires-2-clause-known
+value_among-requires-2-clause-known c =
+    second_known c.args.lines.now c.args.line.now c.requires.opened
+
+pub value_among-requires-2-clause-fits : goal.value_among-requires-2-clause-fits
+value_among-requires-2-clause-fits c =
+    second_fits c.args.lines.now c.args.line.now c.requires.opened _ c.requires.stands
+
+pub value_among-requires-2-clause-low : goal.value_among-requires-2-clause-low
+value_among-requires-2-clause-low c =
+    second_token_low c.args.lines.now c.args.line.now c.requires.opened _ c.requires.stands
+
+pub value_among-requires-2-clause-there : goal.value_among-requires-2-clause-there
+value_among-requires-2-clause-there c = c.requires.opened.column _ c.requires.stands
+
+pub returns-in_default-value_among-clause-greatest : goal.returns-in_default-value_among-clause-greatest
+returns-in_default-value_among-clause-greatest c = λ number it. c.in_default-value_among.ensures it.other it.is_other
+
+pub between_total-between-requires-clause-weighted : goal.between_total-between-requires-clause-weighted
+between_total-between-requires-clause-weighted c =
+    middle_weighted c.args.lines.now c.args.line.now c.requires.opened
+
+pub between_total-between-requires-clause-low : goal.between_total-between-requires-clause-low
+between_total-between-requires-clause-low c =
+    middle_low c.args.lines.now c.args.line.now c.requires.opened _ c.requires.stands
+
+fits_below : (z : ℤ) → nat_abs z ≤ greatest_score → FitsSigned w64 z
+fits_below z below = fits_signed_from_abs w64 z (omega arith)
+
+-- the numbers that are added up are low together
+parts : (c : After-answer_is_unique) → (first between second : ℤ)
+    → IsValue c.args.lines.now (HasBestScore c.args.lines.now) (on_span c.args.line.now.arguments.first.now c.args.line.now.from c.args.place) first
+    → HasTotal c.args.lines.now (HasBestScore c.args.lines.now) c.args.line.now.arguments.middle.now c.args.line.now.arguments.middle_factors.now c.args.place (c.args.place + c.args.line.now.boundary.letters) between
+    → IsValue c.args.lines.now (HasBestScore c.args.lines.now) (on_span c.args.line.now.arguments.second.now (c.args.place + c.args.line.now.boundary.letters) c.args.line.now.boundary.last) second
+    → (nat_abs (c.args.line.now.arguments.first_factor *ℤ first) ≤ greatest_score) × (nat_abs ((c.args.line.now.arguments.first_factor *ℤ first) +ℤ between) ≤ greatest_score)
+    × (nat_abs (c.args.line.now.arguments.second_factor *ℤ second) ≤ greatest_score) × (nat_abs (((c.args.line.now.arguments.first_factor *ℤ first) +ℤ between) +ℤ (c.args.line.now.arguments.second_factor *ℤ second)) ≤ greatest_score)
+parts c first between second is_first has_between is_second =
+    sums_low (c.args.line.now.arguments.first_factor *ℤ first) between (c.args.line.now.arguments.second_factor *ℤ second)
+    (through_parts_low c.args.lines.now c.args.line.now c.requires.opened c.args.place c.requires.stands (sound c) first between second is_first has_between is_second)
+
+pub overflow_mul-result : goal.overflow_mul-result
+overflow_mul-result c =
+    let at = (goal.at.overflow_mul-result c).After-answer_is_unique in
+    let it = parts at c.in-Some.first c.between_total-between.result c.in-Some-value_among.second c.in-Some.ensures c.between_total-between.ensures c.in-Some-value_among.ensures in
+    let fits_factor : FitsSigned w64 c.args.line.now.arguments.first_factor = search rules in
+    let fits_value : FitsSigned w64 c.in-Some.first = search rules in
+    simp to_z-of_z (fits_below (c.args.line.now.arguments.first_factor *ℤ c.in-Some.first) it.0)
+
+pub overflow_add-result : goal.overflow_add-result
+overflow_add-result c =
+    let at = (goal.at.overflow_add-result c).After-answer_is_unique in
+    let it = parts at c.in-Some.first c.between_total-between.result c.in-Some-value_among.second c.in-Some.ensures c.between_total-between.ensures c.in-Some-value_among.ensures in
+    let fits_factor : FitsSigned w64 c.args.line.now.arguments.first_factor = search rules in
+    let fits_value : FitsSigned w64 c.in-Some.first = search rules in
+    let fits_between : FitsSigned w64 c.between_total-between.result = search rules in
+    let fits_product : FitsSigned w64 (c.args.line.now.arguments.first_factor *ℤ c.in-Some.first) = fits_below (c.args.line.now.arguments.first_factor *ℤ c.in-Some.first) it.0 in
+    simp to_z-of_z (fits_below ((c.args.line.now.arguments.first_factor *ℤ c.in-Some.first) +ℤ c.between_total-between.result) it.1)
+
+pub overflow_mul-result-2 : goal.overflow_mul-result-2
+overflow_mul-result-2 c =
+    let at = (goal.at.overflow_mul-result-2 c).After-answer_is_unique in
+    let it = parts at c.in-Some.first c.between_total-between.result c.in-Some-value_among.second c.in-Some.ensures c.between_total-between.ensures c.in-Some-value_among.ensures in
+    let fits_factor : FitsSigned w64 c.args.line.now.arguments.second_factor = search rules in
+    let fits_value : FitsSigned w64 c.in-Some-value_among.second = search rules in
+    simp to_z-of_z (fits_below (c.args.line.now.arguments.second_factor *ℤ c.in-Some-value_among.second) it.2)
+
+pub overflow_add-result-2 : goal.overflow_add-result-2
+overflow_add-result-2 c =
+    let at = (goal.at.overflow_add-result-2 c).After-answer_is_unique in
+    let first = c.args.line.now.arguments.first_factor *ℤ c.in-Some.first in
+    let second = c.args.line.now.arguments.second_factor *ℤ c.in-Some-value_among.second in
+    let between = c.between_total-between.result in
+    let it = parts at c.in-Some.first between c.in-Some-value_among.second c.in-Some.ensures c.between_total-between.ensures c.in-Some-value_among.ensures in
+    let fits_first_factor : FitsSigned w64 c.args.line.now.arguments.first_factor = search rules in
+    let fits_first_value : FitsSigned w64 c.in-Some.first = search rules in
+    let fits_second_factor : FitsSigned w64 c.args.line.now.arguments.second_factor = search rules in
+    let fits_second_value : FitsSigned w64 c.in-Some-value_among.second = search rules in
+    let fits_between : FitsSigned w64 between = search rules in
+    let fits_first : FitsSigned w64 first = fits_below first it.0 in
+    let fits_sum : FitsSigned w64 (first +ℤ between) = fits_below (first +ℤ between) it.1 in
+    let fits_second : FitsSigned w64 second = fits_below second it.2 in
+    simp to_z-of_z (fits_below ((first +ℤ between) +ℤ second) it.3)
+
+pub returns-clause-greatest : goal.returns-clause-greatest
+returns-clause-greatest c =
+    let at = (goal.at.returns-clause-greatest c).After-answer_is_unique in
+    let first = c.args.line.now.arguments.first_factor *ℤ c.in-Some.first in
+    let second = c.args.line.now.arguments.second_factor *ℤ c.in-Some-value_among.second in
+    let between = c.between_total-between.result in
+    let it = parts at c.in-Some.first between c.in-Some-value_among.second c.in-Some.ensures c.between_total-between.ensures c.in-Some-value_among.ensures in
+    let fits_first_factor : FitsSigned w64 c.args.line.now.arguments.first_factor = search rules in
+    let fits_first_value : FitsSigned w64 c.in-Some.first = search rules in
+    let fits_second_factor : FitsSigned w64 c.args.line.now.arguments.second_factor = search rules in
+    let fits_second_value : FitsSigned w64 c.in-Some-value_among.second = search rules in
+    let fits_between : FitsSigned w64 between = search rules in
+    let fits_first : FitsSigned w64 first = fits_below first it.0 in
+    let fits_sum : FitsSigned w64 (first +ℤ between) = fits_below (first +ℤ between) it.1 in
+    let fits_second : FitsSigned w64 second = fits_below second it.2 in
+    let fits_total : FitsSigned w64 ((first +ℤ between) +ℤ second) = fits_below ((first +ℤ between) +ℤ second) it.3 in
+    let greatest : IsGreatestOf (HasTotalThrough c.args.lines.now (HasBestScore c.args.lines.now) c.args.line.now.arguments.first.now c.args.line.now.arguments.middle.now c.args.line.now.arguments.second.now c.args.line.now.arguments.first_factor c.args.line.now.arguments.middle_factors.now c.args.line.now.arguments.second_factor
+    c.args.line.now.from c.args.line.now.boundary.letters c.args.line.now.boundary.last c.args.place) (Some ((first +ℤ between) +ℤ second)) =
+    greatest_here c.args.lines.now c.args.line.now c.requires.opened c.args.place c.requires.stands (sound at)
+    c.in-Some.first between c.in-Some-value_among.second c.in-Some.ensures c.between_total-between.ensures c.in-Some-value_among.ensures in
+    simp to_z-of_z greatest
+
+pub returns-clause-only : goal.returns-clause-only
+returns-clause-only c =
+    let at = (goal.at.returns-clause-only c).After-answer_is_unique in
+    let first = c.args.line.now.arguments.first_factor *ℤ c.in-Some.first in
+    let second = c.args.line.now.arguments.second_factor *ℤ c.in-Some-value_among.second in
+    let between = c.between_total-between.result in
+    let it = parts at c.in-Some.first between c.in-Some-value_among.second c.in-Some.ensures c.between_total-between.ensures c.in-Some-value_among.ensures in
+    let fits_first_factor : FitsSigned w64 c.args.line.now.arguments.first_factor = search rules in
+    let fits_first_value : FitsSigned w64 c.in-Some.first = search rules in
+    let fits_second_factor : FitsSigned w64 c.args.line.now.arguments.second_factor = search rules in
+    let fits_second_value : FitsSigned w64 c.in-Some-value_among.second = search rules in
+    let fits_between : FitsSigned w64 between = search rules in
+    let fits_first : FitsSigned w64 first = fits_below first it.0 in
+    let fits_sum : FitsSigned w64 (first +ℤ between) = fits_below (first +ℤ between) it.1 in
+    let fits_second : FitsSigned w64 second = fits_below second it.2 in
+    let fits_total : FitsSigned w64 ((first +ℤ between) +ℤ second) = fits_below ((first +ℤ between) +ℤ second) it.3 in
+    let only : (other : ℤ) → HasTotalThrough c.args.lines.now (HasBestScore c.args.lines.now) c.args.line.now.arguments.first.now c.args.line.now.arguments.middle.now c.args.line.now.arguments.second.now c.args.line.now.arguments.first_factor c.args.line.now.arguments.middle_factors.now c.args.line.now.arguments.second_factor
+    c.args.line.now.from c.args.line.now.boundary.letters c.args.line.now.boundary.last c.args.place other → other ≡ ((first +ℤ between) +ℤ second) =
+    one_here c.args.lines.now c.args.line.now c.requires.opened c.args.place c.requires.stands (sound at)
+    c.in-Some.first between c.in-Some-value_among.second c.in-Some.ensures c.between_total-between.ensures c.in-Some-value_among.ensures in
+    simp to_z-of_z only

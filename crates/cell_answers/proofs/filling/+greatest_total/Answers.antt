@@ -1,0 +1,340 @@
+use Rattle.std.proofs.Common.{◌≡◌, ◌<◌, ◌≤◌, ◌⊎◌, ℕ, ℤ, ◌+ℤ◌, ◌*ℤ◌, Option, Some, None, List, [], ◌∷◌, length, drop, ap, FitsSigned, w64, nat_abs, sym, subst, arith, rules}
+use Rattle.std.specs.Option.{option_copied}
+use Rattle.std.specs.Prelude.{IfSome, ◌==◌, if◌then◌else◌}
+use Rattle.std.proofs.lemmas.Int.{to_z-of_z, fits_signed_from_abs}
+use Rattle.adp_model.specs.declared.grammar.Arg.{Arg}
+use Rattle.split_lines.specs.declared.lines.Line.{Line}
+use Rattle.split_lines.specs.Lines.{IsLine}
+use Rattle.adp_model.specs.PosedProblem.{PosedProblem}
+use Rattle.adp_model.specs.ProblemFields.{greatest_score}
+use Rattle.adp_model.specs.Splits.{FitsSpan}
+use Rattle.adp_model.specs.FirstSplit.{IsValue}
+use Rattle.adp_model.specs.Bellman.{HasBestScore}
+use Rattle.yield_sizes.specs.Placing.{on_span, ArePlaces, Cover}
+use Rattle.cell_answers.specs.Totals.{HasTotal}
+use Rattle.score_numbers.specs.Greatest.{IsGreatestOf}
+use Rattle.cell_answers.proofs.LineStarts.{line_now, line_later}
+use Rattle.cell_answers.proofs.Bounding.{best_within}
+use Rattle.cell_answers.proofs.Scoring.{one_score}
+use Rattle.cell_answers.proofs.FirstEnds.{AreLaid, AreSound, first_low, rest_laid, parts_low, found_more, unvalued_more, untotalled_more, none_first, all_found}
+use Rattle.split_lines.specs.Ends.{IsEndTold}
+use Rattle.cell_answers.proofs.OneEnds.{none_ends, one_ends, total_nowhere, none_from, greatest_from, fixed_value, empty_without}
+use Rattle.cell_answers.proofs.filling.+greatest_total.Goals as goal
+use Rattle.cell_answers.proofs.filling.+greatest_total.Goals.{After-answer_is_unique, After-places-places, After-token_value, In_ok-end}
+
+-- the arguments, from the first one on
+laid : (t : ℕ) (c : After-answer_is_unique t) → AreLaid c.args.known.now.lines.now c.args.known.now.scores.now (c.in-Some-Some.argument.now ∷ c.in-Some-Some.others.now) (c.in-Some-Some.factor.now ∷ c.in-Some-Some.factors.now) c.args.from c.args.to
+laid t c =
+    let p = c.args.known.now.lines.now in
+    let table = c.args.known.now.scores.now in
+    let A : List Arg → Type 0 = λ arguments. AreLaid p table arguments (c.in-Some-Some.factor.now ∷ c.in-Some-Some.factors.now) c.args.from c.args.to in
+    let F : List ℤ → Type 0 = λ factors. AreLaid p table c.args.arguments.now factors c.args.from c.args.to in
+    subst A c.in-Some-Some.ensures.cases.0 (subst F c.in-Some-Some.ensures'.cases.0
+    (record { weighted = c.requires.weighted; span = c.requires.span; scored = c.requires.scored; low = c.requires.low }))
+
+sound : (t : ℕ) (c : After-answer_is_unique t) → AreSound c.args.known.now.lines.now
+sound t c =
+    let p = c.args.known.now.lines.now in
+    let same : c.problem.result.now ≡ p = c.problem.ensures in
+    let S : PosedProblem → Type 0 = AreSound in
+    subst S same (record {
+      within = best_within c.problem.result.now c.admissible.ensures (c.bounds_are_sound.ensures.score c.problem.result.now);
+      one = one_score c.problem.result.now (λ at a b. c.answer_is_unique.ensures c.problem.result.now at a b c.admissible.ensures.checked.well_formed);
+    })
+
+places : (t : ℕ) (c : After-places-places t) → ArePlaces c.args.known.now.lines.now c.in-Some-Some.argument.now c.in-Some-Some.others.now c.args.from c.args.to c.places-places.result
+places t c = c.places-places.ensures c.in-Some-Some.argument.now c.in-Some-Some.others.now c.in-Some-Some.ensures.cases.0
+
+fits : (t : ℕ) (c : After-places-places t) (end : ℕ) → c.places-places.result.start ≤ end → end < c.places-places.result.end → FitsSpan c.args.known.now.lines.now (on_span c.in-Some-Some.argument.now c.args.from end)
+fits t c end l m = (places t c).fit end l m
+
+pub loop-end-init : goal.loop-end-init
+loop-end-init t c =
+    let at = (goal.at.loop-end-init t c).After-places-places in
+    none_first c.args.known.now.lines.now c.in-Some-Some.argument.now c.in-Some-Some.others.now c.in-Some-Some.factor.now c.in-Some-Some.factors.now c.args.from c.args.to c.places-places.result (places t at)
+
+pub argument_value-requires-clause-fits : goal.argument_value-requires-clause-fits
+argument_value-requires-clause-fits t c = fits t (goal.at.argument_value-requires-clause-fits t c).After-places-places c.loop-end.end c.loop-end.auto.end c.loop-end-test.true
+
+pub argument_value-requires-clause-low : goal.argument_value-requires-clause-low
+argument_value-requires-clause-low t c =
+    let at = (goal.at.argument_value-requires-clause-low t c).After-places-places in
+    let begun = (goal.at.argument_value-requires-clause-low t c).After-answer_is_unique in
+    first_low c.args.known.now.lines.now c.args.known.now.scores.now c.in-Some-Some.argument.now c.in-Some-Some.others.now c.in-Some-Some.factor.now c.in-Some-Some.factors.now c.args.from c.args.to (laid t begun) c.loop-end.end
+    (fits t at c.loop-end.end c.loop-end.auto.end c.loop-end-test.true)
+
+pub returns : goal.returns
+returns t c =
+    let at = (goal.at.returns t c).After-places-places in
+    let p = c.args.known.now.lines.now in
+    let found = all_found p c.in-Some-Some.argument.now c.in-Some-Some.others.now c.in-Some-Some.factor.now c.in-Some-Some.factors.now c.args.from c.args.to c.places-places.result (places t at) c.loop-end.end c.loop-end.greatest c.loop-end-test.false c.loop-end.invariant in
+    let A : List Arg → Type 0 = λ arguments. IsGreatestOf (HasTotal p (HasBestScore p) arguments (c.in-Some-Some.factor.now ∷ c.in-Some-Some.factors.now) c.args.from c.args.to) c.loop-end.greatest in
+    let F : List ℤ → Type 0 = λ factors. IsGreatestOf (HasTotal p (HasBestScore p) c.args.arguments.now factors c.args.from c.args.to) c.loop-end.greatest in
+    subst F (sym c.in-Some-Some.ensures'.cases.0) (subst A (sym c.in-Some-Some.ensures.cases.0) found)
+
+pub greatest_total-requires-in-loop-end : goal.greatest_total-requires-in-loop-end
+greatest_total-requires-in-loop-end t c =
+    let at = (goal.at.greatest_total-requires-in-loop-end t c).After-places-places in
+    let begun = (goal.at.greatest_total-requires-in-loop-end t c).After-answer_is_unique in
+    let p = c.args.known.now.lines.now in
+    let end = c.loop-end.end in
+    let l : end ≤ c.args.to = omega (arith, (places t at).up_to_last, c.loop-end-test.true) in
+    let rest = rest_laid p c.args.known.now.scores.now c.in-Some-Some.argument.now c.in-Some-Some.others.now c.in-Some-Some.factor.now c.in-Some-Some.factors.now c.args.from c.args.to (laid t begun) end (fits t at end c.loop-end.auto.end c.loop-end-test.true) l in
+    let fewer = c.in-Some-Some.ensures.cases.1 in
+    let A : List Arg → Type 0 = λ arguments. IfSome c.args.known.now.line (λ line. IsLine p (drop c.args.ahead arguments) line) in
+    let N : ℕ → Type 0 = λ n. IfSome c.args.known.now.line (λ line. IsLine p (drop n c.in-Some-Some.others.now) line) in
+    let later = line_later p c.in-Some-Some.argument.now c.in-Some-Some.others.now c.args.known.now.line (option_copied c.line_here.result) c.args.ahead (subst (λ (given : Option Line). option_copied c.line_here.result ≡ (if c.args.ahead == 0 then given else None)) c.as_ref.ensures.value c.line_here.ensures) (ap option_copied c.in_default.is) (subst A c.in-Some-Some.ensures.cases.0 c.requires.line) in
+    let ahead = subst N (sym c.saturating_sub-ahead.ensures) later in
+    (search rules, (c.requires.same_problem, (ahead, (rest.weighted, (rest.span, (rest.scored, rest.low))))))
+
+fits_below : (z : ℤ) → nat_abs z ≤ greatest_score → FitsSigned w64 z
+fits_below z below = fits_signed_from_abs w64 z (omega arith)
+
+pub overflow_mul-factor : goal.overflow_mul-factor
+overflow_mul-factor t c =
+    let at = (goal.at.overflow_mul-factor t c).After-places-places in
+    let begun = (goal.at.overflow_mul-factor t c).After-answer_is_unique in
+    let end = c.loop-end.end in
+    let it = parts_low c.args.known.now.lines.now c.args.known.now.scores.now c.in-Some-Some.argument.now c.in-Some-Some.others.now c.in-Some-Some.factor.now c.in-Some-Some.factors.now c.args.from c.args.to (laid t begun) end (fits t at end c.loop-end.auto.end c.loop-end-test.true) (sound t begun)
+    c.in-Some-argument_value.value (λ entry. c.in-Some-argument_value.ensures entry) c.in-Some-greatest_total.rest c.in-Some-greatest_total.ensures.0 in
+    let fits_factor : FitsSigned w64 c.in-Some-Some.factor.now = search rules in
+    let fits_value : FitsSigned w64 c.in-Some-argument_value.value = search rules in
+    simp to_z-of_z (fits_below (c.in-Some-Some.factor.now *ℤ c.in-Some-argument_value.value) it.0)
+
+pub overflow_add-factor : goal.overflow_add-factor
+overflow_add-factor t c =
+    let at = (goal.at.overflow_add-factor t c).After-places-places in
+    let begun = (goal.at.overflow_add-factor t c).After-answer_is_unique in
+    let end = c.loop-end.end in
+    let it = parts_low c.args.known.now.lines.now c.args.known.now.scores.now c.in-Some-Some.argument.now c.in-Some-Some.others.now c.in-Some-Some.factor.now c.in-Some-Some.factors.now c.args.from c.args.to (laid t begun) end (fits t at end c.loop-end.auto.end c.loop-end-test.true) (sound t begun)
+    c.in-Some-argument_value.value (λ entry. c.in-Some-argument_value.ensures entry) c.in-Some-greatest_total.rest c.in-Some-greatest_total.ensures.0 in
+    let fits_factor : FitsSigned w64 c.in-Some-Some.factor.now = search rules in
+    let fits_value : FitsSigned w64 c.in-Some-argument_value.value = search rules in
+    let fits_product : FitsSigned w64 (c.in-Some-Some.factor.now *ℤ c.in-Some-argument_value.value) = fits_below (c.in-Some-Some.factor.now *ℤ c.in-Some-argument_value.value) it.0 in
+    let fits_rest : FitsSigned w64 c.in-Some-greatest_total.rest = search rules in
+    simp to_z-of_z (fits_below ((c.in-Some-Some.factor.now *ℤ c.in-Some-argument_value.value) +ℤ c.in-Some-greatest_total.rest) it.2)
+
+pub loop-end-preserved : goal.loop-end-preserved
+loop-end-preserved t c =
+    let at = (goal.at.loop-end-preserved t c).After-places-places in
+    let begun = (goal.at.loop-end-preserved t c).After-answer_is_unique in
+    let p = c.args.known.now.lines.now in
+    let table = c.args.known.now.scores.now in
+    let end = c.loop-end.end in
+    let end_fits = fits t at end c.loop-end.auto.end c.loop-end-test.true in
+    let argument = c.in-Some-Some.argument.now in
+    let others = c.in-Some-Some.others.now in
+    let factor = c.in-Some-Some.factor.now in
+    let factors = c.in-Some-Some.factors.now in
+    let value = c.in-Some-argument_value.value in
+    let rest = c.in-Some-greatest_total.rest in
+    let it = parts_low p table argument others factor factors c.args.from c.args.to (laid t begun) end end_fits (sound t begun) value (λ entry. c.in-Some-argument_value.ensures entry) rest c.in-Some-greatest_total.ensures.0 in
+    let fits_factor : FitsSigned w64 factor = search rules in
+    let fits_value : FitsSigned w64 value = search rules in
+    let fits_product : FitsSigned w64 (factor *ℤ value) = fits_below (factor *ℤ value) it.0 in
+    let fits_rest : FitsSigned w64 rest = search rules in
+    let fits_sum : FitsSigned w64 ((factor *ℤ value) +ℤ rest) = fits_below ((factor *ℤ value) +ℤ rest) it.2 in
+    let either : IsGreatestOf (λ number. (c.loop-end.greatest ≡ Some number) ⊎ (Some ((factor *ℤ value) +ℤ rest) ≡ Some number)) c.greater-greatest.result = simp to_z-of_z at c.greater-greatest.ensures in
+    found_more p table argument others factor factors c.args.from c.args.to (laid t begun) end end_fits (sound t begun) value rest (λ entry. c.in-Some-argument_value.ensures entry) c.in-Some-greatest_total.ensures c.loop-end.greatest c.greater-greatest.result c.loop-end.invariant either
+
+pub loop-end-preserved-in_default-argument_value : goal.loop-end-preserved-in_default-argument_value
+loop-end-preserved-in_default-argument_value t c =
+    let at = (goal.at.loop-end-preserved-in_default-argument_value t c).After-places-places in
+    let begun = (goal.at.loop-end-preserved-in_default-argument_value t c).After-answer_is_unique in
+    let end = c.loop-end.end in
+    unvalued_more c.args.known.now.lines.now c.args.known.now.scores.now c.in-Some-Some.argument.now c.in-Some-Some.others.now c.in-Some-Some.factor.now c.in-Some-Some.factors.now c.args.from c.args.to (laid t begun) end (fits t at end c.loop-end.auto.end c.loop-end-test.true)
+    (λ entry. c.in_default-argument_value.ensures entry) c.loop-end.greatest c.loop-end.invariant
+
+pub loop-end-preserved-in_default-greatest_total : goal.loop-end-preserved-in_default-greatest_total
+loop-end-preserved-in_default-greatest_total t c =
+    let at = (goal.at.loop-end-preserved-in_default-greatest_total t c).After-places-places in
+    let begun = (goal.at.loop-end-preserved-in_default-greatest_total t c).After-answer_is_unique in
+    let end = c.loop-end.end in
+    untotalled_more c.args.known.now.lines.now c.args.known.now.scores.now c.in-Some-Some.argument.now c.in-Some-Some.others.now c.in-Some-Some.factor.now c.in-Some-Some.factors.now c.args.from c.args.to (laid t begun) end (fits t at end c.loop-end.auto.end c.loop-end-test.true)
+    c.in_default-greatest_total.ensures c.loop-end.greatest c.loop-end.invariant
+
+pub greatest_along-requires-clause-line : goal.greatest_along-requires-clause-line
+greatest_along-requires-clause-line t c =
+    line_now c.args.known.now.lines.now c.args.arguments.now c.args.known.now.line (option_copied c.line_here.result) c.args.ahead c.in-Some.line.now (subst (λ (given : Option Line). option_copied c.line_here.result ≡ (if c.args.ahead == 0 then given else None)) c.as_ref.ensures.value c.line_here.ensures) (ap option_copied c.in-Some.is) c.requires.line
+
+-- ---- a token in front
+
+told_end : (t : ℕ) (c : In_ok-end t) → IsEndTold c.args.known.now.lines.now c.in-Some-Some.argument.now c.args.from c.args.to (Some c.in_ok-end.end)
+told_end t c = let E : Option ℕ → Type 0 = IsEndTold c.args.known.now.lines.now c.in-Some-Some.argument.now c.args.from c.args.to in
+    subst E c.in_ok-end.was c.token_end.ensures
+
+end_there : (t : ℕ) (c : In_ok-end t) → (c.in_ok-end.end ≤ c.args.to) × FitsSpan c.args.known.now.lines.now (on_span c.in-Some-Some.argument.now c.args.from c.in_ok-end.end)
+end_there t c = (told_end t c c.in_ok-end.end).0 (λ i. Some c.in_ok-end.end)
+
+only_end : (t : ℕ) (c : In_ok-end t) (other : ℕ) → FitsSpan c.args.known.now.lines.now (on_span c.in-Some-Some.argument.now c.args.from other) → Cover c.args.known.now.lines.now c.in-Some-Some.others.now other c.args.to → other ≡ c.in_ok-end.end
+only_end t c = one_ends c.args.known.now.lines.now c.in-Some-Some.argument.now c.in-Some-Some.others.now c.args.from c.args.to c.in_ok-end.end (told_end t c)
+
+-- what holds of the totals of the first argument and the others holds of those of the arguments
+of_all : (t : ℕ) (c : After-answer_is_unique t) (result : Option ℤ)
+    → IsGreatestOf (HasTotal c.args.known.now.lines.now (HasBestScore c.args.known.now.lines.now) (c.in-Some-Some.argument.now ∷ c.in-Some-Some.others.now) (c.in-Some-Some.factor.now ∷ c.in-Some-Some.factors.now) c.args.from c.args.to) result
+    → IsGreatestOf (HasTotal c.args.known.now.lines.now (HasBestScore c.args.known.now.lines.now) c.args.arguments.now c.args.factors.now c.args.from c.args.to) result
+of_all t c result found =
+    let p = c.args.known.now.lines.now in
+    let A : List Arg → Type 0 = λ arguments. IsGreatestOf (HasTotal p (HasBestScore p) arguments (c.in-Some-Some.factor.now ∷ c.in-Some-Some.factors.now) c.args.from c.args.to) result in
+    let F : List ℤ → Type 0 = λ factors. IsGreatestOf (HasTotal p (HasBestScore p) c.args.arguments.now factors c.args.from c.args.to) result in
+    subst F (sym c.in-Some-Some.ensures'.cases.0) (subst A (sym c.in-Some-Some.ensures.cases.0) found)
+
+pub returns-in_err-end : goal.returns-in_err-end
+returns-in_err-end t c =
+    let begun = (goal.at.returns-in_err-end t c).After-answer_is_unique in
+    let p = c.args.known.now.lines.now in
+    let argument = c.in-Some-Some.argument.now in
+    let others = c.in-Some-Some.others.now in
+    let E : Option ℕ → Type 0 = IsEndTold p argument c.args.from c.args.to in
+    let none = none_ends p argument others c.args.from c.args.to (subst E c.in_err-end.was c.token_end.ensures) in
+    of_all t begun c.from_residual.result (subst (λ (result : Option ℤ). IsGreatestOf (HasTotal p (HasBestScore p) (argument ∷ others) (c.in-Some-Some.factor.now ∷ c.in-Some-Some.factors.now) c.args.from c.args.to) result) (sym c.from_residual.ensures)
+    (total_nowhere p argument others c.args.from c.args.to none (HasBestScore p) c.in-Some-Some.factor.now c.in-Some-Some.factors.now))
+
+pub greatest_total-requires : goal.greatest_total-requires
+greatest_total-requires t c =
+    let begun = (goal.at.greatest_total-requires t c).After-answer_is_unique in
+    let p = c.args.known.now.lines.now in
+    let it = end_there t c in
+    let rest = rest_laid p c.args.known.now.scores.now c.in-Some-Some.argument.now c.in-Some-Some.others.now c.in-Some-Some.factor.now c.in-Some-Some.factors.now c.args.from c.args.to (laid t begun) c.in_ok-end.end it.1 it.0 in
+    let fewer = c.in-Some-Some.ensures.cases.1 in
+    let A : List Arg → Type 0 = λ arguments. IfSome c.args.known.now.line (λ line. IsLine p (drop c.args.ahead arguments) line) in
+    let N : ℕ → Type 0 = λ n. IfSome c.args.known.now.line (λ line. IsLine p (drop n c.in-Some-Some.others.now) line) in
+    let later = line_later p c.in-Some-Some.argument.now c.in-Some-Some.others.now c.args.known.now.line (option_copied c.line_here.result) c.args.ahead (subst (λ (given : Option Line). option_copied c.line_here.result ≡ (if c.args.ahead == 0 then given else None)) c.as_ref.ensures.value c.line_here.ensures) (ap option_copied c.in_default.is) (subst A c.in-Some-Some.ensures.cases.0 c.requires.line) in
+    let ahead = subst N (sym c.saturating_sub-ahead.ensures) later in
+    (search rules, (c.requires.same_problem, (ahead, (rest.weighted, (rest.span, (rest.scored, rest.low))))))
+
+pub returns-in_err-rest : goal.returns-in_err-rest
+returns-in_err-rest t c =
+    let begun = (goal.at.returns-in_err-rest t c).After-answer_is_unique in
+    let at = (goal.at.returns-in_err-rest t c).In_ok-end in
+    let p = c.args.known.now.lines.now in
+    let argument = c.in-Some-Some.argument.now in
+    let others = c.in-Some-Some.others.now in
+    let G : Option ℤ → Type 0 = λ result. IsGreatestOf (HasTotal p (HasBestScore p) others c.in-Some-Some.factors.now c.in_ok-end.end c.args.to) result in
+    of_all t begun c.from_residual-in_err-rest.result (subst (λ (result : Option ℤ). IsGreatestOf (HasTotal p (HasBestScore p) (argument ∷ others) (c.in-Some-Some.factor.now ∷ c.in-Some-Some.factors.now) c.args.from c.args.to) result) (sym c.from_residual-in_err-rest.ensures)
+    (none_from p argument others c.args.from c.args.to c.in_ok-end.end (end_there t at).1 (only_end t at) (HasBestScore p) c.in-Some-Some.factor.now c.in-Some-Some.factors.now (subst G c.in_err-rest.was c.greatest_total.ensures)))
+
+pub token_value-requires-clause-span : goal.token_value-requires-clause-span
+token_value-requires-clause-span t c = (end_there t (goal.at.token_value-requires-clause-span t c).In_ok-end).1.0
+
+pub token_value-requires-clause-low : goal.token_value-requires-clause-low
+token_value-requires-clause-low t c =
+    let begun = (goal.at.token_value-requires-clause-low t c).After-answer_is_unique in
+    first_low c.args.known.now.lines.now c.args.known.now.scores.now c.in-Some-Some.argument.now c.in-Some-Some.others.now c.in-Some-Some.factor.now c.in-Some-Some.factors.now c.args.from c.args.to (laid t begun) c.in_ok-end.end
+    (end_there t (goal.at.token_value-requires-clause-low t c).In_ok-end).1
+
+-- the value of the token, and that its parts are low
+value_is : (t : ℕ) (c : After-token_value t) → IsValue c.args.known.now.lines.now (HasBestScore c.args.known.now.lines.now) (on_span c.in-Some-Some.argument.now c.args.from c.in_ok-end.end) c.token_value.result
+value_is t c =
+    let p = c.args.known.now.lines.now in
+    let argument = c.in-Some-Some.argument.now in
+    let V : ℤ → Type 0 = λ value. IsValue p (HasBestScore p) (on_span argument c.args.from c.in_ok-end.end) value in
+    subst V (sym c.token_value.ensures) (fixed_value p (HasBestScore p) argument c.args.from c.in_ok-end.end (c.is_fixed.ensures.0 c.if-is_fixed.true))
+
+rest_is : (t : ℕ) (c : After-token_value t) → IsGreatestOf (HasTotal c.args.known.now.lines.now (HasBestScore c.args.known.now.lines.now) c.in-Some-Some.others.now c.in-Some-Some.factors.now c.in_ok-end.end c.args.to) (Some c.in_ok-rest.rest)
+rest_is t c =
+    let p = c.args.known.now.lines.now in
+    let G : Option ℤ → Type 0 = λ result. IsGreatestOf (HasTotal p (HasBestScore p) c.in-Some-Some.others.now c.in-Some-Some.factors.now c.in_ok-end.end c.args.to) result in
+    subst G c.in_ok-rest.was c.greatest_total.ensures
+
+pub overflow_mul-result : goal.overflow_mul-result
+overflow_mul-result t c =
+    let begun = (goal.at.overflow_mul-result t c).After-answer_is_unique in
+    let at = (goal.at.overflow_mul-result t c).In_ok-end in
+    let behind = (goal.at.overflow_mul-result t c).After-token_value in
+    let p = c.args.known.now.lines.now in
+    let argument = c.in-Some-Some.argument.now in
+    let others = c.in-Some-Some.others.now in
+    let factor = c.in-Some-Some.factor.now in
+    let factors = c.in-Some-Some.factors.now in
+    let value = c.token_value.result in
+    let rest = c.in_ok-rest.rest in
+    let it = parts_low p c.args.known.now.scores.now argument others factor factors c.args.from c.args.to (laid t begun) c.in_ok-end.end (end_there t at).1 (sound t begun) value (λ entry. value_is t behind) rest (rest_is t behind).0 in
+    let fits_factor : FitsSigned w64 factor = search rules in
+    let fits_value : FitsSigned w64 value = search rules in
+    simp to_z-of_z (fits_below (factor *ℤ value) it.0)
+
+pub overflow_add-result : goal.overflow_add-result
+overflow_add-result t c =
+    let begun = (goal.at.overflow_add-result t c).After-answer_is_unique in
+    let at = (goal.at.overflow_add-result t c).In_ok-end in
+    let behind = (goal.at.overflow_add-result t c).After-token_value in
+    let p = c.args.known.now.lines.now in
+    let argument = c.in-Some-Some.argument.now in
+    let others = c.in-Some-Some.others.now in
+    let factor = c.in-Some-Some.factor.now in
+    let factors = c.in-Some-Some.factors.now in
+    let value = c.token_value.result in
+    let rest = c.in_ok-rest.rest in
+    let it = parts_low p c.args.known.now.scores.now argument others factor factors c.args.from c.args.to (laid t begun) c.in_ok-end.end (end_there t at).1 (sound t begun) value (λ entry. value_is t behind) rest (rest_is t behind).0 in
+    let fits_factor : FitsSigned w64 factor = search rules in
+    let fits_value : FitsSigned w64 value = search rules in
+    let fits_product : FitsSigned w64 (factor *ℤ value) = fits_below (factor *ℤ value) it.0 in
+    let fits_rest : FitsSigned w64 rest = search rules in
+    simp to_z-of_z (fits_below ((factor *ℤ value) +ℤ rest) it.2)
+
+pub returns-then-is_fixed : goal.returns-then-is_fixed
+returns-then-is_fixed t c =
+    let begun = (goal.at.returns-then-is_fixed t c).After-answer_is_unique in
+    let at = (goal.at.returns-then-is_fixed t c).In_ok-end in
+    let behind = (goal.at.returns-then-is_fixed t c).After-token_value in
+    let p = c.args.known.now.lines.now in
+    let argument = c.in-Some-Some.argument.now in
+    let others = c.in-Some-Some.others.now in
+    let factor = c.in-Some-Some.factor.now in
+    let factors = c.in-Some-Some.factors.now in
+    let value = c.token_value.result in
+    let rest = c.in_ok-rest.rest in
+    let it = parts_low p c.args.known.now.scores.now argument others factor factors c.args.from c.args.to (laid t begun) c.in_ok-end.end (end_there t at).1 (sound t begun) value (λ entry. value_is t behind) rest (rest_is t behind).0 in
+    let fits_factor : FitsSigned w64 factor = search rules in
+    let fits_value : FitsSigned w64 value = search rules in
+    let fits_product : FitsSigned w64 (factor *ℤ value) = fits_below (factor *ℤ value) it.0 in
+    let fits_rest : FitsSigned w64 rest = search rules in
+    let fits_sum : FitsSigned w64 ((factor *ℤ value) +ℤ rest) = fits_below ((factor *ℤ value) +ℤ rest) it.2 in
+    let found = greatest_from p argument others c.args.from c.args.to c.in_ok-end.end (end_there t at).1 (only_end t at) (HasBestScore p) factor factors (sound t begun).one value rest (value_is t behind) (rest_is t behind) in
+    simp to_z-of_z (of_all t begun (Some ((factor *ℤ value) +ℤ rest)) found)
+
+-- ---- the last argument
+
+-- nothing stands behind it
+none_behind : (t : ℕ) (c : After-answer_is_unique t) → length c.in-Some-Some.others.now ≡ 0 → (c.in-Some-Some.others.now ≡ []) × (c.in-Some-Some.factors.now ≡ [])
+none_behind t c none =
+    let none' = empty_without c.in-Some-Some.others.now none in
+    let each : length c.in-Some-Some.factors.now ≡ 0 = omega (arith, c.requires.weighted.factors_each, ap length c.in-Some-Some.ensures.cases.0, ap length c.in-Some-Some.ensures'.cases.0, ap length none') in
+    (none', empty_without c.in-Some-Some.factors.now each)
+
+laid_alone : (t : ℕ) (c : After-answer_is_unique t) → length c.in-Some-Some.others.now ≡ 0 → AreLaid c.args.known.now.lines.now c.args.known.now.scores.now (c.in-Some-Some.argument.now ∷ []) (c.in-Some-Some.factor.now ∷ []) c.args.from c.args.to
+laid_alone t c none =
+    let it = none_behind t c none in
+    let p = c.args.known.now.lines.now in
+    let table = c.args.known.now.scores.now in
+    subst (λ others. AreLaid p table (c.in-Some-Some.argument.now ∷ others) (c.in-Some-Some.factor.now ∷ []) c.args.from c.args.to) it.0
+    (subst (λ factors. AreLaid p table (c.in-Some-Some.argument.now ∷ c.in-Some-Some.others.now) (c.in-Some-Some.factor.now ∷ factors) c.args.from c.args.to) it.1 (laid t c))
+
+pub last_total-requires-clause-weighted : goal.last_total-requires-clause-weighted
+last_total-requires-clause-weighted t c =
+    let it = laid_alone t (goal.at.last_total-requires-clause-weighted t c).After-answer_is_unique (search rules) in
+    let fits_factor : FitsSigned w64 c.in-Some-Some.factor.now = search rules in
+    simp to_z-of_z it.weighted
+
+pub last_total-requires-clause-scored : goal.last_total-requires-clause-scored
+last_total-requires-clause-scored t c = (laid_alone t (goal.at.last_total-requires-clause-scored t c).After-answer_is_unique (search rules)).scored
+
+pub last_total-requires-clause-low : goal.last_total-requires-clause-low
+last_total-requires-clause-low t c =
+    let it = laid_alone t (goal.at.last_total-requires-clause-low t c).After-answer_is_unique (search rules) in
+    let fits_factor : FitsSigned w64 c.in-Some-Some.factor.now = search rules in
+    simp to_z-of_z it.low
+
+pub returns-then-is_empty : goal.returns-then-is_empty
+returns-then-is_empty t c =
+    let begun = (goal.at.returns-then-is_empty t c).After-answer_is_unique in
+    let it = none_behind t begun (search rules) in
+    let p = c.args.known.now.lines.now in
+    let argument = c.in-Some-Some.argument.now in
+    let factor = c.in-Some-Some.factor.now in
+    let fits_factor : FitsSigned w64 factor = search rules in
+    let found : IsGreatestOf (HasTotal p (HasBestScore p) (argument ∷ []) (factor ∷ []) c.args.from c.args.to) c.last_total.result = simp to_z-of_z at c.last_total.ensures in
+    of_all t begun c.last_total.result
+    (subst (λ others. IsGreatestOf (HasTotal p (HasBestScore p) (argument ∷ others) (factor ∷ c.in-Some-Some.factors.now) c.args.from c.args.to) c.last_total.result) (sym it.0)
+    (subst (λ factors. IsGreatestOf (HasTotal p (HasBestScore p) (argument ∷ []) (factor ∷ factors) c.args.from c.args.to) c.last_total.result) (sym it.1) found))

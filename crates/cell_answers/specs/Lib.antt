@@ -1,0 +1,9 @@
+pub mod ArgumentEntries
+pub mod Entries
+pub mod FirstPlaces
+pub mod Opened
+pub mod PackedTables
+pub mod Rows
+pub mod ScoresFields
+pub mod Through
+pub mod Totals

@@ -1,0 +1,275 @@
+//! The best score of a cell from those of its demanded children.
+
+ghost use Rattle.std.specs.Prelude.{◌≡◌, ℕ, ◌<◌, ◌≤◌, ◌↔◌, IsTrue, IfSome, MatchOption, List, [], ◌∷◌, length, drop};
+ghost use Rattle.adp_model.specs.declared.cell.Answer.TheVariants.{NoCandidate};
+ghost use Rattle.adp_model.specs.declared.cell.Cell.{Cell};
+ghost use Rattle.adp_model.specs.PosedProblem.{IsSpan};
+ghost use Rattle.adp_model.specs.Parts.{alternatives_of};
+ghost use Rattle.adp_model.specs.Answers.{IsAnswer};
+ghost use Rattle.adp_model.specs.Bellman.{HasBestScore};
+ghost use Rattle.adp_model.specs.FirstSplit.{IsScoredSplit};
+ghost use Rattle.adp_model.specs.Demand.{IsDemandedChild};
+ghost use Rattle.yield_sizes.specs.Placing.{Cover};
+ghost use Rattle.split_lines.specs.Kept.{IsAlternative, factors_behind};
+ghost use Rattle.split_lines.specs.Laid.{Demands};
+ghost use Rattle.split_lines.specs.Lines.{IsLine};
+ghost use Rattle.cell_answers.specs.Entries.{HasEntry};
+ghost use Rattle.cell_answers.specs.Totals.{AreLow, AreWeighted, HasTotal, HasTurnedScore};
+ghost use Rattle.score_numbers.specs.Greatest.{IsGreatestOf};
+
+use crate::along::{between_total, greatest_along};
+use crate::argument_values::{argument_value, token_value};
+use crate::parts::goal;
+use crate::scores::Scores;
+use adp_model::laws::bellman::bellman;
+use adp_model::laws::bounds::{bounds_are_sound, words_keep_their_score_bound};
+use adp_model::laws::order::answer_is_unique;
+use adp_model::laws::well_formed::arguments_are_few_and_known;
+use adp_model::{Arg, Cell};
+use score_numbers::{greater, turned};
+use split_lines::{KeptAlternative, Line, Lines, is_fixed, line_here};
+
+/// What the totals of an alternative's arguments are found from.
+#[derive(Clone, Copy)]
+struct Known<'s, 'a> {
+    lines: &'s Lines<'a>,
+    scores: &'s Scores<'a>,
+    line: Option<Line<'s>>,
+}
+
+/// The total of one argument that has the letters from `from` to `to`; `None` where it can't have them, or has no value.
+#[inline(always)]
+fn last_total(
+    lines: &Lines<'_>,
+    scores: &Scores<'_>,
+    argument: &Arg,
+    factor: i64,
+    from: u16,
+    to: u16,
+) -> Option<i64>
+    requires same_problem { scores.now.problem ≡ lines.now }
+    requires weighted { AreWeighted lines.now (argument.now ∷ []) (factor ∷ []) }
+    requires span { IsSpan lines.now.word from to }
+    requires scored { (cell : Cell) → Demands lines.now (argument.now ∷ []) from to cell → HasEntry scores.now cell }
+    requires low { AreLow lines.now (argument.now ∷ []) (factor ∷ []) from to }
+    ensures { IsGreatestOf (HasTotal lines.now (HasBestScore lines.now) (argument.now ∷ []) (factor ∷ []) from to)
+        result }
+{
+    lines.problem().admissible();
+    bounds_are_sound();
+    answer_is_unique();
+    if !lines.fits(argument, from, to) {
+        return None;
+    }
+    Some(factor * argument_value(lines, scores, argument, from, to)?)
+}
+
+/// The greatest total of arguments that are laid from `from` to `to`. If they have a line, `ahead` of them come before
+/// it.
+fn greatest_total(
+    known: &Known<'_, '_>,
+    ahead: u8,
+    arguments: &[Arg],
+    factors: &[i64],
+    from: u16,
+    to: u16,
+) -> Option<i64>
+    requires same_problem { known.now.scores.now.problem ≡ known.now.lines.now }
+    requires line { IfSome known.now.line (λ line. IsLine known.now.lines.now (drop ahead arguments.now) line) }
+    requires weighted { AreWeighted known.now.lines.now arguments.now factors.now }
+    requires span { IsSpan known.now.lines.now.word from to }
+    requires scored { (cell : Cell) → Demands known.now.lines.now arguments.now from to cell
+        → HasEntry known.now.scores.now cell }
+    requires low { AreLow known.now.lines.now arguments.now factors.now from to }
+    ensures { IsGreatestOf (HasTotal known.now.lines.now (HasBestScore known.now.lines.now)
+        arguments.now factors.now from to) result }
+{
+    let Known { lines, scores, .. } = *known;
+    if let Some(line) = line_here(known.line.as_ref(), ahead) {
+        return greatest_along(lines, scores, *line, arguments, factors, from, to);
+    }
+    let (Some((argument, others)), Some((factor, factors))) = (
+        arguments.split_first(),
+        factors.split_first(),
+    ) else {
+        return if from == to { Some(0) } else { None };
+    };
+    lines.problem().admissible();
+    bounds_are_sound();
+    answer_is_unique();
+    let ahead = ahead.saturating_sub(1);
+    if is_fixed(argument) {
+        let end = lines.token_end(argument, from, to)?;
+        let rest = greatest_total(known, ahead, others, factors, end, to)?;
+        return Some(factor * token_value(lines, argument, from, end) + rest);
+    }
+    if others.is_empty() {
+        return last_total(lines, scores, argument, *factor, from, to);
+    }
+    let places = lines.places(arguments, from, to);
+    let mut greatest = None;
+    for end in places.start..places.end {
+        let Some(value) = argument_value(lines, scores, argument, from, end) else {
+            continue;
+        };
+        let Some(rest) = greatest_total(known, ahead, others, factors, end, to) else {
+            continue;
+        };
+        greatest = greater(greatest, Some(factor * value + rest));
+    }
+    greatest
+}
+
+/// The greatest total of the arguments behind the tokens in front of an alternative, laid from `from` to `to`.
+#[inline(always)]
+fn total_behind(
+    lines: &Lines<'_>,
+    scores: &Scores<'_>,
+    rule: u32,
+    alternative: &KeptAlternative<'_>,
+    alt: u8,
+    from: u16,
+    to: u16,
+) -> Option<i64>
+    requires same_problem { scores.now.problem ≡ lines.now }
+    requires in_range { alt < length (alternatives_of lines.now.grammar rule) }
+    requires alternative { IsAlternative lines.now rule alt alternative.now }
+    requires weighted { AreWeighted lines.now alternative.now.others.now (factors_behind alternative.now) }
+    requires span { IsSpan lines.now.word from to }
+    requires scored { (cell : Cell) → Demands lines.now alternative.now.others.now from to cell
+        → HasEntry scores.now cell }
+    requires low { AreLow lines.now alternative.now.others.now (factors_behind alternative.now) from to }
+    ensures { IsGreatestOf (HasTotal lines.now (HasBestScore lines.now)
+        alternative.now.others.now (factors_behind alternative.now) from to) result }
+{
+    let (others, factors) = (alternative.others, alternative.other_factors());
+    if others.len() == 1 {
+        return last_total(lines, scores, &others[0], factors[0], from, to);
+    }
+    let line = lines.line_behind(alternative, rule, alt);
+    let ahead = line.map_or(0, |line| line.first);
+    let known = Known {
+        lines,
+        scores,
+        line,
+    };
+    greatest_total(&known, ahead, others, factors, from, to)
+}
+
+/// The best score that an alternative gives a cell whose first letters its tokens in front have up to `from`, turned;
+/// `None` where it gives none.
+#[inline(never)]
+fn score_behind(
+    lines: &Lines<'_>,
+    scores: &Scores<'_>,
+    cell: Cell,
+    alternative: &KeptAlternative<'_>,
+    alt: u8,
+    from: u16,
+) -> Option<i64>
+    requires same_problem { scores.now.problem ≡ lines.now }
+    requires rule { cell.rule < length lines.now.grammar.rules }
+    requires in_word { IsSpan lines.now.word cell.from cell.to }
+    requires in_range { alt < length (alternatives_of lines.now.grammar cell.rule) }
+    requires alternative { IsAlternative lines.now cell.rule alt alternative.now }
+    requires scored { (child : Cell) → IsDemandedChild lines.now cell child → HasEntry scores.now child }
+    requires within { from ≤ cell.to }
+    requires covers { Cover lines.now alternative.now.front.now cell.from from }
+    ensures { IsGreatestOf (HasTurnedScore lines.now cell alt) result }
+{
+    lines.problem().admissible();
+    bounds_are_sound();
+    words_keep_their_score_bound();
+    answer_is_unique();
+    arguments_are_few_and_known();
+    let Some(rest) = total_behind(lines, scores, cell.rule, alternative, alt, from, cell.to) else {
+        return None;
+    };
+    let front = between_total(
+        lines,
+        alternative.front,
+        alternative.front_factors(),
+        alternative.weighs,
+        cell.from,
+        from,
+    );
+    Some(alternative.constant + (front + rest))
+}
+
+/// The best score that an alternative gives a cell, turned; `None` where it gives none.
+#[inline(always)]
+fn alternative_score(
+    lines: &Lines<'_>,
+    scores: &Scores<'_>,
+    cell: Cell,
+    alternative: &KeptAlternative<'_>,
+    alt: u8,
+) -> Option<i64>
+    requires same_problem { scores.now.problem ≡ lines.now }
+    requires rule { cell.rule < length lines.now.grammar.rules }
+    requires in_word { IsSpan lines.now.word cell.from cell.to }
+    requires in_range { alt < length (alternatives_of lines.now.grammar cell.rule) }
+    requires alternative { IsAlternative lines.now cell.rule alt alternative.now }
+    requires scored { (child : Cell) → IsDemandedChild lines.now cell child → HasEntry scores.now child }
+    ensures { IsGreatestOf (HasTurnedScore lines.now cell alt) result }
+{
+    if alternative.has_other_length(cell.from, cell.to) {
+        return None;
+    }
+    match lines.front_end(alternative, cell.from, cell.to) {
+        Some(end) => score_behind(lines, scores, cell, alternative, alt, end),
+        None => None,
+    }
+}
+
+/// The best score of a cell, by the scores of its demanded children; `None` where it has no candidate. Takes no memory.
+pub fn cell_score(lines: &Lines<'_>, scores: &Scores<'_>, cell: Cell) -> Option<i64>
+    requires same_problem { scores.now.problem ≡ lines.now }
+    requires rule { cell.rule < length lines.now.grammar.rules }
+    requires in_word { IsSpan lines.now.word cell.from cell.to }
+    requires scored { (child : Cell) → IsDemandedChild lines.now cell child → HasEntry scores.now child }
+    ensures { MatchOption result (IsAnswer lines.now cell NoCandidate) (HasBestScore lines.now cell) }
+{
+    let problem = lines.problem();
+    problem.admissible();
+    bellman();
+    bounds_are_sound();
+    arguments_are_few_and_known();
+    let goal = goal(problem);
+    let alternatives = lines.alternatives(cell.rule);
+    let mut greatest = None;
+    for number in 0..alternatives.len() {
+        let alternative = &alternatives[number];
+        let score = alternative_score(lines, scores, cell, alternative, number as u8);
+        greatest = greater(greatest, score);
+    }
+    let Some(total) = greatest else {
+        return None;
+    };
+    Some(turned(goal, total))
+}
+
+/// Whether a split of the cell by the alternative has the best score of the cell, at the best scores of its arguments'
+/// cells. Takes no memory.
+pub fn gives_best(lines: &Lines<'_>, scores: &Scores<'_>, cell: Cell, alt: u8, best: i64) -> bool
+    requires same_problem { scores.now.problem ≡ lines.now }
+    requires rule { cell.rule < length lines.now.grammar.rules }
+    requires in_word { IsSpan lines.now.word cell.from cell.to }
+    requires alternative { alt < length (alternatives_of lines.now.grammar cell.rule) }
+    requires scored { (child : Cell) → IsDemandedChild lines.now cell child → HasEntry scores.now child }
+    requires best { HasBestScore lines.now cell best }
+    ensures { IsTrue result ↔ ((cuts : List ℕ)
+        × IsScoredSplit lines.now (HasBestScore lines.now) cell best (record { alt = alt; cuts = cuts })) }
+{
+    let problem = lines.problem();
+    problem.admissible();
+    bellman();
+    bounds_are_sound();
+    arguments_are_few_and_known();
+    let goal = goal(problem);
+    let alternative = &lines.alternatives(cell.rule)[alt as usize];
+    match alternative_score(lines, scores, cell, alternative, alt) {
+        Some(total) => turned(goal, total) == best,
+        None => false,
+    }
+}

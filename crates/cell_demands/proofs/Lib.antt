@@ -1,0 +1,10 @@
+pub mod BitPlaces
+pub mod Dividing
+pub mod Formed
+pub mod Fronts
+pub mod LineDemands
+pub mod Lists
+pub mod MarkSteps
+pub mod OneEnds
+pub mod RisingPlaces
+pub mod Splitting

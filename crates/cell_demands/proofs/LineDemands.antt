@@ -1,0 +1,296 @@
+-- What arguments demand: with the first of them on a span, along a line, and by alternatives.
+use Rattle.std.proofs.Common.{◌≡◌, ◌⊎◌, ◌↔◌, ℕ, zero, suc, ◌+◌, ◌-◌, ◌<◌, ◌≤◌, Bool, true, false, not, IsTrue, Option, Some, None, List, [], ◌∷◌, ◌++◌, length, get_or, drop, if◌then◌else◌, refl, sym, ap, subst, ◌∙◌, inl, inr, ⊎_elim, arith}
+use Rattle.std.specs.Prelude.{◌==◌, IfSome}
+use Rattle.std.specs.List.{AllByRecursion, Contains}
+use Rattle.std.specs.declared.ops.Range.{Range}
+use Rattle.std.proofs.lemmas.Bool.{cases_Bool, cases_lt, eqb-true}
+use Rattle.std.proofs.lemmas.List.{get_or_read}
+use Rattle.adp_model.specs.declared.grammar.Arg.{Arg}
+use Rattle.adp_model.specs.declared.grammar.Arg.TheVariants.{Rule, Literal, Letter, Run}
+use Rattle.adp_model.specs.declared.cell.Cell.{Cell}
+use Rattle.adp_model.specs.PosedProblem.{PosedProblem}
+use Rattle.adp_model.specs.Parts.{alternatives_of, arguments_of}
+use Rattle.adp_model.specs.Splits.{Placed, FitsSpan, place, ends_by}
+use Rattle.adp_model.specs.Demand.{IsDemandedChild}
+use Rattle.yield_sizes.specs.Placing.{on_span, Cover, ArePlaces}
+use Rattle.split_lines.specs.Laid.{IsCellOf, Demands, IsFixed, LineParts, AreBoundaries}
+use Rattle.split_lines.specs.declared.lines.Line.{Line}
+use Rattle.split_lines.specs.Lines.{HasLine, IsLine, parts_by}
+use Rattle.cell_tables.specs.Marks.{CellMarks, AreMarkedFrom}
+use Rattle.cell_demands.proofs.Splitting.{child_of_demands, demands_of_child}
+use Rattle.cell_demands.proofs.MarkSteps.{marked_like, marked_more}
+
+module _ (p : PosedProblem) where
+  -- arguments that demand a cell may have their letters
+  pub cover_of_demands : (arguments : List Arg) (from to : ℕ) (cell : Cell) → Demands p arguments from to cell → Cover p arguments from to
+  cover_of_demands [] from to cell none = absurd none
+  cover_of_demands (argument ∷ arguments) from to cell (end, fits, inl (is, cover)) = (end, fits, cover)
+  cover_of_demands (argument ∷ arguments) from to cell (end, fits, inr later) = (end, fits, cover_of_demands arguments end to cell later)
+
+  pub cover_parts : (front back : List Arg) (from to : ℕ) → Cover p (front ++ back) from to → (middle : ℕ) × Cover p front from middle × Cover p back middle to
+  cover_parts [] back from to cover = (from, refl, cover)
+  cover_parts (argument ∷ front) back from to (end, fits, cover) =
+      let parts = cover_parts front back end to cover in
+      (parts.0, (end, fits, parts.1), parts.2)
+
+  cover_join : (front back : List Arg) (from middle to : ℕ) → Cover p front from middle → Cover p back middle to → Cover p (front ++ back) from to
+  cover_join [] back from middle to here cover = subst (λ at. Cover p back at to) (sym here) cover
+  cover_join (argument ∷ front) back from middle to (end, fits, others) cover = (end, fits, cover_join front back end middle to others cover)
+
+  pub no_cell : (argument : Arg) (from to : ℕ) (cell : Cell) → IsFixed argument → IsCellOf argument from to cell → ⊥
+  no_cell (Rule rule) from to cell fixed is = fixed
+  no_cell (Literal text) from to cell fixed is = let e = is.rule in absurd cc
+  no_cell (Letter class) from to cell fixed is = let e = is.rule in absurd cc
+  no_cell (Run class low high) from to cell fixed is = fixed
+
+  fixed_demands_none : (tokens : List Arg) (from to : ℕ) (cell : Cell) → AllByRecursion IsFixed tokens → Demands p tokens from to cell → ⊥
+  fixed_demands_none [] from to cell fixed none = none
+  fixed_demands_none (token ∷ tokens) from to cell fixed (end, fits, inl (is, cover)) = no_cell token from end cell fixed.0 is
+  fixed_demands_none (token ∷ tokens) from to cell fixed (end, fits, inr later) = fixed_demands_none tokens end to cell fixed.1 later
+
+  pub demands_behind : (tokens back : List Arg) (from to : ℕ) (cell : Cell) → AllByRecursion IsFixed tokens → Demands p (tokens ++ back) from to cell → (middle : ℕ) × Cover p tokens from middle × Demands p back middle to cell
+  demands_behind [] back from to cell fixed demands = (from, refl, demands)
+  demands_behind (token ∷ tokens) back from to cell fixed (end, fits, inl (is, cover)) = absurd (no_cell token from end cell fixed.0 is)
+  demands_behind (token ∷ tokens) back from to cell fixed (end, fits, inr later) =
+      let parts = demands_behind tokens back end to cell fixed.1 later in
+      (parts.0, (end, fits, parts.1), parts.2)
+
+  pub demands_join : (tokens back : List Arg) (from middle to : ℕ) (cell : Cell) → Cover p tokens from middle → Demands p back middle to cell → Demands p (tokens ++ back) from to cell
+  demands_join [] back from middle to cell here demands = subst (λ at. Demands p back at to cell) (sym here) demands
+  demands_join (token ∷ tokens) back from middle to cell (end, fits, others) demands = (end, fits, inr (demands_join tokens back end middle to cell others demands))
+
+  module _ (parts : LineParts) (from to letters last : ℕ) (places : List ℕ) (middle_fixed : AllByRecursion IsFixed parts.middle) (tail_fixed : AllByRecursion IsFixed parts.tail) (boundaries : AreBoundaries p parts from to letters last places) where
+    abbrev line : List Arg
+    line = (parts.first ∷ parts.middle) ++ (parts.second ∷ parts.tail)
+
+    place_found : (place : ℕ) → FitsSpan p (on_span parts.first from place) → (middle end : ℕ) → Cover p parts.middle place middle → FitsSpan p (on_span parts.second middle end) → Cover p parts.tail end to
+        → Contains places place × (middle ≡ place + letters) × (end ≡ last)
+    place_found place first middle end tokens second tail =
+        let same = boundaries.one_middle place middle tokens in
+        let at_last = boundaries.one_tail end tail in
+        let M : ℕ → Type 0 = λ at. Cover p parts.middle place at in
+        let S : ℕ → ℕ → Type 0 = λ at till. FitsSpan p (on_span parts.second at till) in
+        let T : ℕ → Type 0 = λ till. Cover p parts.tail till to in
+        let moved : S (place + letters) last = subst (λ at. S at last) same (subst (λ till. S middle till) at_last second) in
+        ((boundaries.exact place).1 (first, subst M same tokens, moved, subst T at_last tail), same, at_last)
+
+    pub line_cover : Cover p line from to → (place : ℕ) × Contains places place
+    line_cover (place, first, cover) =
+        let parts' = cover_parts parts.middle (parts.second ∷ parts.tail) place to cover in
+        let found = place_found place first parts'.0 parts'.2.0 parts'.1 parts'.2.1 parts'.2.2 in
+        (place, found.0)
+
+    pub cover_line : (place : ℕ) → Contains places place → Cover p line from to
+    cover_line place there =
+        let all = (boundaries.exact place).0 there in
+        (place, all.0, cover_join parts.middle (parts.second ∷ parts.tail) place (place + letters) to all.1 (last, all.2, all.3))
+
+    -- the cells that a line demands: those of the first argument up to the boundary, and those of the second one behind it
+    pub line_demands : (cell : Cell) → Demands p line from to cell
+        → ((place : ℕ) × Contains places place × IsCellOf parts.first from place cell) ⊎ ((place : ℕ) × Contains places place × IsCellOf parts.second (place + letters) last cell)
+    line_demands cell (place, first, inl (is, cover)) =
+        let parts' = cover_parts parts.middle (parts.second ∷ parts.tail) place to cover in
+        let found = place_found place first parts'.0 parts'.2.0 parts'.1 parts'.2.1 parts'.2.2 in
+        inl (place, found.0, is)
+    line_demands cell (place, first, inr later) =
+        let behind = demands_behind parts.middle (parts.second ∷ parts.tail) place to cell middle_fixed later in
+        second_demands place first cell behind.0 behind.1 behind.2
+      where
+        second_demands : (place : ℕ) → FitsSpan p (on_span parts.first from place) → (cell : Cell) (middle : ℕ) → Cover p parts.middle place middle → Demands p (parts.second ∷ parts.tail) middle to cell
+            → ((place : ℕ) × Contains places place × IsCellOf parts.first from place cell) ⊎ ((place : ℕ) × Contains places place × IsCellOf parts.second (place + letters) last cell)
+        second_demands place first cell middle tokens (end, second, inl (is, tail)) =
+            let found = place_found place first middle end tokens second tail in
+            let C : ℕ → ℕ → Type 0 = λ at till. IsCellOf parts.second at till cell in
+            inr (place, found.0, subst (λ at. C at last) found.1 (subst (λ till. C middle till) found.2 is))
+        second_demands place first cell middle tokens (end, second, inr later) = absurd (fixed_demands_none parts.tail end to cell tail_fixed later)
+
+    pub first_demanded : (cell : Cell) (place : ℕ) → Contains places place → IsCellOf parts.first from place cell → Demands p line from to cell
+    first_demanded cell place there is =
+        let all = (boundaries.exact place).0 there in
+        (place, all.0, inl (is, cover_join parts.middle (parts.second ∷ parts.tail) place (place + letters) to all.1 (last, all.2, all.3)))
+
+    pub second_demanded : (cell : Cell) (place : ℕ) → Contains places place → IsCellOf parts.second (place + letters) last cell → Demands p line from to cell
+    second_demanded cell place there is =
+        let all = (boundaries.exact place).0 there in
+        (place, all.0, inr (demands_join parts.middle (parts.second ∷ parts.tail) place (place + letters) to cell all.1 (last, all.2, inl (is, all.3))))
+
+-- ---- arguments that begin with the first one of a line
+
+module _ (p : PosedProblem) (arguments : List Arg) (between from to letters last : ℕ) (places : List ℕ) (has : HasLine arguments between) (boundaries : AreBoundaries p (parts_by arguments between) from to letters last places) where
+  abbrev parts : LineParts
+  parts = parts_by arguments between
+
+  back_to_parts : (P : List Arg → Type 0) → P arguments → P ((parts.first ∷ parts.middle) ++ (parts.second ∷ parts.tail))
+  back_to_parts P here = subst P has.parts.are here
+
+  from_parts : (P : List Arg → Type 0) → P ((parts.first ∷ parts.middle) ++ (parts.second ∷ parts.tail)) → P arguments
+  from_parts P here = subst P (sym has.parts.are) here
+
+  first_is : (argument : Arg) → argument ≡ get_or arguments 0 argument → argument ≡ parts.first
+  first_is argument read = get_or_read arguments 0 argument (omega (arith, has.several)) read (Rule 0)
+
+  second_is : (argument : Arg) → argument ≡ get_or arguments (between + 1) argument → argument ≡ parts.second
+  second_is argument read = get_or_read arguments (between + 1) argument has.several read (Rule 0)
+
+  pub demands_first : (argument : Arg) → argument ≡ get_or arguments 0 argument → (cell : Cell) (place : ℕ) → Contains places place → IsCellOf argument from place cell → Demands p arguments from to cell
+  demands_first argument read cell place there is =
+      from_parts (λ all. Demands p all from to cell)
+      (first_demanded p parts from to letters last places has.parts.middle_fixed has.parts.tail_fixed boundaries cell place there (subst (λ it. IsCellOf it from place cell) (first_is argument read) is))
+
+  pub demands_second : (argument : Arg) → argument ≡ get_or arguments (between + 1) argument → (cell : Cell) (place : ℕ) → Contains places place → IsCellOf argument (place + letters) last cell → Demands p arguments from to cell
+  demands_second argument read cell place there is =
+      from_parts (λ all. Demands p all from to cell)
+      (second_demanded p parts from to letters last places has.parts.middle_fixed has.parts.tail_fixed boundaries cell place there (subst (λ it. IsCellOf it (place + letters) last cell) (second_is argument read) is))
+
+  pub demanded_by_line : (first second : Arg) → first ≡ get_or arguments 0 first → second ≡ get_or arguments (between + 1) second → (cell : Cell) → Demands p arguments from to cell
+      → ((place : ℕ) × Contains places place × IsCellOf first from place cell) ⊎ ((place : ℕ) × Contains places place × IsCellOf second (place + letters) last cell)
+  demanded_by_line first second read read' cell demands =
+      ⊎_elim
+      (λ (place, there, is). inl (place, there, subst (λ it. IsCellOf it from place cell) (sym (first_is first read)) is))
+      (λ (place, there, is). inr (place, there, subst (λ it. IsCellOf it (place + letters) last cell) (sym (second_is second read')) is))
+      (line_demands p parts from to letters last places has.parts.middle_fixed has.parts.tail_fixed boundaries cell (back_to_parts (λ all. Demands p all from to cell) demands))
+
+  -- the line may have the letters where the boundary has a place
+  pub cover_told : (is_empty : Bool) → is_empty ≡ (length places == 0) → IsTrue (not is_empty) ↔ Cover p arguments from to
+  cover_told true e = (
+    λ none. absurd cc,
+    λ cover.
+        let there = line_cover p parts from to letters last places has.parts.middle_fixed has.parts.tail_fixed boundaries (back_to_parts (λ all. Cover p all from to) cover) in
+        let none : length places ≡ 0 = eqb-true (length places) 0 (sym e) in
+        let at = there.1 in
+        absurd (omega (arith, at.1)),
+  )
+  cover_told false e = (
+    λ some. from_parts (λ all. Cover p all from to) (cover_line p parts from to letters last places has.parts.middle_fixed has.parts.tail_fixed boundaries (get_or places 0 0) (some_place places e)),
+    λ cover. refl,
+  )
+    where
+      some_place : (places : List ℕ) → false ≡ (length places == 0) → Contains places (get_or places 0 0)
+      some_place [] e = absurd cc
+      some_place (place ∷ places) e = (0, omega arith, refl)
+
+-- ---- the first argument, end by end
+
+-- the first argument may end at a place of the range, so that the others have the letters behind it
+abbrev pub CoversBelow : PosedProblem → Arg → List Arg → ℕ → ℕ → ℕ → ℕ → Type 0
+CoversBelow p argument others from to low high =
+    (end : ℕ) × (low ≤ end) × (end < high) × FitsSpan p (on_span argument from end) × Cover p others end to
+
+-- so that they demand the cell
+abbrev pub DemandsBelow : PosedProblem → Arg → List Arg → ℕ → ℕ → ℕ → ℕ → Cell → Type 0
+DemandsBelow p argument others from to low high cell =
+    (end : ℕ) × (low ≤ end) × (end < high) × FitsSpan p (on_span argument from end)
+    × ((IsCellOf argument from end cell × Cover p others end to) ⊎ Demands p others end to cell)
+
+module _ (p : PosedProblem) (argument : Arg) (others : List Arg) (from to low end : ℕ) where
+  last_or_before : (high : ℕ) → high < end + 1 → (high < end) ⊎ (high ≡ end)
+  last_or_before high l = elim (cases_lt high end) [ inl before ↦ inl before | inr behind ↦ inr (omega arith) ]
+
+  covers_cases : CoversBelow p argument others from to low (end + 1) → CoversBelow p argument others from to low end ⊎ Cover p others end to
+  covers_cases (at, l, m, fits, cover) = ⊎_elim (λ before. inl (at, l, before, fits, cover)) (λ e. inr (subst (λ x. Cover p others x to) e cover)) (last_or_before at m)
+
+  demands_cases : (cell : Cell) → DemandsBelow p argument others from to low (end + 1) cell
+      → DemandsBelow p argument others from to low end cell ⊎ ((IsCellOf argument from end cell × Cover p others end to) ⊎ Demands p others end to cell)
+  demands_cases cell (at, l, m, fits, some) =
+      ⊎_elim (λ before. inl (at, l, before, fits, some))
+      (λ e. inr (subst (λ x. (IsCellOf argument from x cell × Cover p others x to) ⊎ Demands p others x to cell) e some)) (last_or_before at m)
+
+  demands_keep : (cell : Cell) → DemandsBelow p argument others from to low end cell → DemandsBelow p argument others from to low (end + 1) cell
+  demands_keep cell (at, l, m, fits, some) = (at, l, omega arith, fits, some)
+
+  module _ (fits : FitsSpan p (on_span argument from end)) (above : low ≤ end) (begin : ℕ) (first second third : CellMarks) (before : AreMarkedFrom begin first second (DemandsBelow p argument others from to low end)) (here : AreMarkedFrom begin second third (Demands p others end to)) where
+    -- the others may not have the letters behind this end: nothing was marked
+    pub marked_none : (Cover p others end to → ⊥) → AreMarkedFrom begin first third (DemandsBelow p argument others from to low (end + 1))
+    marked_none none =
+        marked_like begin first third (λ cell. DemandsBelow p argument others from to low end cell ⊎ Demands p others end to cell) (DemandsBelow p argument others from to low (end + 1))
+        (λ cell some. ⊎_elim (demands_keep cell) (λ demands. absurd (none (cover_of_demands p others end to cell demands))) some)
+        (λ cell demands. ⊎_elim (λ was. inl was) (λ now. ⊎_elim (λ (is, cover). absurd (none cover)) (λ later. inr later) now) (demands_cases cell demands))
+        (marked_more begin first second third (DemandsBelow p argument others from to low end) (Demands p others end to) before here)
+
+    pub marked_some : (fourth : CellMarks) → Cover p others end to → AreMarkedFrom begin third fourth (IsCellOf argument from end) → AreMarkedFrom begin first fourth (DemandsBelow p argument others from to low (end + 1))
+    marked_some fourth cover last =
+        marked_like begin first fourth (λ cell. (DemandsBelow p argument others from to low end cell ⊎ Demands p others end to cell) ⊎ IsCellOf argument from end cell) (DemandsBelow p argument others from to low (end + 1))
+        (λ cell some. ⊎_elim (λ early. ⊎_elim (demands_keep cell) (λ later. (end, above, omega arith, fits, inr later)) early) (λ is. (end, above, omega arith, fits, inl (is, cover))) some)
+        (λ cell demands. ⊎_elim (λ was. inl (inl was)) (λ now. ⊎_elim (λ (is, _). inr is) (λ later. inl (inr later)) now) (demands_cases cell demands))
+        (marked_more begin first third fourth (λ cell. DemandsBelow p argument others from to low end cell ⊎ Demands p others end to cell) (IsCellOf argument from end)
+        (marked_more begin first second third (DemandsBelow p argument others from to low end) (Demands p others end to) before here) last)
+
+  pub covers_none : (was : Bool) → IsTrue was ↔ CoversBelow p argument others from to low end → (Cover p others end to → ⊥) → IsTrue was ↔ CoversBelow p argument others from to low (end + 1)
+  covers_none was told none = (
+    λ is. let c = told.0 is in (c.0, c.1, omega (arith, c.2), c.3, c.4),
+    λ covers. ⊎_elim (λ early. told.1 early) (λ cover. absurd (none cover)) (covers_cases covers),
+  )
+
+-- ---- where the line begins
+
+-- a line that begins with the first of the arguments
+pub line_now : (p : PosedProblem) (arguments : List Arg) (given here : Option Line) (ahead : ℕ) (it : Line) → here ≡ (if ahead == 0 then given else None) → here ≡ Some it
+    → IfSome given (λ at. IsLine p (drop ahead arguments) at) → IsLine p arguments it
+line_now p arguments given here ahead it told is has =
+    elim (cases_Bool (ahead == 0)) [
+      | inl begins ↦
+          let same : given ≡ Some it = ap (λ b. if b then given else None) (sym begins) ∙ sym told ∙ is in
+          let at_first = subst (λ n. IfSome given (λ at. IsLine p (drop n arguments) at)) (eqb-true ahead 0 begins) has in
+          subst (λ (o : Option Line). IfSome o (λ at. IsLine p arguments at)) same at_first
+      | inr later ↦ let none : here ≡ None = told ∙ ap (λ b. if b then given else None) later in absurd cc
+    ]
+
+-- a line that begins with one of the others
+pub line_later : (p : PosedProblem) (argument : Arg) (others : List Arg) (given here : Option Line) (ahead : ℕ) → here ≡ (if ahead == 0 then given else None) → here ≡ None
+    → IfSome given (λ at. IsLine p (drop ahead (argument ∷ others)) at) → IfSome given (λ at. IsLine p (drop (ahead - 1) others) at)
+line_later p argument others given here zero told is has =
+    let same : given ≡ None = sym told ∙ is in
+    subst (λ (o : Option Line). IfSome o (λ at. IsLine p (drop (0 - 1) others) at)) (sym same) tt
+line_later p argument others given here (suc ahead) told is has =
+    let same : ahead ≡ suc ahead - 1 = omega arith in
+    subst (λ n. IfSome given (λ at. IsLine p (drop n others) at)) same has
+
+-- ---- all ends of the first argument
+
+module _ (p : PosedProblem) (argument : Arg) (others : List Arg) (from to : ℕ) (places : Range ℕ) (past : ℕ) (are : ArePlaces p argument others from to places) (whole : places.end ≤ past) where
+  pub all_covered : (is_laid : Bool) → IsTrue is_laid ↔ CoversBelow p argument others from to places.start past → IsTrue is_laid ↔ Cover p (argument ∷ others) from to
+  all_covered is_laid told = (
+    λ is. let c = told.0 is in (c.0, c.3, c.4),
+    λ (end, fits, cover). let within = are.none_missed end fits cover in told.1 (end, within.0, omega (arith, within.1), fits, cover),
+  )
+
+  pub all_marked : (begin : ℕ) (first second : CellMarks) → AreMarkedFrom begin first second (DemandsBelow p argument others from to places.start past) → AreMarkedFrom begin first second (Demands p (argument ∷ others) from to)
+  all_marked begin first second marked =
+      marked_like begin first second (DemandsBelow p argument others from to places.start past) (Demands p (argument ∷ others) from to)
+      (λ cell (end, l, m, fits, some). (end, fits, some))
+      (λ cell (end, fits, some).
+      let cover = ⊎_elim (λ (is, cover). cover) (λ later. cover_of_demands p others end to cell later) some in
+      let within = are.none_missed end fits cover in
+      (end, within.0, omega (arith, within.1), fits, some))
+      marked
+
+-- ---- alternative by alternative
+
+-- one of the first alternatives of the cell's rule demands the child
+abbrev pub DemandsByFirst : PosedProblem → Cell → ℕ → Cell → Type 0
+DemandsByFirst p cell count child =
+    (alternative : ℕ) × (alternative < count) × Demands p (arguments_of p.grammar cell.rule alternative) cell.from cell.to child
+
+module _ (p : PosedProblem) (cell : Cell) where
+  pub one_more_alternative : (begin count : ℕ) (first second third : CellMarks) → AreMarkedFrom begin first second (DemandsByFirst p cell count) → AreMarkedFrom begin second third (Demands p (arguments_of p.grammar cell.rule count) cell.from cell.to)
+      → AreMarkedFrom begin first third (DemandsByFirst p cell (count + 1))
+  one_more_alternative begin count first second third before here =
+      marked_like begin first third (λ child. DemandsByFirst p cell count child ⊎ Demands p (arguments_of p.grammar cell.rule count) cell.from cell.to child) (DemandsByFirst p cell (count + 1))
+      (λ child some. ⊎_elim (λ (alternative, l, demands). (alternative, omega arith, demands)) (λ demands. (count, omega arith, demands)) some)
+      (λ child (alternative, l, demands).
+      ⊎_elim (λ early. inl (alternative, early, demands))
+      (λ same. let e : alternative ≡ count = omega arith in inr (subst (λ n. Demands p (arguments_of p.grammar cell.rule n) cell.from cell.to child) e demands))
+      (cases_lt alternative count))
+      (marked_more begin first second third (DemandsByFirst p cell count) (Demands p (arguments_of p.grammar cell.rule count) cell.from cell.to) before here)
+
+  pub all_alternatives : (few : (alternative : ℕ) → length (arguments_of p.grammar cell.rule alternative) ≤ 4) (begin : ℕ) (first second : CellMarks) → AreMarkedFrom begin first second (DemandsByFirst p cell (length (alternatives_of p.grammar cell.rule)))
+      → AreMarkedFrom begin first second (IsDemandedChild p cell)
+  all_alternatives few begin first second marked =
+      marked_like begin first second (DemandsByFirst p cell (length (alternatives_of p.grammar cell.rule))) (IsDemandedChild p cell)
+      (λ child (alternative, l, demands). child_of_demands p cell alternative child l (few alternative) demands)
+      (λ child (alternative, cuts, viable, stands). (alternative, viable.in_range, demands_of_child p cell alternative cuts child (some_arguments (arguments_of p.grammar cell.rule alternative) cell.from (ends_by cell cuts) stands) (few alternative) viable stands))
+      marked
+    where
+      some_arguments : {it : Placed} (arguments : List Arg) (from : ℕ) (ends : List ℕ) → Contains (place arguments from ends) it → 1 ≤ length arguments
+      some_arguments [] from ends (k, l, e) = absurd (omega arith)
+      some_arguments (argument ∷ arguments) from ends stands = omega arith

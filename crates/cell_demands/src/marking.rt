@@ -1,0 +1,286 @@
+//! The cells that a cell demands.
+
+ghost use Rattle.std.specs.Prelude.{◌≡◌, ◌↔◌, ◌+◌, ◌<◌, ◌≤◌, ℕ, [], ◌∷◌, IfSome, IsTrue, drop, length};
+ghost use Rattle.std.specs.List.{AllAdjacentBelow, AllByRecursion, Contains};
+ghost use Rattle.std.specs.Option.{option_copied};
+ghost use Rattle.adp_model.specs.declared.cell.Cell.{Cell};
+ghost use Rattle.adp_model.specs.PosedProblem.{IsSpan};
+ghost use Rattle.adp_model.specs.Parts.{alternatives_of, arguments_of};
+ghost use Rattle.adp_model.specs.Cells.{IsCounted};
+ghost use Rattle.adp_model.specs.Demand.{IsDemandedChild};
+ghost use Rattle.adp_model.specs.WellFormed.{IsKnown};
+ghost use Rattle.yield_sizes.specs.Placing.{Cover};
+ghost use Rattle.split_lines.specs.Flags.{AreBitsAmong};
+ghost use Rattle.split_lines.specs.Kept.{IsAlternative};
+ghost use Rattle.split_lines.specs.Laid.{Demands, IsCellOf};
+ghost use Rattle.split_lines.specs.Lines.{IsLine};
+ghost use Rattle.cell_tables.specs.Marks.{AreInRows, AreMarkedFrom, AreMarkedToo};
+
+use adp_model::laws::well_formed::arguments_are_few_and_known;
+use adp_model::{Arg, Cell};
+use cell_tables::Marks;
+use split_lines::{Boundary, KeptAlternative, Line, Lines, is_fixed, line_here};
+
+/// Marks the cell of the argument on a span, where the argument is a rule.
+fn mark_argument(argument: &Arg, from: u16, to: u16, marks: &mut Marks<'_>)
+    requires { (cell : Cell) → IsCellOf argument.now from to cell
+        → IsCounted marks.old.problem.grammar (length marks.old.problem.word) cell }
+    ensures marked { AreMarkedToo marks.old marks.new (IsCellOf argument.now from to) }
+    ensures in_row { AreInRows marks.new (IsCellOf argument.now from to) }
+{
+    if let Arg::Rule(rule) = argument {
+        marks.mark(Cell {
+            rule: *rule,
+            from,
+            to,
+        });
+    }
+}
+
+/// Marks the cells of the argument on the spans that begin at `from` and end at a place of the boundary, which has
+/// some, where the argument is a rule.
+fn mark_first(argument: &Arg, from: u16, boundary: Boundary<'_>, marks: &mut Marks<'_>)
+    requires some { 0 < length boundary.places.now }
+    requires bits { AreBitsAmong boundary.places.now 0 boundary.here.now }
+    requires short { (place : ℕ) → Contains boundary.places.now place → place ≤ 4000 }
+    requires counted { (cell : Cell) (end : ℕ) → Contains boundary.places.now end → IsCellOf argument.now from end cell
+        → IsCounted marks.old.problem.grammar (length marks.old.problem.word) cell }
+    ensures marked { AreMarkedToo marks.old marks.new
+        (λ cell. (end : ℕ) × Contains boundary.entry.places.now end × IsCellOf argument.now from end cell) }
+    ensures in_row { AreInRows marks.new
+        (λ cell. (end : ℕ) × Contains boundary.entry.places.now end × IsCellOf argument.now from end cell) }
+{
+    let Boundary { places, here, .. } = boundary;
+    if let Arg::Rule(rule) = argument {
+        let (first, last) = (places[0], places[places.len() - 1]);
+        marks.mark_ends_of(*rule, from, first, last + 1, here);
+    }
+}
+
+/// Marks the cells of the argument on the spans that begin behind the letters behind a place of the boundary, which has
+/// some, and end where the boundary says, where the argument is a rule. None of them begins before `begin`.
+fn mark_second(argument: &Arg, begin: u16, boundary: Boundary<'_>, marks: &mut Marks<'_>)
+    requires some { 0 < length boundary.places.now }
+    requires bits { AreBitsAmong boundary.places.now boundary.letters boundary.behind.now }
+    requires rising { AllAdjacentBelow (λ (a b : ℕ). a < b) boundary.places.now (length boundary.places.now) }
+    requires short { (place : ℕ) → Contains boundary.places.now place → place + boundary.letters ≤ 4000 }
+    requires begin { (place : ℕ) → Contains boundary.places.now place → begin ≤ place + boundary.letters }
+    requires counted { (cell : Cell) (start : ℕ) → Contains boundary.places.now start
+        → IsCellOf argument.now (start + boundary.letters) boundary.last cell
+        → IsCounted marks.old.problem.grammar (length marks.old.problem.word) cell }
+    ensures { AreMarkedFrom begin marks.old marks.new
+        (λ cell. (start : ℕ) × Contains boundary.entry.places.now start
+        × IsCellOf argument.now (start + boundary.entry.letters) boundary.entry.last cell) }
+{
+    let Boundary {
+        places,
+        behind,
+        letters,
+        last,
+        ..
+    } = boundary;
+    if let Arg::Rule(rule) = argument {
+        let (first, past) = (places[0] + letters, places[places.len() - 1] + letters + 1);
+        marks.mark_starts_of(*rule, last, first, past, behind);
+        if first == begin {
+            marks.mark(Cell {
+                rule: *rule,
+                from: first,
+                to: last,
+            });
+        }
+    }
+}
+
+/// Whether an argument may have the letters from `from` to `to`. Where it may, the cell that it demands there is marked,
+/// and else nothing is; it is marked in its row, so those that begin at `begin` are.
+#[inline(always)]
+fn mark_last(
+    lines: &Lines<'_>,
+    argument: &Arg,
+    begin: u16,
+    from: u16,
+    to: u16,
+    marks: &mut Marks<'_>,
+) -> bool
+    requires known { IsKnown lines.now.grammar argument.now }
+    requires span { IsSpan lines.now.word from to }
+    requires same_problem { marks.old.problem ≡ lines.now }
+    requires counted { (cell : Cell) → Demands lines.now (argument.now ∷ []) from to cell
+        → IsCounted lines.now.grammar (length lines.now.word) cell }
+    ensures laid { IsTrue result ↔ Cover lines.now (argument.now ∷ []) from to }
+    ensures marked { AreMarkedFrom begin marks.old marks.new (Demands lines.now (argument.now ∷ []) from to) }
+{
+    if !lines.fits(argument, from, to) {
+        return false;
+    }
+    mark_argument(argument, from, to, marks);
+    true
+}
+
+/// Whether the arguments of a line may have the letters from `from` to `to`. Where they may, the cells that they demand
+/// there are marked, and else nothing is; those that begin at `begin`, which is no later, are marked in their rows.
+fn mark_line(
+    lines: &Lines<'_>,
+    line: Line<'_>,
+    arguments: &[Arg],
+    begin: u16,
+    from: u16,
+    to: u16,
+    marks: &mut Marks<'_>,
+) -> bool
+    requires line { IsLine lines.now arguments.now line }
+    requires known { AllByRecursion (IsKnown lines.now.grammar) arguments.now }
+    requires begin { begin ≤ from }
+    requires span { IsSpan lines.now.word from to }
+    requires same_problem { marks.old.problem ≡ lines.now }
+    requires counted { (cell : Cell) → Demands lines.now arguments.now from to cell
+        → IsCounted lines.now.grammar (length lines.now.word) cell }
+    ensures laid { IsTrue result ↔ Cover lines.now arguments.now from to }
+    ensures marked { AreMarkedFrom begin marks.old marks.new (Demands lines.now arguments.now from to) }
+{
+    lines.problem().admissible();
+    let boundary = lines.boundary(line, arguments, from, to);
+    if boundary.places.is_empty() {
+        return false;
+    }
+    let second = &arguments[line.between as usize + 1];
+    mark_first(&arguments[0], from, boundary, marks);
+    mark_second(second, begin, boundary, marks);
+    true
+}
+
+/// Whether the arguments may have the letters from `from` to `to`. Where they may, the cells that they demand there are
+/// marked, and else nothing is; those that begin at `begin`, which is no later, are marked in their rows. If they have
+/// a line, `ahead` of them come before it.
+fn mark_arguments(
+    lines: &Lines<'_>,
+    line: Option<&Line<'_>>,
+    ahead: u8,
+    arguments: &[Arg],
+    begin: u16,
+    from: u16,
+    to: u16,
+    marks: &mut Marks<'_>,
+) -> bool
+    requires line { IfSome (option_copied line) (λ line. IsLine lines.now (drop ahead arguments.now) line) }
+    requires known { AllByRecursion (IsKnown lines.now.grammar) arguments.now }
+    requires few { length arguments.now ≤ 4 }
+    requires begin { begin ≤ from }
+    requires span { IsSpan lines.now.word from to }
+    requires same_problem { marks.old.problem ≡ lines.now }
+    requires counted { (cell : Cell) → Demands lines.now arguments.now from to cell
+        → IsCounted lines.now.grammar (length lines.now.word) cell }
+    ensures laid { IsTrue result ↔ Cover lines.now arguments.now from to }
+    ensures marked { AreMarkedFrom begin marks.old marks.new (Demands lines.now arguments.now from to) }
+{
+    if arguments.is_empty() {
+        return from == to;
+    }
+    if let Some(line) = line_here(line, ahead) {
+        return mark_line(lines, *line, arguments, begin, from, to, marks);
+    }
+    let (argument, others) = (&arguments[0], &arguments[1..]);
+    let ahead = ahead.saturating_sub(1);
+    if is_fixed(argument) {
+        return match lines.token_end(argument, from, to) {
+            Some(end) => mark_arguments(lines, line, ahead, others, begin, end, to, marks),
+            None => false,
+        };
+    }
+    if others.is_empty() {
+        return mark_last(lines, argument, begin, from, to, marks);
+    }
+    let mut is_laid = false;
+    let ends = lines.places(arguments, from, to);
+    for end in ends.start..ends.end {
+        if mark_arguments(lines, line, ahead, others, begin, end, to, marks) {
+            mark_argument(argument, from, end, marks);
+            is_laid = true;
+        }
+    }
+    is_laid
+}
+
+/// Marks what an alternative demands on a cell whose first letters its tokens in front have up to `from`; those that
+/// begin where the cell begins are marked in their rows.
+#[inline(never)]
+fn mark_others(
+    lines: &Lines<'_>,
+    cell: Cell,
+    alternative: &KeptAlternative<'_>,
+    alt: u8,
+    from: u16,
+    marks: &mut Marks<'_>,
+)
+    requires in_range { alt < length (alternatives_of lines.now.grammar cell.rule) }
+    requires alternative { IsAlternative lines.now cell.rule alt alternative.now }
+    requires behind { cell.from ≤ from }
+    requires span { IsSpan lines.now.word from cell.to }
+    requires same_problem { marks.old.problem ≡ lines.now }
+    requires counted { (child : Cell) → Demands lines.now alternative.now.others.now from cell.to child
+        → IsCounted lines.now.grammar (length lines.now.word) child }
+    ensures { AreMarkedFrom cell.from marks.old marks.new (Demands lines.now alternative.now.others.now from cell.to) }
+{
+    let others = alternative.others;
+    if others.len() == 1 {
+        mark_last(lines, &others[0], cell.from, from, cell.to, marks);
+        return;
+    }
+    let line = lines.line_behind(alternative, cell.rule, alt);
+    let ahead = line.map_or(0, |line| line.first);
+    mark_arguments(
+        lines,
+        line.as_ref(),
+        ahead,
+        others,
+        cell.from,
+        from,
+        cell.to,
+        marks,
+    );
+}
+
+/// Marks what an alternative demands on a cell; those that begin where the cell begins are marked in their rows.
+#[inline(always)]
+fn mark_alternative(
+    lines: &Lines<'_>,
+    cell: Cell,
+    alternative: &KeptAlternative<'_>,
+    alt: u8,
+    marks: &mut Marks<'_>,
+)
+    requires in_range { alt < length (alternatives_of lines.now.grammar cell.rule) }
+    requires alternative { IsAlternative lines.now cell.rule alt alternative.now }
+    requires span { IsSpan lines.now.word cell.from cell.to }
+    requires same_problem { marks.old.problem ≡ lines.now }
+    requires counted { (child : Cell)
+        → Demands lines.now (arguments_of lines.now.grammar cell.rule alt) cell.from cell.to child
+        → IsCounted lines.now.grammar (length lines.now.word) child }
+    ensures { AreMarkedFrom cell.from marks.old marks.new
+        (Demands lines.now (arguments_of lines.now.grammar cell.rule alt) cell.from cell.to) }
+{
+    if alternative.others.is_empty() {
+        return;
+    }
+    if let Some(end) = lines.front_end(alternative, cell.from, cell.to) {
+        mark_others(lines, cell, alternative, alt, end, marks);
+    }
+}
+
+/// Marks the demanded children of a cell; those that begin where it begins are marked in their rows. Takes no memory.
+pub fn mark_children(lines: &Lines<'_>, cell: Cell, marks: &mut Marks<'_>)
+    requires rule { cell.rule < length lines.now.grammar.rules }
+    requires span { IsSpan lines.now.word cell.from cell.to }
+    requires same_problem { marks.old.problem ≡ lines.now }
+    requires counted { (child : Cell) → IsDemandedChild lines.now cell child
+        → IsCounted lines.now.grammar (length lines.now.word) child }
+    ensures { AreMarkedFrom cell.from marks.old marks.new (IsDemandedChild lines.now cell) }
+{
+    lines.problem().admissible();
+    arguments_are_few_and_known();
+    let alternatives = lines.alternatives(cell.rule);
+    for number in 0..alternatives.len() {
+        mark_alternative(lines, cell, &alternatives[number], number as u8, marks);
+    }
+}

@@ -1,0 +1,12 @@
+use Rattle.std.proofs.Common.{get_or}
+use Rattle.score_numbers.specs.Packing.{medium}
+use Rattle.score_numbers.specs.Sums.{HasSum, number_at}
+use Rattle.score_numbers.proofs.Greatest.{HasBefore}
+use Rattle.score_numbers.proofs.LargestSums.{IsLargest}
+use Rattle.score_numbers.specs.Spaced.{least_sum}
+use Rattle.score_numbers.proofs.sums.greatest_scattered_medium.Given as goal
+
+-- the greatest of the sums at the first places
+abbrev pub invariant-loop-place : goal.invariant-loop-place
+invariant-loop-place l =
+    IsLargest (least_sum medium) (HasBefore (λ k. HasSum medium l.first l.second (number_at l.places (get_or l.places.at.now k 0))) l.place-index) l.greatest

@@ -1,0 +1,16 @@
+//! The numbers that scores are kept as, in as few bits as they need, and the greatest sums of two of them. A score is
+//! turned so that a better one is greater; one number of each width marks that there is no candidate.
+#![tactic(auto)]
+
+mod numbers;
+mod packing;
+mod sums;
+mod worthless;
+
+pub use numbers::{greater, turned, turned_factors};
+pub use packing::{
+    LONG_LIMIT, LONG_MARK, MEDIUM_LIMIT, MEDIUM_MARK, NO_CANDIDATE, NO_LIMIT, SHORT_LIMIT, SHORT_MARK, long_entry,
+    long_number, medium_entry, medium_number, score_of, short_entry, short_number,
+};
+pub use sums::{Places, Scales, greatest_long, greatest_medium, greatest_short};
+pub use worthless::are_worthless;

@@ -1,0 +1,286 @@
+//! The greatest sum of numbers before and behind the places of a boundary.
+
+ghost use Rattle.std.specs.Prelude.{◌≡◌, ℕ, pos, ◌+◌, ◌<◌, ◌≤◌, ◌⊎◌, ◌+ℤ◌, ◌*ℤ◌, IsTrue, nat_abs, length, map};
+ghost use Rattle.std.specs.List.{AllAdjacentBelow};
+ghost use Rattle.adp_model.specs.ProblemFields.{greatest_score};
+ghost use Rattle.score_numbers.specs.Entries.{no_candidate};
+ghost use Rattle.score_numbers.specs.Packing.{AreProper, long, medium, short};
+ghost use Rattle.score_numbers.specs.Limits.{AreLimited, AreLimits};
+ghost use Rattle.score_numbers.specs.Sums.{AreLowSums, HasScaledSumAt, HasSum, HasSumAt, HasUnlimitedSum, HaveNumbers};
+ghost use Rattle.score_numbers.specs.Greatest.{IsGreatestOf};
+
+use crate::packing::{
+    LONG_LIMIT, LONG_MARK, MEDIUM_LIMIT, MEDIUM_MARK, NO_CANDIDATE, Number, SHORT_LIMIT,
+    SHORT_MARK, score_of,
+};
+
+/// Where one number in so many, or fewer of them, stands at a place, these are read one by one, and else all are.
+const SPARSE: usize = 6;
+
+/// The places of a boundary, in order. Numbers before them and numbers behind them are those for the places from
+/// `first` on.
+#[derive(Clone, Copy)]
+pub struct Places<'l> {
+    pub at: &'l [u16],
+    pub first: u16,
+}
+
+/// The factors of the numbers before the places and of those behind them.
+#[derive(Clone, Copy)]
+pub struct Scales {
+    pub before: i64,
+    pub behind: i64,
+}
+
+impl Scales {
+    /// Whether they leave numbers as they are.
+    fn are_plain(self) -> bool
+        ensures { IsTrue result → (self.before ≡ pos 1) × (self.behind ≡ pos 1) }
+    {
+        self.before == 1 && self.behind == 1
+    }
+
+    /// The sum of two numbers, each times its factor, as an entry: lowest where one of them is the mark.
+    fn sum(self, mark: i64, before: i64, behind: i64) -> i64
+        requires low { (before ≡ mark → ⊥) → (behind ≡ mark → ⊥)
+            → nat_abs (self.before *ℤ before) + nat_abs (self.behind *ℤ behind) ≤ greatest_score }
+        ensures marked { (before ≡ mark) ⊎ (behind ≡ mark) → result ≡ no_candidate }
+        ensures scored { (before ≡ mark → ⊥) → (behind ≡ mark → ⊥)
+            → result ≡ ((self.before *ℤ before) +ℤ (self.behind *ℤ behind)) }
+    {
+        if before == mark || behind == mark {
+            NO_CANDIDATE
+        } else {
+            self.before * before + self.behind * behind
+        }
+    }
+}
+
+/// The greatest sum of numbers at the places, each times its factor.
+fn greatest_scaled<N: Number>(
+    first: &[N],
+    second: &[N],
+    mark: i64,
+    places: Places<'_>,
+    scales: Scales,
+) -> Option<i64>
+    requires have { HaveNumbers places (map N.value first.now) (map N.value second.now) }
+    requires low { AreLowSums mark scales places (map N.value first.now) (map N.value second.now) }
+    ensures { IsGreatestOf (HasScaledSumAt mark scales places.entry (map N.value first.now) (map N.value second.now))
+        result }
+{
+    let mut greatest = NO_CANDIDATE;
+    for place in places.at {
+        let number = *place as usize - places.first as usize;
+        let (before, behind) = (first[number].wide(), second[number].wide());
+        greatest = greatest.max(scales.sum(mark, before, behind));
+    }
+    score_of(greatest)
+}
+
+/// The greatest sum of numbers of 16 bits side by side.
+fn greatest_aligned_short(first: &[i16], second: &[i16]) -> Option<i64>
+    requires first { AreProper short first.now }
+    requires second { AreProper short second.now }
+    ensures { IsGreatestOf (λ sum. (k : ℕ) × HasSum short first.now second.now k sum) result }
+{
+    let mut greatest = SHORT_MARK;
+    for (a, b) in first.iter().zip(second) {
+        greatest = greatest.max(*a + *b);
+    }
+    if greatest < -2 * SHORT_LIMIT {
+        None
+    } else {
+        Some(i64::from(greatest))
+    }
+}
+
+/// The greatest sum of numbers of 16 bits at places here and there.
+fn greatest_scattered_short(first: &[i16], second: &[i16], places: Places<'_>) -> Option<i64>
+    requires first { AreProper short first.now }
+    requires second { AreProper short second.now }
+    requires have { HaveNumbers places first.now second.now }
+    ensures { IsGreatestOf (HasSumAt short places.entry first.now second.now) result }
+{
+    let mut greatest = SHORT_MARK;
+    for place in places.at {
+        let number = *place as usize - places.first as usize;
+        greatest = greatest.max(first[number] + second[number]);
+    }
+    if greatest < -2 * SHORT_LIMIT {
+        None
+    } else {
+        Some(i64::from(greatest))
+    }
+}
+
+/// The greatest sum of numbers of 16 bits side by side, where there is no limit.
+fn greatest_limited_short(first: &[i16], second: &[i16], limits: &[i16]) -> Option<i64>
+    requires first { AreProper short first.now }
+    requires second { AreProper short second.now }
+    requires limits { AreLimits limits.now }
+    requires as_many { length first.now ≡ length limits.now }
+    requires as_many_behind { length second.now ≡ length limits.now }
+    ensures { IsGreatestOf (HasUnlimitedSum limits.now first.now second.now) result }
+{
+    let mut greatest = SHORT_MARK;
+    for (k, limit) in limits.iter().enumerate() {
+        greatest = greatest.max((first[k] + second[k]).min(*limit));
+    }
+    if greatest < -2 * SHORT_LIMIT {
+        None
+    } else {
+        Some(i64::from(greatest))
+    }
+}
+
+/// The greatest sum of numbers of 16 bits before and behind the places, each times its factor. Limits tell the places
+/// too, from the first of them to the last one.
+#[inline(always)]
+pub fn greatest_short(
+    first: &[i16],
+    second: &[i16],
+    places: Places<'_>,
+    limits: &[i16],
+    scales: Scales,
+) -> Option<i64>
+    requires first { AreProper short first.now }
+    requires second { AreProper short second.now }
+    requires have { HaveNumbers places first.now second.now }
+    requires rising { AllAdjacentBelow (λ (a b : ℕ). a < b) places.at.now (length places.at.now) }
+    requires limits { AreLimited places.at.now limits.now }
+    requires low { AreLowSums short.mark scales places first.now second.now }
+    ensures { IsGreatestOf (HasScaledSumAt short.mark scales places.entry first.now second.now) result }
+{
+    if !scales.are_plain() {
+        return greatest_scaled(first, second, i64::from(SHORT_MARK), places, scales);
+    }
+    let (count, span) = (places.at.len(), limits.len());
+    if first.len() != span || second.len() != span || span / SPARSE >= count {
+        greatest_scattered_short(first, second, places)
+    } else if count == span {
+        greatest_aligned_short(first, second)
+    } else {
+        greatest_limited_short(first, second, limits)
+    }
+}
+
+/// The greatest sum of numbers of 32 bits side by side.
+fn greatest_aligned_medium(first: &[i32], second: &[i32]) -> Option<i64>
+    requires first { AreProper medium first.now }
+    requires second { AreProper medium second.now }
+    ensures { IsGreatestOf (λ sum. (k : ℕ) × HasSum medium first.now second.now k sum) result }
+{
+    let mut greatest = MEDIUM_MARK;
+    for (a, b) in first.iter().zip(second) {
+        greatest = greatest.max(*a + *b);
+    }
+    if greatest < -2 * MEDIUM_LIMIT {
+        None
+    } else {
+        Some(i64::from(greatest))
+    }
+}
+
+/// The greatest sum of numbers of 32 bits at places here and there.
+fn greatest_scattered_medium(first: &[i32], second: &[i32], places: Places<'_>) -> Option<i64>
+    requires first { AreProper medium first.now }
+    requires second { AreProper medium second.now }
+    requires have { HaveNumbers places first.now second.now }
+    ensures { IsGreatestOf (HasSumAt medium places.entry first.now second.now) result }
+{
+    let mut greatest = MEDIUM_MARK;
+    for place in places.at {
+        let number = *place as usize - places.first as usize;
+        greatest = greatest.max(first[number] + second[number]);
+    }
+    if greatest < -2 * MEDIUM_LIMIT {
+        None
+    } else {
+        Some(i64::from(greatest))
+    }
+}
+
+/// The greatest sum of numbers of 32 bits before and behind the places, each times its factor.
+pub fn greatest_medium(
+    first: &[i32],
+    second: &[i32],
+    places: Places<'_>,
+    scales: Scales,
+) -> Option<i64>
+    requires first { AreProper medium first.now }
+    requires second { AreProper medium second.now }
+    requires have { HaveNumbers places first.now second.now }
+    requires rising { AllAdjacentBelow (λ (a b : ℕ). a < b) places.at.now (length places.at.now) }
+    requires low { AreLowSums medium.mark scales places first.now second.now }
+    ensures { IsGreatestOf (HasScaledSumAt medium.mark scales places.entry first.now second.now) result }
+{
+    if !scales.are_plain() {
+        return greatest_scaled(first, second, i64::from(MEDIUM_MARK), places, scales);
+    }
+    if first.len() == places.at.len() && second.len() == places.at.len() {
+        greatest_aligned_medium(first, second)
+    } else {
+        greatest_scattered_medium(first, second, places)
+    }
+}
+
+/// The greatest sum of numbers of 64 bits side by side.
+fn greatest_aligned_long(first: &[i64], second: &[i64]) -> Option<i64>
+    requires first { AreProper long first.now }
+    requires second { AreProper long second.now }
+    ensures { IsGreatestOf (λ sum. (k : ℕ) × HasSum long first.now second.now k sum) result }
+{
+    let mut greatest = LONG_MARK;
+    for (a, b) in first.iter().zip(second) {
+        greatest = greatest.max(*a + *b);
+    }
+    if greatest < -2 * LONG_LIMIT {
+        None
+    } else {
+        Some(greatest)
+    }
+}
+
+/// The greatest sum of numbers of 64 bits at places here and there.
+fn greatest_scattered_long(first: &[i64], second: &[i64], places: Places<'_>) -> Option<i64>
+    requires first { AreProper long first.now }
+    requires second { AreProper long second.now }
+    requires have { HaveNumbers places first.now second.now }
+    ensures { IsGreatestOf (HasSumAt long places.entry first.now second.now) result }
+{
+    let mut greatest = LONG_MARK;
+    for place in places.at {
+        let number = *place as usize - places.first as usize;
+        greatest = greatest.max(first[number] + second[number]);
+    }
+    if greatest < -2 * LONG_LIMIT {
+        None
+    } else {
+        Some(greatest)
+    }
+}
+
+/// The greatest sum of numbers of 64 bits before and behind the places, each times its factor.
+pub fn greatest_long(
+    first: &[i64],
+    second: &[i64],
+    places: Places<'_>,
+    scales: Scales,
+) -> Option<i64>
+    requires first { AreProper long first.now }
+    requires second { AreProper long second.now }
+    requires have { HaveNumbers places first.now second.now }
+    requires rising { AllAdjacentBelow (λ (a b : ℕ). a < b) places.at.now (length places.at.now) }
+    requires low { AreLowSums long.mark scales places first.now second.now }
+    ensures { IsGreatestOf (HasScaledSumAt long.mark scales places.entry first.now second.now) result }
+{
+    if !scales.are_plain() {
+        return greatest_scaled(first, second, LONG_MARK, places, scales);
+    }
+    if first.len() == places.at.len() && second.len() == places.at.len() {
+        greatest_aligned_long(first, second)
+    } else {
+        greatest_scattered_long(first, second, places)
+    }
+}

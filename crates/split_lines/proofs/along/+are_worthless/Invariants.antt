@@ -1,5 +1,0 @@
-use Rattle.std.proofs.Common.{length}
-use Rattle.split_lines.proofs.along.+are_worthless.Given as goal
-
-abbrev pub decreases-are_worthless : goal.decreases-are_worthless
-decreases-are_worthless l = length l.tokens.now

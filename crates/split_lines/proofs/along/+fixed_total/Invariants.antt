@@ -1,5 +1,0 @@
-use Rattle.std.proofs.Common.{length}
-use Rattle.split_lines.proofs.along.+fixed_total.Given as goal
-
-abbrev pub decreases-fixed_total : goal.decreases-fixed_total
-decreases-fixed_total l = length l.tokens.now

@@ -1,7 +1,0 @@
-use Rattle.adp_model.specs.Bellman.{HasBestScore}
-use Rattle.split_lines.proofs.ScaledTotals.{worthless_total}
-use Rattle.split_lines.proofs.along.between_total.Goals as goal
-
-pub returns-else-weigh : goal.returns-else-weigh
-returns-else-weigh c =
-    worthless_total c.args.lines.now (HasBestScore c.args.lines.now) c.args.tokens.now c.args.factors.now c.args.from c.args.to (c.requires.worthless c.if-weigh.false) c.requires.fixed c.requires.covers
