@@ -3,3 +3,10 @@ pub mod PlacedArguments
 pub mod Walks
 pub mod WalkEnds
 pub mod SeekSteps
+pub mod Counts
+pub mod Knowing
+pub mod LeftArguments
+pub mod Frames
+pub mod StepsFall
+pub mod Few
+pub mod Kept

@@ -2,7 +2,10 @@
 #![tactic(auto)]
 
 mod noted_cells;
+mod notes;
 mod walk;
+mod work;
 
 pub use noted_cells::NotedCells;
 pub use walk::{asked, seek};
+pub use work::Turn;
