@@ -1,12 +1,10 @@
 -- What the list of frames tells: its cells are demanded, and each lies above all that is sought from it.
-use Rattle.std.proofs.Common.{◌≡◌, ℕ, zero, suc, ◌+◌, ◌<◌, ◌≤◌, List, [], ◌∷◌, length, get_or, refl, sym, subst, ap, ◌∙◌, arith}
-use Rattle.std.specs.Prelude.{Option, Some, None, slice_get}
+use Rattle.std.proofs.Common.{◌≡◌, ℕ, zero, suc, ◌+◌, ◌<◌, ◌≤◌, List, [], ◌∷◌, length, refl, sym, subst, ap, arith}
+use Rattle.std.specs.Prelude.{Some, slice_get}
 use Rattle.std.specs.List.{Contains, AllByRecursion}
-use Rattle.std.proofs.lemmas.Option.{slice_get_cases}
-use Rattle.adp_model.specs.declared.grammar.Arg.TheVariants.{Rule}
 use Rattle.adp_model.specs.declared.cell.Cell.{Cell}
 use Rattle.adp_model.specs.PosedProblem.{PosedProblem, axiom_cell}
-use Rattle.adp_model.specs.Splits.{Placed, placed}
+use Rattle.adp_model.specs.Splits.{placed}
 use Rattle.adp_model.specs.Demand.{IsDemanded, Child, IsDemandedChild}
 use Rattle.adp_model.specs.declared.visit.Frame.{Frame}
 use Rattle.adp_model.specs.SplitArguments.{SplitArgument, AsksFor}

@@ -1,7 +1,6 @@
 -- Each kind of step keeps what holds of a machine that goes on.
-use Rattle.std.proofs.Common.{◌≡◌, ◌≢◌, ◌↔◌, ℕ, ◌+◌, ◌<◌, ◌≤◌, ◌⊎◌, inl, inr, Bool, true, false, Option, Some, None, List, [], ◌∷◌, length, refl, sym, subst, ap, ◌∙◌, arith}
-use Rattle.std.specs.Prelude.{slice_get}
-use Rattle.std.specs.List.{Contains, AllByRecursion}
+use Rattle.std.proofs.Common.{◌≡◌, ◌≢◌, ◌↔◌, ℕ, ◌<◌, ◌⊎◌, inl, inr, Bool, true, false, Option, Some, None, List, [], ◌∷◌, length, refl, sym, subst, ap, ◌∙◌, arith}
+use Rattle.std.specs.List.{AllByRecursion}
 use Rattle.std.proofs.lemmas.Option.{slice_get_read}
 use Rattle.adp_model.specs.declared.grammar.Arg.TheVariants.{Rule}
 use Rattle.adp_model.specs.declared.cell.Answer.{Answer}
@@ -15,11 +14,11 @@ use Rattle.adp_model.specs.declared.visit.Visit.{Visit}
 use Rattle.adp_model.specs.declared.visit.Frame.{Frame}
 use Rattle.adp_model.specs.declared.visit.Hand.{Hand}
 use Rattle.adp_model.specs.declared.probe.Stage.{Stage}
-use Rattle.adp_model.specs.declared.probe.Stage.TheVariants.{Open, Unpublished, Publishing, Done}
+use Rattle.adp_model.specs.declared.probe.Stage.TheVariants.{Unpublished, Publishing}
 use Rattle.adp_model.specs.SplitArguments.{SplitArgument, AsksFor, IsSplitArgument}
 use Rattle.adp_model.specs.Visits.{argument_at, is_before, is_behind, is_behind_position, IsWalk}
 use Rattle.adp_model.specs.Memos.{Meaning, StayKnown, AddsNothing, AddsAtMost, IsAdded}
-use Rattle.adp_model.specs.Machines.{IsVisit, AreFrames, sought_by, IsInHand, IsFollowing, IsWaiting, AreProbes, IsReady, IsGoing}
+use Rattle.adp_model.specs.Machines.{IsVisit, AreFrames, IsInHand, IsFollowing, IsWaiting, AreProbes, IsGoing}
 use Rattle.cell_core.specs.Seeking.{moved_to, IsNextSought, IsNoneSought}
 use Rattle.cell_core.proofs.Frames.{sought_below}
 

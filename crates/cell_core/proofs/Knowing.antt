@@ -1,8 +1,8 @@
 -- What a pass knows, as a test.
-use Rattle.std.proofs.Common.{◌≡◌, ◌⊎◌, inl, inr, Bool, true, false, refl, sym, ◌∙◌}
+use Rattle.std.proofs.Common.{◌≡◌, ◌⊎◌, inl, inr, true, false, refl}
 use Rattle.std.proofs.lemmas.Bool.{false≢true, false_from_ne_true}
 use Rattle.adp_model.specs.declared.cell.Cell.{Cell}
-use Rattle.adp_model.specs.Memos.{Meaning, StayKnown, AddsNothing}
+use Rattle.adp_model.specs.Memos.{Meaning, StayKnown}
 use Rattle.adp_model.specs.Machines.{holds, is_known}
 
 holds_from : {A B : Type 0} (either : A ⊎ B) → holds either ≡ true → A

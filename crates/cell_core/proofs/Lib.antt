@@ -10,3 +10,8 @@ pub mod Frames
 pub mod StepsFall
 pub mod Few
 pub mod Kept
+pub mod Heights
+pub mod Worked
+pub mod Opening
+pub mod Changes
+pub mod Closing

@@ -1,2 +1,3 @@
 pub mod Seeking
 pub mod Working
+pub mod FrameChanges

@@ -1,5 +1,5 @@
 -- What holds of the parts of a machine that change from step to step.
-use Rattle.std.specs.Prelude.{◌≡◌, ℕ, ℤ, ◌+◌, ◌*◌, ◌≤◌, Bool, true, false, Option, Some, None, List, [], ◌∷◌, reverse, length, vec_capacity}
+use Rattle.std.specs.Prelude.{◌≡◌, ℕ, ℤ, ◌+◌, ◌*◌, ◌≤◌, ◌⊎◌, Bool, true, false, Option, Some, None, List, [], ◌∷◌, reverse, length, vec_capacity}
 use Rattle.adp_model.specs.declared.cell.Cell.{Cell}
 use Rattle.adp_model.specs.declared.visit.Frame.{Frame}
 use Rattle.adp_model.specs.declared.visit.Hand.{Hand}
@@ -62,6 +62,18 @@ pub record IsOpened {Probe : Type 0} (work work' : Work Probe) (frame : Frame Pr
   pub moves : work'.moves ≡ work.moves
   pub ended : work'.ended ≡ work.ended
   pub score : work'.score ≡ work.score
+
+-- the top frame was taken, and the next one is on top, or none is left and the work has ended with this score
+pub record IsClosed {Probe : Type 0} (work work' : Work Probe) (score : Option ℤ) : Type 0 where
+  pub hand : work'.hand ≡ work.hand
+  pub ready : work'.ready ≡ None
+  pub capacity : vec_capacity work'.below ≡ vec_capacity work.below
+  pub opened : work'.opened ≡ work.opened
+  pub wins : work'.wins ≡ work.wins
+  pub moves : work'.moves ≡ work.moves
+  pub next : ((next : Frame Probe) × (work'.top ≡ Some next) × (reverse work.below.items ≡ next ∷ reverse work'.below.items)
+      × (work'.ended ≡ work.ended))
+      ⊎ ((work'.top ≡ None) × (reverse work.below.items ≡ []) × (work'.ended ≡ true) × (work'.score ≡ score))
 
 -- what a turn tells of the machine after it
 abbrev pub IsTurn : Bool → Option ℤ → Turn → Type 0

@@ -1,4 +1,24 @@
-use adp_model::{Answer, Frame, Hand};
+ghost use Rattle.std.specs.Prelude.{◌≡◌, ◌≢◌, ◌↔◌, ◌⊎◌, ◌+◌, ◌<◌, ◌≤◌, ◌^◌, ℕ, true, false, None, Some, List, [], ◌∷◌, IfSome, length, vec_capacity};
+ghost use Rattle.adp_model.specs.declared.cell.Cell.{Cell as AnyCell};
+ghost use Rattle.adp_model.specs.PosedProblem.{PosedProblem};
+ghost use Rattle.adp_model.specs.Answers.{IsAnswer};
+ghost use Rattle.adp_model.specs.Demand.{IsDemanded, IsDemandedCount};
+ghost use Rattle.adp_model.specs.SplitArguments.{SplitArgument, AreRuleArguments};
+ghost use Rattle.adp_model.specs.StepsMade.{steps_made};
+ghost use Rattle.adp_model.specs.Visits.{IsWalk};
+ghost use Rattle.adp_model.specs.Memos.{IsScoreOf, StayKnown};
+ghost use Rattle.random_orders.specs.Draws.{drawn_turns};
+ghost use Rattle.cell_core.specs.Working.{all_frames, with_hand, with_top, IsSound, IsOpened, IsClosed, IsTurn, work_left};
+ghost use Rattle.cell_core.specs.FrameChanges.{standing, turn_bounds, ChangesFrames, GainsWins};
+
+use crate::notes::Notes;
+use adp_model::laws::demand::demanded_cells_are_counted;
+use adp_model::laws::existence::demanded_cells_are_listed;
+use adp_model::laws::heights::heights_fall;
+use adp_model::laws::well_formed::numbers_fit_together;
+use adp_model::{Answer, Cell, Frame, Hand, Look, Memo, Problem, Publish, Steps, Visit};
+use random_orders::Orders;
+use std::sync::ledger::Ledger;
 
 /// What a step of a machine tells: that it goes on, or that it has ended, with the score of the axiom's answer.
 #[derive(Clone, Copy, Debug, PartialEq, Eq)]
@@ -11,14 +31,281 @@ pub enum Turn {
 /// answer of the top frame's cell, once it is found; how many frames it opened, how many of its publications were won,
 /// how many steps it made; and, at the end, the score of the axiom's cell.
 #[derive(Drop)]
-pub(crate) struct Work<P> {
-    pub(crate) hand: Option<Hand<P>>,
-    pub(crate) top: Option<Frame<P>>,
-    pub(crate) below: Vec<Frame<P>>,
-    pub(crate) ready: Option<Answer>,
-    pub(crate) opened: u64,
-    pub(crate) wins: u64,
-    pub(crate) moves: u64,
-    pub(crate) ended: bool,
-    pub(crate) score: Option<i64>,
+pub struct Work<P> {
+    pub hand: Option<Hand<P>>,
+    pub top: Option<Frame<P>>,
+    pub below: Vec<Frame<P>>,
+    pub ready: Option<Answer>,
+    pub opened: u64,
+    pub wins: u64,
+    pub moves: u64,
+    pub ended: bool,
+    pub score: Option<i64>,
+}
+
+/// Takes the probe of the axiom's cell in hand.
+pub fn begin<M: Memo, N: Notes>(
+    problem: &Problem<'_>,
+    notes: &N,
+    memo: &M,
+    pass: &M::Pass,
+    work: &mut Work<M::Probe>,
+)
+    requires memo { M.problem memo.now ≡ problem.now }
+    requires own { M.is_of memo.now pass.now }
+    requires going { work.old.ended ≡ false }
+    requires no_hand { work.old.hand ≡ None }
+    requires no_answer { work.old.ready ≡ None }
+    requires fresh { work.old.top ≡ None }
+    requires sound { IsSound M.meaning problem.now (N.noted notes.now) work.old pass.now }
+    ensures going { work.new.ended ≡ false }
+    ensures at_hand { work.new.hand ≢ None }
+    ensures rest { (work.new.ready ≡ None) × (work.new.top ≡ None) × (work.new.below ≡ work.old.below) }
+    ensures numbers { (work.new.opened ≡ work.old.opened) × (work.new.wins ≡ work.old.wins) × (work.new.moves ≡ work.old.moves) }
+    ensures sound { IsSound M.meaning problem.now (N.noted notes.now) work.new pass.now }
+    ensures lower { (m : ℕ) (arguments : List SplitArgument) → IsDemandedCount problem.now m
+        → work_left M.meaning problem.now m arguments work.new pass.now
+        ≤ work_left M.meaning problem.now m arguments work.old pass.now }
+{
+    problem.admissible();
+    heights_fall();
+    let cell = problem.axiom_cell();
+    let probe = memo.probe(cell);
+    work.hand = Some(Hand { cell, probe });
+}
+
+/// Takes a probe in hand for the next argument of the top frame's visit, or finds the answer of its cell where none is
+/// left.
+pub fn advance<M: Memo, N: Notes>(
+    problem: &Problem<'_>,
+    notes: &N,
+    memo: &M,
+    pass: &M::Pass,
+    work: &mut Work<M::Probe>,
+)
+    requires memo { M.problem memo.now ≡ problem.now }
+    requires notes { N.problem notes.now ≡ problem.now }
+    requires own { M.is_of memo.now pass.now }
+    requires going { work.old.ended ≡ false }
+    requires no_hand { work.old.hand ≡ None }
+    requires no_answer { work.old.ready ≡ None }
+    requires begun { work.old.top ≢ None }
+    requires sound { IsSound M.meaning problem.now (N.noted notes.now) work.old pass.now }
+    ensures going { work.new.ended ≡ false }
+    ensures at_hand { (work.new.hand ≢ None) ⊎ (work.new.ready ≢ None) }
+    ensures stands { (orders : _) → standing (all_frames work.new) work.new.opened orders
+        ≡ standing (all_frames work.old) work.old.opened orders }
+    ensures numbers { (work.new.wins ≡ work.old.wins) × (work.new.moves ≡ work.old.moves) }
+    ensures sound { IsSound M.meaning problem.now (N.noted notes.now) work.new pass.now }
+    ensures lower { (m : ℕ) (arguments : List SplitArgument) → IsDemandedCount problem.now m
+        → AreRuleArguments problem.now arguments
+        → work_left M.meaning problem.now m arguments work.new pass.now
+        ≤ work_left M.meaning problem.now m arguments work.old pass.now }
+{
+    problem.admissible();
+    heights_fall();
+    let Some(top) = &mut work.top else {
+        unreachable!();
+    };
+    match notes.next_argument(top.visit) {
+        Some((position, cell)) => {
+            top.visit.at = Some(position);
+            let probe = memo.probe(cell);
+            work.hand = Some(Hand { cell, probe });
+        }
+        None => work.ready = Some(notes.answer(top.visit.cell)),
+    }
+}
+
+/// The visit of an opened cell: its four turns are the next four draws.
+fn opened_visit(problem: &Problem<'_>, orders: &mut Orders, cell: Cell) -> Visit
+    requires demanded { IsDemanded problem.now cell }
+    ensures cell { result.cell ≡ cell }
+    ensures at { result.at ≡ None }
+    ensures walk { IsWalk problem.now result }
+    ensures drawn { (result.first ∷ result.turns, orders.new) ≡ drawn_turns (turn_bounds problem.now cell) orders.old }
+{
+    problem.admissible();
+    demanded_cells_are_counted();
+    let count = problem.alternatives(cell.rule).len();
+    let places = u32::from(cell.to - cell.from) + 1;
+    let first = orders.turn(count as u32);
+    let turns = [
+        orders.turn(places),
+        orders.turn(places),
+        orders.turn(places),
+    ];
+    Visit {
+        cell,
+        first,
+        turns,
+        at: None,
+    }
+}
+
+/// Puts a frame on top.
+fn open<P: Drop>(work: &mut Work<P>, frame: Frame<P>)
+    requires nothing_below { work.old.top ≡ None → work.old.below.items ≡ [] }
+    requires room { IfSome work.old.top (λ top. length work.old.below.items < vec_capacity work.old.below) }
+    requires few { work.old.opened + 1 < 2 ^ 64 }
+    ensures { IsOpened work.old work.new frame }
+{
+    if let Some(top) = work.top.take() {
+        match work.below.push(top) {
+            Ok(()) => {}
+            Err(_) => unreachable!(),
+        }
+    }
+    work.top = Some(frame);
+    work.opened += 1;
+}
+
+/// Makes one step of the look in hand.
+pub fn look<M: Memo, N: Notes, L: Ledger>(
+    problem: &Problem<'_>,
+    orders: &mut Orders,
+    notes: &mut N,
+    memo: &M,
+    pass: &mut M::Pass,
+    work: &mut Work<M::Probe>,
+    mut hand: Hand<M::Probe>,
+    steps: &mut Steps<L>,
+)
+    requires memo { M.problem memo.now ≡ problem.now }
+    requires notes { N.problem notes.old ≡ problem.now }
+    requires own { M.is_of memo.now pass.old }
+    requires going { work.old.ended ≡ false }
+    requires no_hand { work.old.hand ≡ None }
+    requires no_answer { work.old.ready ≡ None }
+    requires sound { IsSound M.meaning problem.now (N.noted notes.old) (with_hand work.old hand) pass.old }
+    ensures notes { N.problem notes.new ≡ problem.now }
+    ensures own { M.is_of memo.now pass.new }
+    ensures share { M.meaning.share pass.new ≡ M.meaning.share pass.old }
+    ensures known { StayKnown (M.meaning.known pass.old) (M.meaning.known pass.new) }
+    ensures wins { GainsWins M.meaning pass.old pass.new work.old.wins work.new.wins }
+    ensures moves { work.new.moves ≡ work.old.moves }
+    ensures frames { ChangesFrames M.meaning problem.now pass.old pass.new
+        (standing (all_frames work.old) work.old.opened orders.old)
+        (standing (all_frames work.new) work.new.opened orders.new) }
+    ensures next { (work.new.hand ≡ None) → work.new.ended ≡ false → work.new.top ≢ None }
+    ensures no_answer { work.new.ready ≡ None }
+    ensures steps { steps_made steps.new ≡ steps_made steps.old + 1 }
+    ensures sound { IsSound M.meaning problem.now (N.noted notes.new) work.new pass.new }
+    ensures lower { (m : ℕ) (arguments : List SplitArgument) → IsDemandedCount problem.now m
+        → work_left M.meaning problem.now m arguments work.new pass.new
+        < work_left M.meaning problem.now m arguments (with_hand work.old hand) pass.old }
+{
+    problem.admissible();
+    heights_fall();
+    demanded_cells_are_listed();
+    numbers_fit_together();
+    match memo.look_step(pass, &mut hand.probe, steps) {
+        Look::Going => work.hand = Some(hand),
+        Look::Unpublished => {
+            let visit = opened_visit(problem, orders, hand.cell);
+            open(
+                work,
+                Frame {
+                    visit,
+                    probe: hand.probe,
+                },
+            );
+        }
+        Look::Found(score) => {
+            notes.note(hand.cell, score);
+            match &work.top {
+                Some(_) => {}
+                None => {
+                    work.ended = true;
+                    work.score = score;
+                }
+            }
+        }
+    }
+}
+
+/// The score of an answer.
+fn score_of(answer: Answer) -> Option<i64>
+    ensures { (p : PosedProblem) (cell : AnyCell) → IsAnswer p cell answer → IsScoreOf p cell result }
+{
+    match answer {
+        Answer::NoCandidate => None,
+        Answer::Best { score, choice: _ } => Some(score),
+    }
+}
+
+/// Notes the score of the cell of the frame that was on top. The frame below it is on top then, or the machine has ended.
+fn close<N: Notes, P: Drop>(
+    notes: &mut N,
+    work: &mut Work<P>,
+    cell: Cell,
+    score: Option<i64>,
+)
+    requires taken { work.old.top ≡ None }
+    requires demanded { IsDemanded (N.problem notes.old) cell }
+    requires score { IsScoreOf (N.problem notes.old) cell score }
+    ensures notes { N.problem notes.new ≡ N.problem notes.old }
+    ensures noted { (other : AnyCell) → N.noted notes.new other ↔ (N.noted notes.old other ⊎ (other ≡ cell)) }
+    ensures closed { IsClosed work.old work.new score }
+{
+    notes.note(cell, score);
+    work.ready = None;
+    match work.below.pop() {
+        Some(next) => work.top = Some(next),
+        None => {
+            work.ended = true;
+            work.score = score;
+        }
+    }
+}
+
+/// Makes one step of the top frame's publication.
+pub fn publish<M: Memo, N: Notes, L: Ledger>(
+    problem: &Problem<'_>,
+    orders: &Orders,
+    notes: &mut N,
+    memo: &M,
+    pass: &mut M::Pass,
+    work: &mut Work<M::Probe>,
+    mut top: Frame<M::Probe>,
+    answer: Answer,
+    steps: &mut Steps<L>,
+)
+    requires memo { M.problem memo.now ≡ problem.now }
+    requires notes { N.problem notes.old ≡ problem.now }
+    requires own { M.is_of memo.now pass.old }
+    requires going { work.old.ended ≡ false }
+    requires no_hand { work.old.hand ≡ None }
+    requires answer { work.old.ready ≡ Some answer }
+    requires taken { work.old.top ≡ None }
+    requires sound { IsSound M.meaning problem.now (N.noted notes.old) (with_top work.old top) pass.old }
+    ensures notes { N.problem notes.new ≡ problem.now }
+    ensures own { M.is_of memo.now pass.new }
+    ensures share { M.meaning.share pass.new ≡ M.meaning.share pass.old }
+    ensures known { StayKnown (M.meaning.known pass.old) (M.meaning.known pass.new) }
+    ensures wins { GainsWins M.meaning pass.old pass.new work.old.wins work.new.wins }
+    ensures moves { work.new.moves ≡ work.old.moves }
+    ensures frames { ChangesFrames M.meaning problem.now pass.old pass.new
+        (standing (all_frames (with_top work.old top)) work.old.opened orders.now)
+        (standing (all_frames work.new) work.new.opened orders.now) }
+    ensures next { (work.new.ready ≡ None) → work.new.ended ≡ false → work.new.top ≢ None }
+    ensures no_hand { work.new.hand ≡ None }
+    ensures steps { steps_made steps.new ≡ steps_made steps.old + 1 }
+    ensures sound { IsSound M.meaning problem.now (N.noted notes.new) work.new pass.new }
+    ensures lower { (m : ℕ) (arguments : List SplitArgument) → IsDemandedCount problem.now m
+        → work_left M.meaning problem.now m arguments work.new pass.new
+        < work_left M.meaning problem.now m arguments (with_top work.old top) pass.old }
+{
+    problem.admissible();
+    heights_fall();
+    demanded_cells_are_listed();
+    let score = score_of(answer);
+    match memo.publish_step(pass, &mut top.probe, answer, steps) {
+        Publish::Going => work.top = Some(top),
+        Publish::Won => {
+            work.wins += 1;
+            close(notes, work, top.visit.cell, score);
+        }
+        Publish::Lost => close(notes, work, top.visit.cell, score),
+    }
 }

@@ -1,0 +1,105 @@
+-- A frame leaves: what holds of the machine's work is kept, and fewer steps are left.
+use Rattle.std.proofs.Common.{◌≡◌, ◌≢◌, ◌↔◌, ℕ, ◌+◌, ◌<◌, ◌≤◌, ◌⊎◌, inl, inr, true, false, Option, Some, None, List, [], ◌∷◌, sym, subst, ap, ◌∙◌, arith}
+use Rattle.std.specs.Prelude.{reverse, ℤ}
+use Rattle.std.proofs.lemmas.Bool.{false≢true}
+use Rattle.adp_model.specs.declared.cell.Answer.{Answer}
+use Rattle.adp_model.specs.declared.cell.Cell.{Cell}
+use Rattle.adp_model.specs.declared.visit.Frame.{Frame}
+use Rattle.adp_model.specs.declared.probe.Stage.TheVariants.{Publishing}
+use Rattle.adp_model.specs.PosedProblem.{PosedProblem}
+use Rattle.adp_model.specs.SplitArguments.{SplitArgument}
+use Rattle.adp_model.specs.Memos.{Meaning, IsScoreOf, StayKnown, IsAdded, IsOnRecordWord}
+use Rattle.rand_pcg.specs.Lcg.{Lcg}
+use Rattle.cell_core.specs.declared.work.Work.{Work}
+use Rattle.cell_core.specs.Working.{frames_of, all_frames, with_top, HasRoom, IsSound, IsClosed, work_left}
+use Rattle.cell_core.specs.FrameChanges.{standing, IsFrameGone}
+use Rattle.cell_core.proofs.Heights.{Heights}
+use Rattle.cell_core.proofs.Worked.{IsAt, publish_next_sound, publish_end_sound, publish_next_left, publish_end_left}
+use Rattle.cell_core.proofs.Changes.{frame_gone}
+
+-- the work with another number of wins
+abbrev pub with_wins : {Probe : Type 0} → Work Probe → ℕ → Work Probe
+with_wins work wins = record { hand = work.hand; top = work.top; below = work.below; ready = work.ready;
+    opened = work.opened; wins = wins; moves = work.moves; ended = work.ended; score = work.score }
+
+none_some : {X : Type 0} (x : X) → None ≡ Some x → ⊥
+none_some x e = cc
+
+module _ {Pass Probe : Type 0} (memo : Meaning Pass Probe) (p : PosedProblem) (high : Heights p) (Noted : Cell → Type 0) (pass pass' : Pass)
+    (on : (probe : Probe) → memo.stage probe ≢ Publishing → memo.follows probe pass → memo.follows probe pass')
+    (stay : StayKnown (memo.known pass) (memo.known pass'))
+    (work work' : Work Probe) (top : Frame Probe) (answer : Answer) (was : IsAt (with_top work top) None (top ∷ reverse work.below.items) (Some answer))
+    (sound : IsSound memo p Noted (with_top work top) pass) (wins : ℕ) (score : Option ℤ) (closed : IsClosed (with_wins work wins) work' score) where
+  abbrev below : List (Frame Probe)
+  below = reverse work.below.items
+
+  next_frames : (next : Frame Probe) → work'.top ≡ Some next → frames_of work'.top work'.below.items ≡ next ∷ reverse work'.below.items
+  next_frames next is = ap (λ t. frames_of t work'.below.items) is
+
+  no_frames : work'.top ≡ None → frames_of work'.top work'.below.items ≡ []
+  no_frames is = ap (λ t. frames_of t work'.below.items) is
+
+  room : HasRoom p work'
+  room = record {
+    room = let r = sound.has_room.room in let c = closed.capacity in omega arith;
+    nothing_below = λ e f. go closed.next e f;
+  }
+    where
+      go : ((next : Frame Probe) × (work'.top ≡ Some next) × (reverse work.below.items ≡ next ∷ reverse work'.below.items) × (work'.ended ≡ work.ended))
+          ⊎ ((work'.top ≡ None) × (reverse work.below.items ≡ []) × (work'.ended ≡ true) × (work'.score ≡ score))
+          → work'.ended ≡ false → work'.top ≡ None → work'.below.items ≡ []
+      go (inl next) e f = absurd (none_some next.0 (sym f ∙ next.1))
+      go (inr end) e f = absurd (false≢true (sym e ∙ end.2))
+
+  at_next : (next : Frame Probe) → work'.top ≡ Some next → work'.ended ≡ work.ended → IsAt work' None (next ∷ reverse work'.below.items) None
+  at_next next is going = record {
+    going = going ∙ was.going;
+    hand_is = closed.hand ∙ was.hand_is;
+    frames_are = next_frames next is;
+    ready_is = closed.ready;
+  }
+
+  pub closed_sound : (Noted' : Cell → Type 0) → IsAdded top.visit.cell (memo.known pass) (memo.known pass')
+      → ((other : Cell) → Noted' other ↔ (Noted other ⊎ (other ≡ top.visit.cell)))
+      → (won : ℕ) → won ≤ 1 → wins ≡ work.wins + won → IsScoreOf p top.visit.cell score → IsSound memo p Noted' work' pass'
+  closed_sound Noted' added noted_now won at_most gained scored = go closed.next
+    where
+      go : ((next : Frame Probe) × (work'.top ≡ Some next) × (reverse work.below.items ≡ next ∷ reverse work'.below.items) × (work'.ended ≡ work.ended))
+          ⊎ ((work'.top ≡ None) × (reverse work.below.items ≡ []) × (work'.ended ≡ true) × (work'.score ≡ score))
+          → IsSound memo p Noted' work' pass'
+      go (inl next) =
+          publish_next_sound memo p high Noted pass pass' on stay (with_top work top) work' room top below answer was sound Noted' added
+          noted_now closed.opened won at_most (closed.wins ∙ gained) next.0 (reverse work'.below.items) next.2 (at_next next.0 next.1 next.3)
+      go (inr end) =
+          publish_end_sound memo p high Noted pass pass' on stay (with_top work top) work' room top below answer was sound Noted' added
+          noted_now closed.opened won at_most (closed.wins ∙ gained) end.1 end.2 (closed.hand ∙ was.hand_is) (no_frames end.0)
+          (subst (IsScoreOf p top.visit.cell) (sym end.3) scored)
+
+  pub closed_left : (m : ℕ) (arguments : List SplitArgument) → memo.known pass' top.visit.cell → (probe' : Probe)
+      → memo.remaining m probe' < memo.remaining m top.probe
+      → work_left memo p m arguments work' pass' < work_left memo p m arguments (with_top work top) pass
+  closed_left m arguments known probe' less = go closed.next
+    where
+      go : ((next : Frame Probe) × (work'.top ≡ Some next) × (reverse work.below.items ≡ next ∷ reverse work'.below.items) × (work'.ended ≡ work.ended))
+          ⊎ ((work'.top ≡ None) × (reverse work.below.items ≡ []) × (work'.ended ≡ true) × (work'.score ≡ score))
+          → work_left memo p m arguments work' pass' < work_left memo p m arguments (with_top work top) pass
+      go (inl next) =
+          publish_next_left memo p high Noted pass pass' on stay (with_top work top) work' room top below answer was sound
+          m arguments next.0 (reverse work'.below.items) next.2 (at_next next.0 next.1 next.3) known probe' less
+      go (inr end) =
+          publish_end_left memo p high Noted pass pass' on stay (with_top work top) work' room top below answer was sound
+          m arguments end.2 probe' less
+
+  pub closed_frames : (orders : Lcg) → ((found : ℕ) × IsOnRecordWord memo pass' top.visit.cell found) → memo.known pass' top.visit.cell
+      → IsFrameGone memo pass' (standing (all_frames (with_top work top)) work.opened orders) (standing (all_frames work') work'.opened orders)
+  closed_frames orders found known = go closed.next
+    where
+      go : ((next : Frame Probe) × (work'.top ≡ Some next) × (reverse work.below.items ≡ next ∷ reverse work'.below.items) × (work'.ended ≡ work.ended))
+          ⊎ ((work'.top ≡ None) × (reverse work.below.items ≡ []) × (work'.ended ≡ true) × (work'.score ≡ score))
+          → IsFrameGone memo pass' (standing (all_frames (with_top work top)) work.opened orders) (standing (all_frames work') work'.opened orders)
+      go (inl next) =
+          frame_gone memo p pass pass' top (top ∷ below) (all_frames work') work.opened work'.opened orders
+          (ap (λ xs. top ∷ xs) (next.2 ∙ sym (next_frames next.0 next.1))) closed.opened found known
+      go (inr end) =
+          frame_gone memo p pass pass' top (top ∷ below) (all_frames work') work.opened work'.opened orders
+          (ap (λ xs. top ∷ xs) (end.1 ∙ sym (no_frames end.0))) closed.opened found known

@@ -1,0 +1,110 @@
+use Rattle.std.proofs.Common.{inl, inr, ◌∷◌, refl, sym, subst, ap, ◌∙◌, arith}
+use Rattle.std.specs.Prelude.{reverse}
+use Rattle.adp_model.specs.declared.cell.Cell.{Cell}
+use Rattle.adp_model.specs.Demand.{IsDemandedCount}
+use Rattle.adp_model.specs.Memos.{IsScoreOf, AddsAtMost, IsAdded, IsOnRecordWord}
+use Rattle.cell_core.specs.Working.{frames_of, with_hand}
+use Rattle.cell_core.proofs.Heights.{heights}
+use Rattle.cell_core.proofs.Changes.{few_opened_so, few_of, room_if, frame_added}
+use Rattle.cell_core.proofs.Kept.{noted_known}
+use Rattle.cell_core.proofs.Worked.{hand_is_in, hand_below, few_stand, look_on_sound, look_on_left, look_open_sound, look_open_left, look_end_sound, look_end_left, look_found_sound, look_found_left, room_kept, room_under, room_ended}
+use Rattle.cell_core.proofs.work.look.Goals as goal
+
+pub returns-in-Going-clause-wins : goal.returns-in-Going-clause-wins
+returns-in-Going-clause-wins g c = let w = c.look_step.ensures.wins in (0, omega arith, omega arith, omega arith)
+
+pub returns-in-Going-clause-sound : goal.returns-in-Going-clause-sound
+returns-in-Going-clause-sound g c =
+    let e = c.in-Going.ensures in
+    let own = hand_is_in g.M.Memo.meaning c.args.problem.now (heights c.args.problem.now c.admissible.ensures c.heights_fall.ensures.falls c.heights_fall.ensures.few) (g.N.Notes.noted c.args.notes.now) c.args.pass.now (with_hand c.args.work.now c.args.hand) c.args.hand (frames_of c.args.work.now.top c.args.work.now.below.items) (record { going = c.requires.going; hand_is = refl; frames_are = refl; ready_is = c.requires.no_answer }) c.requires.sound in
+    look_on_sound g.M.Memo.meaning c.args.problem.now (heights c.args.problem.now c.admissible.ensures c.heights_fall.ensures.falls c.heights_fall.ensures.few) (g.N.Notes.noted c.args.notes.now) c.args.pass.now c.look_step.new.pass (λ probe apart f. g.met.M.Memo.follows_on probe _ _ c.look_step.ensures.on apart f) c.look_step.ensures.known (with_hand c.args.work.now c.args.hand) _ (room_kept c.args.problem.now (with_hand c.args.work.now c.args.hand) c.requires.sound.has_room _ _ c.args.work.now.opened c.args.work.now.wins c.args.work.now.moves c.args.work.now.score) c.args.hand (frames_of c.args.work.now.top c.args.work.now.below.items) (record { going = c.requires.going; hand_is = refl; frames_are = refl; ready_is = c.requires.no_answer }) c.requires.sound
+    _ (record { going = c.requires.going; hand_is = refl; frames_are = refl; ready_is = c.requires.no_answer }) (record { opened = refl; wins = refl }) refl
+    (subst (λ (cell : Cell). AddsAtMost cell (g.M.Memo.meaning.known c.args.pass.now) (g.M.Memo.meaning.known c.look_step.new.pass)) own.cell e.look.1)
+    (record { cell = e.cell ∙ own.cell; still_open = e.look.0; follows = e.follows })
+
+pub returns-in-Going-clause-lower : goal.returns-in-Going-clause-lower
+returns-in-Going-clause-lower g c = λ m arguments counted.
+    look_on_left g.M.Memo.meaning c.args.problem.now (heights c.args.problem.now c.admissible.ensures c.heights_fall.ensures.falls c.heights_fall.ensures.few) (g.N.Notes.noted c.args.notes.now) c.args.pass.now c.look_step.new.pass (λ probe apart f. g.met.M.Memo.follows_on probe _ _ c.look_step.ensures.on apart f) c.look_step.ensures.known (with_hand c.args.work.now c.args.hand) _ (room_kept c.args.problem.now (with_hand c.args.work.now c.args.hand) c.requires.sound.has_room _ _ c.args.work.now.opened c.args.work.now.wins c.args.work.now.moves c.args.work.now.score) c.args.hand (frames_of c.args.work.now.top c.args.work.now.below.items) (record { going = c.requires.going; hand_is = refl; frames_are = refl; ready_is = c.requires.no_answer }) c.requires.sound
+    m arguments _ (record { going = c.requires.going; hand_is = refl; frames_are = refl; ready_is = c.requires.no_answer }) (c.look_step.ensures.fewer m (subst (λ q. IsDemandedCount q m) (sym c.requires.memo) counted))
+
+pub open-requires-clause-nothing_below : goal.open-requires-clause-nothing_below
+open-requires-clause-nothing_below g c = c.requires.sound.has_room.nothing_below c.requires.going
+
+pub open-requires-clause-room : goal.open-requires-clause-room
+open-requires-clause-room g c =
+    room_if c.args.work.now _ c.requires.sound.has_room.room (few_stand g.M.Memo.meaning c.args.problem.now (heights c.args.problem.now c.admissible.ensures c.heights_fall.ensures.falls c.heights_fall.ensures.few) (g.N.Notes.noted c.args.notes.now) c.args.pass.now (with_hand c.args.work.now c.args.hand) c.args.hand (frames_of c.args.work.now.top c.args.work.now.below.items) (record { going = c.requires.going; hand_is = refl; frames_are = refl; ready_is = c.requires.no_answer }) c.requires.sound)
+
+pub open-requires-clause-few : goal.open-requires-clause-few
+open-requires-clause-few g c =
+    let stand = few_stand g.M.Memo.meaning c.args.problem.now (heights c.args.problem.now c.admissible.ensures c.heights_fall.ensures.falls c.heights_fall.ensures.few) (g.N.Notes.noted c.args.notes.now) c.args.pass.now (with_hand c.args.work.now c.args.hand) c.args.hand (frames_of c.args.work.now.top c.args.work.now.below.items) (record { going = c.requires.going; hand_is = refl; frames_are = refl; ready_is = c.requires.no_answer }) c.requires.sound in
+    let rules = c.numbers_fit_together.ensures.few_rules c.args.problem.now.grammar c.admissible.ensures.checked.well_formed in
+    let letters = c.admissible.ensures.limits.letters in
+    let frames = few_of _ _ _ stand letters rules in
+    let opened = few_opened_so g.M.Memo.meaning c.args.problem.now c.args.pass.now (c.demanded_cells_are_listed.ensures.count c.args.problem.now c.admissible.ensures) c.args.work.now.opened (frames_of c.args.work.now.top c.args.work.now.below.items) c.requires.sound.few_opened in
+    omega arith
+
+pub returns-in-Unpublished-clause-wins : goal.returns-in-Unpublished-clause-wins
+returns-in-Unpublished-clause-wins g c =
+    let w = c.look_step.ensures.wins in
+    let o = c.open.ensures.wins in
+    (0, omega arith, omega arith, omega arith)
+
+pub returns-in-Unpublished-clause-frames : goal.returns-in-Unpublished-clause-frames
+returns-in-Unpublished-clause-frames g c =
+    let e = c.in-Unpublished.ensures in
+    let o = c.open.ensures in
+    let v = c.opened_visit-visit.ensures in
+    let own = hand_is_in g.M.Memo.meaning c.args.problem.now (heights c.args.problem.now c.admissible.ensures c.heights_fall.ensures.falls c.heights_fall.ensures.few) (g.N.Notes.noted c.args.notes.now) c.args.pass.now (with_hand c.args.work.now c.args.hand) c.args.hand (frames_of c.args.work.now.top c.args.work.now.below.items) (record { going = c.requires.going; hand_is = refl; frames_are = refl; ready_is = c.requires.no_answer }) c.requires.sound in
+    inr (inl (frame_added g.M.Memo.meaning c.args.problem.now c.args.pass.now c.look_step.new.pass (heights c.args.problem.now c.admissible.ensures c.heights_fall.ensures.falls c.heights_fall.ensures.few).height c.args.hand.cell (frames_of c.args.work.now.top c.args.work.now.below.items) _ c.args.work.now.opened _ _ _ (record { visit = c.opened_visit-visit.result; probe = c.look_step.new.probe })
+    (ap (λ t. frames_of t c.open.new.work.below.items) o.top ∙ ap (λ xs. (record { visit = c.opened_visit-visit.result; probe = c.look_step.new.probe }) ∷ xs) o.frames) v.cell (hand_below g.M.Memo.meaning c.args.problem.now (heights c.args.problem.now c.admissible.ensures c.heights_fall.ensures.falls c.heights_fall.ensures.few) (g.N.Notes.noted c.args.notes.now) c.args.pass.now (with_hand c.args.work.now c.args.hand) c.args.hand (frames_of c.args.work.now.top c.args.work.now.below.items) (record { going = c.requires.going; hand_is = refl; frames_are = refl; ready_is = c.requires.no_answer }) c.requires.sound)
+    (subst (λ (cell : Cell). IsOnRecordWord g.M.Memo.meaning c.look_step.new.pass cell 0) own.cell (e.unpublished.0 refl))
+    e.look.1 (λ h. e.look.2 (subst (g.M.Memo.meaning.known c.args.pass.now) (sym own.cell) h)) v.drawn o.opened))
+
+pub returns-in-Unpublished-clause-sound : goal.returns-in-Unpublished-clause-sound
+returns-in-Unpublished-clause-sound g c =
+    let e = c.in-Unpublished.ensures in
+    let o = c.open.ensures in
+    let v = c.opened_visit-visit.ensures in
+    let own = hand_is_in g.M.Memo.meaning c.args.problem.now (heights c.args.problem.now c.admissible.ensures c.heights_fall.ensures.falls c.heights_fall.ensures.few) (g.N.Notes.noted c.args.notes.now) c.args.pass.now (with_hand c.args.work.now c.args.hand) c.args.hand (frames_of c.args.work.now.top c.args.work.now.below.items) (record { going = c.requires.going; hand_is = refl; frames_are = refl; ready_is = c.requires.no_answer }) c.requires.sound in
+    look_open_sound g.M.Memo.meaning c.args.problem.now (heights c.args.problem.now c.admissible.ensures c.heights_fall.ensures.falls c.heights_fall.ensures.few) (g.N.Notes.noted c.args.notes.now) c.args.pass.now c.look_step.new.pass (λ probe apart f. g.met.M.Memo.follows_on probe _ _ c.look_step.ensures.on apart f) c.look_step.ensures.known (with_hand c.args.work.now c.args.hand) _ (room_under c.args.problem.now (with_hand c.args.work.now c.args.hand) c.open.new.work c.requires.sound.has_room o.capacity (record { visit = c.opened_visit-visit.result; probe = c.look_step.new.probe }) o.top) c.args.hand (frames_of c.args.work.now.top c.args.work.now.below.items) (record { going = c.requires.going; hand_is = refl; frames_are = refl; ready_is = c.requires.no_answer }) c.requires.sound
+    (record { visit = c.opened_visit-visit.result; probe = c.look_step.new.probe }) (record { going = o.ended ∙ c.requires.going; hand_is = o.hand ∙ c.requires.no_hand; frames_are = (ap (λ t. frames_of t c.open.new.work.below.items) o.top ∙ ap (λ xs. (record { visit = c.opened_visit-visit.result; probe = c.look_step.new.probe }) ∷ xs) o.frames); ready_is = o.ready ∙ c.requires.no_answer }) o.opened o.wins v.cell v.at v.walk
+    (record { following = record { cell = e.cell ∙ own.cell ∙ sym v.cell; follows = e.follows }; unpublished = e.look.0 })
+    e.look.1 (λ h. e.look.2 (subst (g.M.Memo.meaning.known c.args.pass.now) (sym own.cell) h))
+
+pub returns-in-Unpublished-clause-lower : goal.returns-in-Unpublished-clause-lower
+returns-in-Unpublished-clause-lower g c = λ m arguments counted.
+    let e = c.in-Unpublished.ensures in
+    let o = c.open.ensures in
+    let v = c.opened_visit-visit.ensures in
+    let own = hand_is_in g.M.Memo.meaning c.args.problem.now (heights c.args.problem.now c.admissible.ensures c.heights_fall.ensures.falls c.heights_fall.ensures.few) (g.N.Notes.noted c.args.notes.now) c.args.pass.now (with_hand c.args.work.now c.args.hand) c.args.hand (frames_of c.args.work.now.top c.args.work.now.below.items) (record { going = c.requires.going; hand_is = refl; frames_are = refl; ready_is = c.requires.no_answer }) c.requires.sound in
+    look_open_left g.M.Memo.meaning c.args.problem.now (heights c.args.problem.now c.admissible.ensures c.heights_fall.ensures.falls c.heights_fall.ensures.few) (g.N.Notes.noted c.args.notes.now) c.args.pass.now c.look_step.new.pass (λ probe apart f. g.met.M.Memo.follows_on probe _ _ c.look_step.ensures.on apart f) c.look_step.ensures.known (with_hand c.args.work.now c.args.hand) _ (room_under c.args.problem.now (with_hand c.args.work.now c.args.hand) c.open.new.work c.requires.sound.has_room o.capacity (record { visit = c.opened_visit-visit.result; probe = c.look_step.new.probe }) o.top) c.args.hand (frames_of c.args.work.now.top c.args.work.now.below.items) (record { going = c.requires.going; hand_is = refl; frames_are = refl; ready_is = c.requires.no_answer }) c.requires.sound
+    m arguments (record { visit = c.opened_visit-visit.result; probe = c.look_step.new.probe }) (record { going = o.ended ∙ c.requires.going; hand_is = o.hand ∙ c.requires.no_hand; frames_are = (ap (λ t. frames_of t c.open.new.work.below.items) o.top ∙ ap (λ xs. (record { visit = c.opened_visit-visit.result; probe = c.look_step.new.probe }) ∷ xs) o.frames); ready_is = o.ready ∙ c.requires.no_answer }) v.cell (λ h. e.look.2 (subst (g.M.Memo.meaning.known c.args.pass.now) (sym own.cell) h)) (c.look_step.ensures.fewer m (subst (λ q. IsDemandedCount q m) (sym c.requires.memo) counted))
+
+pub returns-in-Some-clause-sound : goal.returns-in-Some-clause-sound
+returns-in-Some-clause-sound g c =
+    let e = c.in-Found.ensures in
+    let own = hand_is_in g.M.Memo.meaning c.args.problem.now (heights c.args.problem.now c.admissible.ensures c.heights_fall.ensures.falls c.heights_fall.ensures.few) (g.N.Notes.noted c.args.notes.now) c.args.pass.now (with_hand c.args.work.now c.args.hand) c.args.hand (frames_of c.args.work.now.top c.args.work.now.below.items) (record { going = c.requires.going; hand_is = refl; frames_are = refl; ready_is = c.requires.no_answer }) c.requires.sound in
+    look_found_sound g.M.Memo.meaning c.args.problem.now (heights c.args.problem.now c.admissible.ensures c.heights_fall.ensures.falls c.heights_fall.ensures.few) (g.N.Notes.noted c.args.notes.now) c.args.pass.now c.look_step.new.pass (λ probe apart f. g.met.M.Memo.follows_on probe _ _ c.look_step.ensures.on apart f) c.look_step.ensures.known (with_hand c.args.work.now c.args.hand) _ (room_kept c.args.problem.now (with_hand c.args.work.now c.args.hand) c.requires.sound.has_room c.args.work.now.hand c.args.work.now.ready c.args.work.now.opened c.args.work.now.wins c.args.work.now.moves c.args.work.now.score) c.args.hand c.in-Some.field-0 (reverse c.args.work.now.below.items) (record { going = c.requires.going; hand_is = refl; frames_are = (ap (λ t. frames_of t c.args.work.now.below.items) c.in-Some.is); ready_is = c.requires.no_answer }) c.requires.sound (record { going = c.requires.going; hand_is = c.requires.no_hand; frames_are = (ap (λ t. frames_of t c.args.work.now.below.items) c.in-Some.is); ready_is = c.requires.no_answer }) (record { opened = refl; wins = refl })
+    (g.N.Notes.noted c.note.new.self) (subst (λ (cell : Cell). IsAdded cell (g.M.Memo.meaning.known c.args.pass.now) (g.M.Memo.meaning.known c.look_step.new.pass)) own.cell e.look.1) c.note.ensures.noted
+
+pub returns-in-Some-clause-lower : goal.returns-in-Some-clause-lower
+returns-in-Some-clause-lower g c = λ m arguments counted.
+    look_found_left g.M.Memo.meaning c.args.problem.now (heights c.args.problem.now c.admissible.ensures c.heights_fall.ensures.falls c.heights_fall.ensures.few) (g.N.Notes.noted c.args.notes.now) c.args.pass.now c.look_step.new.pass (λ probe apart f. g.met.M.Memo.follows_on probe _ _ c.look_step.ensures.on apart f) c.look_step.ensures.known (with_hand c.args.work.now c.args.hand) _ (room_kept c.args.problem.now (with_hand c.args.work.now c.args.hand) c.requires.sound.has_room c.args.work.now.hand c.args.work.now.ready c.args.work.now.opened c.args.work.now.wins c.args.work.now.moves c.args.work.now.score) m arguments c.args.hand c.in-Some.field-0 (reverse c.args.work.now.below.items) (record { going = c.requires.going; hand_is = refl; frames_are = (ap (λ t. frames_of t c.args.work.now.below.items) c.in-Some.is); ready_is = c.requires.no_answer }) (record { going = c.requires.going; hand_is = c.requires.no_hand; frames_are = (ap (λ t. frames_of t c.args.work.now.below.items) c.in-Some.is); ready_is = c.requires.no_answer }) c.look_step.new.probe (c.look_step.ensures.fewer m (subst (λ q. IsDemandedCount q m) (sym c.requires.memo) counted))
+
+pub returns-clause-sound : goal.returns-clause-sound
+returns-clause-sound g c =
+    let e = c.in-Found.ensures in
+    let own = hand_is_in g.M.Memo.meaning c.args.problem.now (heights c.args.problem.now c.admissible.ensures c.heights_fall.ensures.falls c.heights_fall.ensures.few) (g.N.Notes.noted c.args.notes.now) c.args.pass.now (with_hand c.args.work.now c.args.hand) c.args.hand (frames_of c.args.work.now.top c.args.work.now.below.items) (record { going = c.requires.going; hand_is = refl; frames_are = refl; ready_is = c.requires.no_answer }) c.requires.sound in
+    let added = (subst (λ (cell : Cell). IsAdded cell (g.M.Memo.meaning.known c.args.pass.now) (g.M.Memo.meaning.known c.look_step.new.pass)) own.cell e.look.1) in
+    look_end_sound g.M.Memo.meaning c.args.problem.now (heights c.args.problem.now c.admissible.ensures c.heights_fall.ensures.falls c.heights_fall.ensures.few) (g.N.Notes.noted c.args.notes.now) c.args.pass.now c.look_step.new.pass (λ probe apart f. g.met.M.Memo.follows_on probe _ _ c.look_step.ensures.on apart f) c.look_step.ensures.known (with_hand c.args.work.now c.args.hand) _ (room_ended c.args.problem.now (with_hand c.args.work.now c.args.hand) c.requires.sound.has_room _ _ c.args.work.now.opened c.args.work.now.wins c.args.work.now.moves _ _) c.args.hand (frames_of c.args.work.now.top c.args.work.now.below.items) (record { going = c.requires.going; hand_is = refl; frames_are = refl; ready_is = c.requires.no_answer }) c.requires.sound
+    refl c.requires.no_hand (ap (λ t. frames_of t c.args.work.now.below.items) c.in-None.is) (ap (λ t. frames_of t c.args.work.now.below.items) c.in-None.is) (record { opened = refl; wins = refl }) added
+    (subst (λ (cell : Cell). IsScoreOf c.args.problem.now cell c.in-Found.score) own.cell (subst (λ q. IsScoreOf q (g.M.Memo.meaning.cell c.args.hand.probe) c.in-Found.score) c.requires.memo e.look.2))
+    (g.N.Notes.noted c.note.new.self)
+    (noted_known g.M.Memo.meaning c.args.problem.now (heights c.args.problem.now c.admissible.ensures c.heights_fall.ensures.falls c.heights_fall.ensures.few).height (heights c.args.problem.now c.admissible.ensures c.heights_fall.ensures.falls c.heights_fall.ensures.few).falls (g.N.Notes.noted c.args.notes.now) (g.N.Notes.noted c.note.new.self) c.args.pass.now c.look_step.new.pass (λ probe apart f. g.met.M.Memo.follows_on probe _ _ c.look_step.ensures.on apart f) c.args.hand.cell added c.note.ensures.noted c.look_step.ensures.known c.requires.sound.noted)
+
+pub returns-clause-lower : goal.returns-clause-lower
+returns-clause-lower g c = λ m arguments counted.
+    look_end_left g.M.Memo.meaning c.args.problem.now (heights c.args.problem.now c.admissible.ensures c.heights_fall.ensures.falls c.heights_fall.ensures.few) (g.N.Notes.noted c.args.notes.now) c.args.pass.now c.look_step.new.pass (λ probe apart f. g.met.M.Memo.follows_on probe _ _ c.look_step.ensures.on apart f) c.look_step.ensures.known (with_hand c.args.work.now c.args.hand) _ (room_ended c.args.problem.now (with_hand c.args.work.now c.args.hand) c.requires.sound.has_room c.args.work.now.hand c.args.work.now.ready c.args.work.now.opened c.args.work.now.wins c.args.work.now.moves c.in-Found.score c.args.work.now.top) c.args.hand (frames_of c.args.work.now.top c.args.work.now.below.items) (record { going = c.requires.going; hand_is = refl; frames_are = refl; ready_is = c.requires.no_answer }) c.requires.sound m arguments c.look_step.new.probe refl (c.look_step.ensures.fewer m (subst (λ q. IsDemandedCount q m) (sym c.requires.memo) counted))
+
+pub returns-in-Some-clause-wins : goal.returns-in-Some-clause-wins
+returns-in-Some-clause-wins g c = let w = c.look_step.ensures.wins in (0, omega arith, omega arith, omega arith)

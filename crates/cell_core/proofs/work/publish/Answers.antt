@@ -1,0 +1,99 @@
+use Rattle.std.proofs.Common.{inr, ◌+◌, refl, sym, subst, ◌∙◌, arith}
+use Rattle.std.specs.Prelude.{reverse}
+use Rattle.adp_model.specs.declared.cell.Cell.{Cell}
+use Rattle.adp_model.specs.Demand.{IsDemandedChild, IsDemandedCount}
+use Rattle.adp_model.specs.Memos.{IsAdded, IsOnRecordWord}
+use Rattle.cell_core.specs.Working.{with_top}
+use Rattle.cell_core.proofs.Heights.{heights}
+use Rattle.cell_core.proofs.Changes.{few_wins_so}
+use Rattle.cell_core.proofs.Worked.{top_following, answer_right, children_known, publish_on_sound, publish_on_left, room_top}
+use Rattle.cell_core.proofs.Closing.{closed_sound, closed_left, closed_frames}
+use Rattle.cell_core.proofs.work.publish.Goals as goal
+
+pub publish_step-requires-clause-children : goal.publish_step-requires-clause-children
+publish_step-requires-clause-children g c = λ child h.
+    let own = top_following g.M.Memo.meaning c.args.problem.now (heights c.args.problem.now c.admissible.ensures c.heights_fall.ensures.falls c.heights_fall.ensures.few) (g.N.Notes.noted c.args.notes.now) c.args.pass.now (with_top c.args.work.now c.args.top) c.args.top (reverse c.args.work.now.below.items) c.args.answer (record { going = c.requires.going; hand_is = c.requires.no_hand; frames_are = refl; ready_is = c.requires.answer }) c.requires.sound in
+    children_known g.M.Memo.meaning c.args.problem.now (heights c.args.problem.now c.admissible.ensures c.heights_fall.ensures.falls c.heights_fall.ensures.few) (g.N.Notes.noted c.args.notes.now) c.args.pass.now (with_top c.args.work.now c.args.top) c.args.top (reverse c.args.work.now.below.items) c.args.answer (record { going = c.requires.going; hand_is = c.requires.no_hand; frames_are = refl; ready_is = c.requires.answer }) c.requires.sound child
+    (subst (λ (cell : Cell). IsDemandedChild c.args.problem.now cell child) own.cell (subst (λ q. IsDemandedChild q (g.M.Memo.meaning.cell c.args.top.probe) child) c.requires.memo h))
+
+pub returns-in-Going-clause-wins : goal.returns-in-Going-clause-wins
+returns-in-Going-clause-wins g c = let w = c.in-Going.ensures.publish.2 in (0, omega arith, omega arith, omega arith)
+
+pub returns-in-Going-clause-sound : goal.returns-in-Going-clause-sound
+returns-in-Going-clause-sound g c =
+    let e = c.in-Going.ensures in
+    let own = top_following g.M.Memo.meaning c.args.problem.now (heights c.args.problem.now c.admissible.ensures c.heights_fall.ensures.falls c.heights_fall.ensures.few) (g.N.Notes.noted c.args.notes.now) c.args.pass.now (with_top c.args.work.now c.args.top) c.args.top (reverse c.args.work.now.below.items) c.args.answer (record { going = c.requires.going; hand_is = c.requires.no_hand; frames_are = refl; ready_is = c.requires.answer }) c.requires.sound in
+    publish_on_sound g.M.Memo.meaning c.args.problem.now (heights c.args.problem.now c.admissible.ensures c.heights_fall.ensures.falls c.heights_fall.ensures.few) (g.N.Notes.noted c.args.notes.now) c.args.pass.now c.publish_step.new.pass (λ probe apart f. g.met.M.Memo.follows_on probe _ _ c.publish_step.ensures.on apart f) c.publish_step.ensures.known (with_top c.args.work.now c.args.top) _ (room_top c.args.problem.now (with_top c.args.work.now c.args.top) c.requires.sound.has_room c.args.work.now.hand c.args.work.now.ready c.args.work.now.opened c.args.work.now.wins c.args.work.now.moves c.args.work.now.score _ c.args.work.now.ended) c.args.top (reverse c.args.work.now.below.items) c.args.answer (record { going = c.requires.going; hand_is = c.requires.no_hand; frames_are = refl; ready_is = c.requires.answer }) c.requires.sound
+    (record { visit = c.args.top.visit; probe = c.publish_step.new.probe }) (record { going = c.requires.going; hand_is = c.requires.no_hand; frames_are = refl; ready_is = c.requires.answer }) (record { opened = refl; wins = refl }) refl e.publish.1 (record { cell = e.cell ∙ own.cell; follows = e.follows }) e.publish.0
+
+pub returns-in-Going-clause-lower : goal.returns-in-Going-clause-lower
+returns-in-Going-clause-lower g c = λ m arguments counted.
+    publish_on_left g.M.Memo.meaning c.args.problem.now (heights c.args.problem.now c.admissible.ensures c.heights_fall.ensures.falls c.heights_fall.ensures.few) (g.N.Notes.noted c.args.notes.now) c.args.pass.now c.publish_step.new.pass (λ probe apart f. g.met.M.Memo.follows_on probe _ _ c.publish_step.ensures.on apart f) c.publish_step.ensures.known (with_top c.args.work.now c.args.top) _ (room_top c.args.problem.now (with_top c.args.work.now c.args.top) c.requires.sound.has_room c.args.work.now.hand c.args.work.now.ready c.args.work.now.opened c.args.work.now.wins c.args.work.now.moves c.args.work.now.score _ c.args.work.now.ended) c.args.top (reverse c.args.work.now.below.items) c.args.answer (record { going = c.requires.going; hand_is = c.requires.no_hand; frames_are = refl; ready_is = c.requires.answer }) c.requires.sound
+    m arguments (record { visit = c.args.top.visit; probe = c.publish_step.new.probe }) (record { going = c.requires.going; hand_is = c.requires.no_hand; frames_are = refl; ready_is = c.requires.answer }) refl (c.publish_step.ensures.fewer m (subst (λ q. IsDemandedCount q m) (sym c.requires.memo) counted))
+
+pub overflow_add-work : goal.overflow_add-work
+overflow_add-work g c =
+    let few = few_wins_so g.M.Memo.meaning c.args.problem.now c.args.pass.now (c.demanded_cells_are_listed.ensures.count c.args.problem.now c.admissible.ensures) c.args.work.now.wins c.requires.sound.few_wins in
+    omega arith
+
+pub returns-in-Won-clause-wins : goal.returns-in-Won-clause-wins
+returns-in-Won-clause-wins g c =
+    let w = c.in-Won.ensures.publish.2 in
+    let same = c.close.ensures.closed.wins in
+    (1, omega arith, omega arith, omega arith)
+
+pub returns-in-Won-clause-frames : goal.returns-in-Won-clause-frames
+returns-in-Won-clause-frames g c =
+    let e = c.in-Won.ensures in
+    let own = top_following g.M.Memo.meaning c.args.problem.now (heights c.args.problem.now c.admissible.ensures c.heights_fall.ensures.falls c.heights_fall.ensures.few) (g.N.Notes.noted c.args.notes.now) c.args.pass.now (with_top c.args.work.now c.args.top) c.args.top (reverse c.args.work.now.below.items) c.args.answer (record { going = c.requires.going; hand_is = c.requires.no_hand; frames_are = refl; ready_is = c.requires.answer }) c.requires.sound in
+    let added = subst (λ (cell : Cell). IsAdded cell (g.M.Memo.meaning.known c.args.pass.now) (g.M.Memo.meaning.known c.publish_step.new.pass)) own.cell e.publish.1 in
+    inr (inr (closed_frames g.M.Memo.meaning c.args.problem.now (heights c.args.problem.now c.admissible.ensures c.heights_fall.ensures.falls c.heights_fall.ensures.few) (g.N.Notes.noted c.args.notes.now) c.args.pass.now c.publish_step.new.pass (λ probe apart f. g.met.M.Memo.follows_on probe _ _ c.publish_step.ensures.on apart f) c.publish_step.ensures.known c.args.work.now c.close.new.work c.args.top c.args.answer (record { going = c.requires.going; hand_is = c.requires.no_hand; frames_are = refl; ready_is = c.requires.answer }) c.requires.sound (c.args.work.now.wins + 1) c.score_of-score.result c.close.ensures.closed
+    c.args.orders.now (0, subst (λ (cell : Cell). IsOnRecordWord g.M.Memo.meaning c.publish_step.new.pass cell 0) own.cell (e.won.0 refl)) added.known))
+
+pub returns-in-Won-clause-sound : goal.returns-in-Won-clause-sound
+returns-in-Won-clause-sound g c =
+    let e = c.in-Won.ensures in
+    let own = top_following g.M.Memo.meaning c.args.problem.now (heights c.args.problem.now c.admissible.ensures c.heights_fall.ensures.falls c.heights_fall.ensures.few) (g.N.Notes.noted c.args.notes.now) c.args.pass.now (with_top c.args.work.now c.args.top) c.args.top (reverse c.args.work.now.below.items) c.args.answer (record { going = c.requires.going; hand_is = c.requires.no_hand; frames_are = refl; ready_is = c.requires.answer }) c.requires.sound in
+    let added = subst (λ (cell : Cell). IsAdded cell (g.M.Memo.meaning.known c.args.pass.now) (g.M.Memo.meaning.known c.publish_step.new.pass)) own.cell e.publish.1 in
+    closed_sound g.M.Memo.meaning c.args.problem.now (heights c.args.problem.now c.admissible.ensures c.heights_fall.ensures.falls c.heights_fall.ensures.few) (g.N.Notes.noted c.args.notes.now) c.args.pass.now c.publish_step.new.pass (λ probe apart f. g.met.M.Memo.follows_on probe _ _ c.publish_step.ensures.on apart f) c.publish_step.ensures.known c.args.work.now c.close.new.work c.args.top c.args.answer (record { going = c.requires.going; hand_is = c.requires.no_hand; frames_are = refl; ready_is = c.requires.answer }) c.requires.sound (c.args.work.now.wins + 1) c.score_of-score.result c.close.ensures.closed
+    (g.N.Notes.noted c.close.new.notes) added c.close.ensures.noted 1 (omega arith) (omega arith)
+    (c.score_of-score.ensures c.args.problem.now c.args.top.visit.cell (answer_right g.M.Memo.meaning c.args.problem.now (heights c.args.problem.now c.admissible.ensures c.heights_fall.ensures.falls c.heights_fall.ensures.few) (g.N.Notes.noted c.args.notes.now) c.args.pass.now (with_top c.args.work.now c.args.top) c.args.top (reverse c.args.work.now.below.items) c.args.answer (record { going = c.requires.going; hand_is = c.requires.no_hand; frames_are = refl; ready_is = c.requires.answer }) c.requires.sound))
+
+pub returns-in-Won-clause-lower : goal.returns-in-Won-clause-lower
+returns-in-Won-clause-lower g c = λ m arguments counted.
+    let e = c.in-Won.ensures in
+    let own = top_following g.M.Memo.meaning c.args.problem.now (heights c.args.problem.now c.admissible.ensures c.heights_fall.ensures.falls c.heights_fall.ensures.few) (g.N.Notes.noted c.args.notes.now) c.args.pass.now (with_top c.args.work.now c.args.top) c.args.top (reverse c.args.work.now.below.items) c.args.answer (record { going = c.requires.going; hand_is = c.requires.no_hand; frames_are = refl; ready_is = c.requires.answer }) c.requires.sound in
+    let added = subst (λ (cell : Cell). IsAdded cell (g.M.Memo.meaning.known c.args.pass.now) (g.M.Memo.meaning.known c.publish_step.new.pass)) own.cell e.publish.1 in
+    closed_left g.M.Memo.meaning c.args.problem.now (heights c.args.problem.now c.admissible.ensures c.heights_fall.ensures.falls c.heights_fall.ensures.few) (g.N.Notes.noted c.args.notes.now) c.args.pass.now c.publish_step.new.pass (λ probe apart f. g.met.M.Memo.follows_on probe _ _ c.publish_step.ensures.on apart f) c.publish_step.ensures.known c.args.work.now c.close.new.work c.args.top c.args.answer (record { going = c.requires.going; hand_is = c.requires.no_hand; frames_are = refl; ready_is = c.requires.answer }) c.requires.sound (c.args.work.now.wins + 1) c.score_of-score.result c.close.ensures.closed
+    m arguments added.known c.publish_step.new.probe (c.publish_step.ensures.fewer m (subst (λ q. IsDemandedCount q m) (sym c.requires.memo) counted))
+
+pub returns-in-Lost-clause-wins : goal.returns-in-Lost-clause-wins
+returns-in-Lost-clause-wins g c =
+    let w = c.in-Lost.ensures.publish.2 in
+    let same = c.close-in-Lost.ensures.closed.wins in
+    (0, omega arith, omega arith, omega arith)
+
+pub returns-in-Lost-clause-frames : goal.returns-in-Lost-clause-frames
+returns-in-Lost-clause-frames g c =
+    let e = c.in-Lost.ensures in
+    let own = top_following g.M.Memo.meaning c.args.problem.now (heights c.args.problem.now c.admissible.ensures c.heights_fall.ensures.falls c.heights_fall.ensures.few) (g.N.Notes.noted c.args.notes.now) c.args.pass.now (with_top c.args.work.now c.args.top) c.args.top (reverse c.args.work.now.below.items) c.args.answer (record { going = c.requires.going; hand_is = c.requires.no_hand; frames_are = refl; ready_is = c.requires.answer }) c.requires.sound in
+    let added = subst (λ (cell : Cell). IsAdded cell (g.M.Memo.meaning.known c.args.pass.now) (g.M.Memo.meaning.known c.publish_step.new.pass)) own.cell e.publish.1 in
+    inr (inr (closed_frames g.M.Memo.meaning c.args.problem.now (heights c.args.problem.now c.admissible.ensures c.heights_fall.ensures.falls c.heights_fall.ensures.few) (g.N.Notes.noted c.args.notes.now) c.args.pass.now c.publish_step.new.pass (λ probe apart f. g.met.M.Memo.follows_on probe _ _ c.publish_step.ensures.on apart f) c.publish_step.ensures.known c.args.work.now c.close-in-Lost.new.work c.args.top c.args.answer (record { going = c.requires.going; hand_is = c.requires.no_hand; frames_are = refl; ready_is = c.requires.answer }) c.requires.sound c.args.work.now.wins c.score_of-score.result c.close-in-Lost.ensures.closed
+    c.args.orders.now (let l = e.lost.0 refl in (l.0, subst (λ (cell : Cell). IsOnRecordWord g.M.Memo.meaning c.publish_step.new.pass cell l.0) own.cell l.2)) added.known))
+
+pub returns-in-Lost-clause-sound : goal.returns-in-Lost-clause-sound
+returns-in-Lost-clause-sound g c =
+    let e = c.in-Lost.ensures in
+    let own = top_following g.M.Memo.meaning c.args.problem.now (heights c.args.problem.now c.admissible.ensures c.heights_fall.ensures.falls c.heights_fall.ensures.few) (g.N.Notes.noted c.args.notes.now) c.args.pass.now (with_top c.args.work.now c.args.top) c.args.top (reverse c.args.work.now.below.items) c.args.answer (record { going = c.requires.going; hand_is = c.requires.no_hand; frames_are = refl; ready_is = c.requires.answer }) c.requires.sound in
+    let added = subst (λ (cell : Cell). IsAdded cell (g.M.Memo.meaning.known c.args.pass.now) (g.M.Memo.meaning.known c.publish_step.new.pass)) own.cell e.publish.1 in
+    closed_sound g.M.Memo.meaning c.args.problem.now (heights c.args.problem.now c.admissible.ensures c.heights_fall.ensures.falls c.heights_fall.ensures.few) (g.N.Notes.noted c.args.notes.now) c.args.pass.now c.publish_step.new.pass (λ probe apart f. g.met.M.Memo.follows_on probe _ _ c.publish_step.ensures.on apart f) c.publish_step.ensures.known c.args.work.now c.close-in-Lost.new.work c.args.top c.args.answer (record { going = c.requires.going; hand_is = c.requires.no_hand; frames_are = refl; ready_is = c.requires.answer }) c.requires.sound c.args.work.now.wins c.score_of-score.result c.close-in-Lost.ensures.closed
+    (g.N.Notes.noted c.close-in-Lost.new.notes) added c.close-in-Lost.ensures.noted 0 (omega arith) (omega arith)
+    (c.score_of-score.ensures c.args.problem.now c.args.top.visit.cell (answer_right g.M.Memo.meaning c.args.problem.now (heights c.args.problem.now c.admissible.ensures c.heights_fall.ensures.falls c.heights_fall.ensures.few) (g.N.Notes.noted c.args.notes.now) c.args.pass.now (with_top c.args.work.now c.args.top) c.args.top (reverse c.args.work.now.below.items) c.args.answer (record { going = c.requires.going; hand_is = c.requires.no_hand; frames_are = refl; ready_is = c.requires.answer }) c.requires.sound))
+
+pub returns-in-Lost-clause-lower : goal.returns-in-Lost-clause-lower
+returns-in-Lost-clause-lower g c = λ m arguments counted.
+    let e = c.in-Lost.ensures in
+    let own = top_following g.M.Memo.meaning c.args.problem.now (heights c.args.problem.now c.admissible.ensures c.heights_fall.ensures.falls c.heights_fall.ensures.few) (g.N.Notes.noted c.args.notes.now) c.args.pass.now (with_top c.args.work.now c.args.top) c.args.top (reverse c.args.work.now.below.items) c.args.answer (record { going = c.requires.going; hand_is = c.requires.no_hand; frames_are = refl; ready_is = c.requires.answer }) c.requires.sound in
+    let added = subst (λ (cell : Cell). IsAdded cell (g.M.Memo.meaning.known c.args.pass.now) (g.M.Memo.meaning.known c.publish_step.new.pass)) own.cell e.publish.1 in
+    closed_left g.M.Memo.meaning c.args.problem.now (heights c.args.problem.now c.admissible.ensures c.heights_fall.ensures.falls c.heights_fall.ensures.few) (g.N.Notes.noted c.args.notes.now) c.args.pass.now c.publish_step.new.pass (λ probe apart f. g.met.M.Memo.follows_on probe _ _ c.publish_step.ensures.on apart f) c.publish_step.ensures.known c.args.work.now c.close-in-Lost.new.work c.args.top c.args.answer (record { going = c.requires.going; hand_is = c.requires.no_hand; frames_are = refl; ready_is = c.requires.answer }) c.requires.sound c.args.work.now.wins c.score_of-score.result c.close-in-Lost.ensures.closed
+    m arguments added.known c.publish_step.new.probe (c.publish_step.ensures.fewer m (subst (λ q. IsDemandedCount q m) (sym c.requires.memo) counted))
