@@ -1,2 +1,7 @@
 pub mod Codes
 pub mod Probes
+pub mod CodedCells
+pub mod Layout
+pub mod Views
+pub mod Kept
+pub mod Steps
