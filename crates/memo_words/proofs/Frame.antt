@@ -81,7 +81,6 @@ module _ (plan : Plan) where
 
   -- a turn of a probe sequence is a position
   pub probed_low : (code turn : ℕ) → probed plan code turn < slots_of plan
-  unfolding probed slots_of
   probed_low code turn = mod-lt (home code plan.bits + turn) (pow_pos plan.bits)
 
   pub stands_on : (ws us : List ℕ) → Grows ws us → (x : ℕ) → x < slots_of plan → 0 < key ws x → StandsAt plan ws x → StandsAt plan us x

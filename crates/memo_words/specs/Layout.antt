@@ -17,7 +17,7 @@ pub record Plan : Type 0 where
   pub seats : ℕ
 
 -- how many positions there are
-unfoldable pub slots_of : Plan → ℕ
+abbrev pub slots_of : Plan → ℕ
 slots_of plan = 2 ^ plan.bits
 
 -- how many records there are
@@ -25,7 +25,7 @@ abbrev pub records_of : Plan → ℕ
 records_of plan = plan.cells + plan.seats
 
 -- the position that a code's probe sequence comes to at this turn
-unfoldable pub probed : Plan → ℕ → ℕ → ℕ
+abbrev pub probed : Plan → ℕ → ℕ → ℕ
 probed plan code turn = probes.probed code plan.bits turn
 
 -- the bits are the least number, from 1 on, with two positions for each cell
