@@ -10,3 +10,5 @@ pub mod Stores
 pub mod Room
 pub mod Moves
 pub mod Plays
+pub mod Soundness
+pub mod Planned

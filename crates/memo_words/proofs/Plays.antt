@@ -21,6 +21,7 @@ use Rattle.memo_words.specs.Layout.{Plan, slots_of, records_of, probed, counter,
 use Rattle.memo_words.specs.Views.{seen_at, seen_too, owns, dropped, stored, with_stored, last_at, cell_at, key_loaded, key_exchanged, record_loaded, record_exchanged, counter_added, arena_stored, arena_loaded}
 use Rattle.memo_words.specs.Kept.{Kept, Fits, IsPublished, IsHeldAt, IsStored, name, arena, share, count_owned}
 use Rattle.memo_words.specs.Steps.{KeysFit, AreKeys, IsNamedAnswer, KeyLoads, KeyExchanges, RecordLoads, RecordExchanges, CounterAdds, ArenaStores, ArenaLoads}
+use Rattle.memo_words.specs.Passes.{IsReady}
 use Rattle.memo_words.proofs.Lists.{at_below}
 use Rattle.memo_words.proofs.Records.{chosen, is_yes, is_no, length-dropped, owns_some, All-dropped}
 use Rattle.memo_words.proofs.CodesApart.{code_some, cell_is, one_cell}
@@ -233,3 +234,30 @@ module _ (plan : Plan) where
         looked plan s r place id v w at refl refl refl record { plan_is = fits.plan_is; spent = fits.spent; keys = fits.keys; names = fits.names; known = fits.known; stored = fits.stored; few = fits.few },
         λ o b m is l e. for_plan plan v (fits.plan_is live) T t o is b m l e,
       )
+
+  -- the same at places that are these by an equation
+  pub loads_key_at : (n id q place : ℕ) (me : Me ℕ View) → place ≡ key_place q → q < slots_of plan → 0 < me.0.weight → Allows (Rule plan) n id me place (λ x. x) (KeyLoads (step n place 0 0 none) me)
+  loads_key_at n id q place me e lt live = subst (λ (i : ℕ). Allows (Rule plan) n id me i (λ x. x) (KeyLoads (step n i 0 0 none) me)) (sym e) (loads_key n id q me lt live)
+
+  pub puts_key_at : (n id q place code turn put : ℕ) (cell : Cell) (me : Me ℕ View) → place ≡ key_place q → put ≡ code → q < slots_of plan → 0 < me.0.weight → IsCodeOf cell code → IsDemanded plan.problem cell → probed plan code turn ≡ q
+      → ((j : ℕ) → j < turn → (0 < seen_at me.0.keys (probed plan code j)) × (seen_at me.0.keys (probed plan code j) ≢ code))
+      → Allows (Rule plan) n id me place (λ x. either (eqb x 0) put x) (KeyExchanges (step n place 0 put none) me)
+  puts_key_at n id q place code turn put cell me e d lt live is demanded here others = subst (λ (z : ℕ × ℕ). Allows (Rule plan) n id me z.0 (λ x. either (eqb x 0) z.1 x) (KeyExchanges (step n z.0 0 z.1 none) me)) (λ i. (sym e i, sym d i))
+      (puts_key n id q code turn cell me lt live is demanded here others)
+
+  pub loads_record_at : (n id q place : ℕ) (me : Me ℕ View) → place ≡ record_place (slots_of plan) q → q < slots_of plan → 0 < me.0.weight → 0 < seen_at me.0.keys q
+      → Allows (Rule plan) n id me place (λ x. x) (RecordLoads (step n place 0 0 none) me)
+  loads_record_at n id q place me e lt live saw = subst (λ (i : ℕ). Allows (Rule plan) n id me i (λ x. x) (RecordLoads (step n i 0 0 none) me)) (sym e) (loads_record n id q me lt live saw)
+
+  pub puts_record_at : (n id q place number : ℕ) (me : Me ℕ View) → IsReady plan.problem me.0 q number → place ≡ record_place (slots_of plan) q → q < slots_of plan → 0 < me.0.weight
+      → Allows (Rule plan) n id me place (λ x. either (eqb x 0) (number + 1) x) (RecordExchanges (step n place 0 (number + 1) none) me)
+  puts_record_at n id q place number me ready e lt live = subst (λ (z : ℕ × ℕ). Allows (Rule plan) n id me z.0 (λ x. either (eqb x 0) (z.1 + 1) x) (RecordExchanges (step n z.0 0 (z.1 + 1) none) me)) (λ i. (sym e i, ready.number_is i))
+      (puts_record n id q ready.cell ready.answer ready.owned me lt live ready.seen ready.mine ready.right ready.codes ready.children)
+
+  pub stores_arena_at : (n id number code place : ℕ) (part : Part) (me : Me ℕ View) → place ≡ arena_place (slots_of plan) (records_of plan) part number → 0 < me.0.weight → 0 < owns number me.0.owned → number < records_of plan
+      → Allows (Rule plan) n id me place (λ _. code) (λ _. ArenaStores (step n place code 0 none) me code)
+  stores_arena_at n id number code place part me e live owner low = subst (λ (i : ℕ). Allows (Rule plan) n id me i (λ _. code) (λ _. ArenaStores (step n i code 0 none) me code)) (sym e) (stores_arena n id number code part me live owner low)
+
+  pub loads_arena_at : (n id number place : ℕ) (part : Part) (me : Me ℕ View) → place ≡ arena_place (slots_of plan) (records_of plan) part number → 0 < me.0.weight → number < records_of plan
+      → Allows (Rule plan) n id me place (λ x. x) (ArenaLoads (step n place 0 0 none) me)
+  loads_arena_at n id number place part me e live low = subst (λ (i : ℕ). Allows (Rule plan) n id me i (λ x. x) (ArenaLoads (step n i 0 0 none) me)) (sym e) (loads_arena n id number part me live low)

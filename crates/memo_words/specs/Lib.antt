@@ -5,3 +5,4 @@ pub mod Layout
 pub mod Views
 pub mod Kept
 pub mod Steps
+pub mod Passes

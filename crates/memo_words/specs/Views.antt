@@ -1,5 +1,6 @@
 -- What a view holds, and what each kind of step makes of it.
-use Rattle.std.specs.Prelude.{◌≡◌, ℕ, ◌+◌, ◌-◌, ◌==◌, List, [], ◌∷◌, ◌++◌, if◌then◌else◌, Option, Some, None}
+use Rattle.std.specs.Prelude.{◌≡◌, ℕ, ◌+◌, ◌-◌, ◌<◌, ◌≤◌, ◌==◌, length, List, [], ◌∷◌, ◌++◌, if◌then◌else◌, Option, Some, None}
+use Rattle.atomic_table.specs.Table.{Me}
 use Rattle.adp_model.specs.declared.cell.Cell.{Cell}
 use Rattle.memo_words.specs.declared.part.Part.{Part}
 use Rattle.memo_words.specs.declared.part.Part.TheVariants.{Score, Choice}
@@ -53,6 +54,31 @@ last_at word value = Some (record { word = word; value = value })
 -- the cell whose key was seen at this position
 abbrev pub cell_at : View → ℕ → Cell
 cell_at v position = cell_of (seen_at v.keys position)
+
+-- how many records are in hand
+abbrev pub hands : Option ℕ → ℕ
+hands None = 0
+hands (Some number) = 1
+
+-- the hand after an exchange that found this: without the record, where it was named
+abbrev pub hand_after : Option ℕ → ℕ → ℕ → Option ℕ
+hand_after None number found = None
+hand_after (Some held) number found = if found == 0 then (if held == number then None else Some held) else Some held
+
+-- the hand of two passes in one: the first one's, where there is one
+abbrev pub hand_of_both : Option ℕ → Option ℕ → Option ℕ
+hand_of_both None other = other
+hand_of_both (Some held) other = Some held
+
+-- what every pass keeps, with the record that it has in hand: it is live; it owns the record in hand, and beside that one
+-- fewer records than its weight; and the records that it owns or saw named are there
+abbrev pub IsSound : Option ℕ → Me ℕ View → Type 0
+IsSound hand me =
+    (me.1 ≡ []) × (0 < me.0.weight)
+    × ((number : ℕ) → hand ≡ Some number → 0 < owns number me.0.owned)
+    × (length me.0.owned < me.0.weight + hands hand)
+    × ((plan : Plan) (number : ℕ) → me.0.plan ≡ Some plan → 0 < owns number me.0.owned → number < records_of plan)
+    × ((plan : Plan) (position : ℕ) → me.0.plan ≡ Some plan → seen_at me.0.names position ≤ records_of plan)
 
 -- The kinds of step.
 

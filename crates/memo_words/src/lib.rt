@@ -1,16 +1,27 @@
 //! The words of the memo table, what each pass knows of them, and the rule that holds between any two steps.
 #![tactic(auto)]
 
+mod bits;
 mod codes;
 mod homes;
 mod part;
+mod pass;
+mod places;
 mod plan;
+mod rest;
+mod rule;
+mod steps;
 mod view;
+mod words;
 
 pub use codes::{
     cell_code, choice_code, code_cell, code_choice, code_score, codes_tell_apart, score_code,
 };
 pub use homes::{each_position_is_tried_once, home, nth_position};
 pub use part::Part;
+pub use pass::Pass;
 pub use plan::Key;
+pub use rest::Rest;
+pub use rule::TableKept;
 pub use view::{LastStep, Owned, Seen, View};
+pub use words::Words;

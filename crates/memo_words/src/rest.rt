@@ -1,0 +1,71 @@
+ghost use Rattle.std.specs.Prelude.{◌≡◌, ◌<◌, ◌^◌};
+ghost use Rattle.std.specs.Mem.Slots.{slots_len, IsFull};
+ghost use Rattle.memo_words.specs.Layout.{word_count};
+
+use crate::part::Part;
+use crate::places::{arena_place, key_place, record_place};
+use atomic_table::Closed;
+use std::alloc::Global;
+
+/// The words, once no pass is left. Contracts see them as a list (`rest_words`), with the numbers of positions and of
+/// records.
+pub struct Rest {
+    pub(crate) closed: Closed<u8, Global>,
+    pub(crate) slots: u32,
+    pub(crate) records: u32,
+    ghost full: { IsFull closed.words },
+    ghost no_slots: { slots_len closed.slots ≡ 0 },
+    ghost wide: { slots_len closed.words ≡ word_count slots records },
+    ghost small: { (slots < 2 ^ 31) × (records < 2 ^ 31) },
+}
+
+impl Rest {
+    ghost use Rattle.std.specs.Prelude.{◌≡◌, ◌<◌};
+    ghost use Rattle.memo_words.specs.declared.part.Part.TheVariants.{Score, Choice};
+    ghost use Rattle.memo_words.specs.Layout.{key, record_word, arena_word};
+    ghost use Rattle.memo_words.specs.Passes.{rest_words};
+
+    /// The key word of a position.
+    pub fn key(&self, position: u32) -> u64
+        requires { position < self.now.slots }
+        ensures { result ≡ key (rest_words self.now) position }
+    {
+        self.closed.word(key_place(position))
+    }
+
+    /// The record word of a position.
+    pub fn record_word(&self, position: u32) -> u64
+        requires { position < self.now.slots }
+        ensures { result ≡ record_word self.now.slots (rest_words self.now) position }
+    {
+        self.closed.word(record_place(self.slots, position))
+    }
+
+    /// The score word of a record.
+    pub fn score(&self, number: u32) -> u64
+        requires { number < self.now.records }
+        ensures { result ≡ arena_word self.now.slots self.now.records (rest_words self.now) Score number }
+    {
+        self.closed
+            .word(arena_place(self.slots, self.records, Part::Score, number))
+    }
+
+    /// The choice word of a record.
+    pub fn choice(&self, number: u32) -> u64
+        requires { number < self.now.records }
+        ensures { result ≡ arena_word self.now.slots self.now.records (rest_words self.now) Choice number }
+    {
+        self.closed.word(arena_place(self.slots, self.records, Part::Choice, number))
+    }
+}
+
+impl Drop for Rest {
+    fn drop(self) {
+        let Self {
+            closed,
+            slots: _,
+            records: _,
+        } = self;
+        closed.free();
+    }
+}
