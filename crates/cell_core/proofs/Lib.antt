@@ -15,3 +15,4 @@ pub mod Worked
 pub mod Opening
 pub mod Changes
 pub mod Closing
+pub mod PlainRecords

@@ -3,9 +3,11 @@
 
 mod noted_cells;
 mod notes;
+mod plain_memo;
 mod walk;
 mod work;
 
 pub use noted_cells::NotedCells;
+pub use plain_memo::{PlainMemo, PlainPass, PlainProbe};
 pub use walk::{asked, seek};
 pub use work::Turn;
