@@ -18,9 +18,9 @@ use Rattle.memo_words.specs.declared.view.Owned.{Owned}
 use Rattle.memo_words.specs.declared.view.View.{View}
 use Rattle.memo_words.specs.CodedCells.{IsCodeOf, answer_word}
 use Rattle.memo_words.specs.Layout.{Plan, slots_of, records_of, probed, counter, key, key_place, record_place, arena_place}
-use Rattle.memo_words.specs.Views.{seen_at, seen_too, owns, dropped, stored, with_stored, last_at, cell_at, key_loaded, key_exchanged, record_loaded, record_exchanged, counter_added, arena_stored, arena_loaded}
+use Rattle.memo_words.specs.Views.{seen_at, seen_too, seen_unless_0, owns, dropped, stored, with_stored, last_at, cell_at, key_loaded, key_exchanged, record_loaded, record_exchanged, counter_added, arena_stored, arena_loaded}
 use Rattle.memo_words.specs.Kept.{Kept, Fits, IsPublished, IsHeldAt, IsStored, name, arena, share, count_owned}
-use Rattle.memo_words.specs.Steps.{KeysFit, AreKeys, IsNamedAnswer, KeyLoads, KeyExchanges, RecordLoads, RecordExchanges, CounterAdds, ArenaStores, ArenaLoads}
+use Rattle.memo_words.specs.Steps.{KeysFit, AreKeys, StaySeen, IsNamedAnswer, KeyLoads, KeyExchanges, RecordLoads, RecordExchanges, CounterAdds, ArenaStores, ArenaLoads}
 use Rattle.memo_words.specs.Passes.{IsReady}
 use Rattle.memo_words.proofs.Lists.{at_below}
 use Rattle.memo_words.proofs.Records.{chosen, is_yes, is_no, length-dropped, owns_some, All-dropped}
@@ -39,6 +39,14 @@ module _ (plan : Plan) where
     inside = λ q saw. (h q saw).0;
     apart = λ i j saw same. let a = h i saw in let b = h j (omega arith) in r.apart i j a.0 b.0 (let e = a.1 in omega arith) (a.1 ∙ (same ∙ sym b.1));
   }
+
+  -- what was seen stays where a word that was seen is seen again
+  stays_too : (read : ℕ → ℕ) (seen : List Seen) (q value : ℕ) → AreSeen plan read seen → (0 < seen_at seen q → value ≡ read q) → StaySeen seen (seen_too q value seen)
+  stays_too read seen q value h same x full = chosen (λ (n : ℕ). n ≡ seen_at seen x) q x value (seen_at seen x)
+      (λ e. let there : 0 < seen_at seen q = subst (λ (y : ℕ). 0 < seen_at seen y) (sym e) full in same there ∙ ((h q there).1 ∙ ap (seen_at seen) e)) (λ _. refl)
+
+  stays_unless_0 : (read : ℕ → ℕ) (seen : List Seen) (q : ℕ) → AreSeen plan read seen → StaySeen seen (seen_unless_0 q (read q) seen)
+  stays_unless_0 read seen q h = chosen (StaySeen seen) (read q) 0 seen (seen_too q (read q) seen) (λ _ x full. refl) (λ _. stays_too read seen q (read q) h (λ _. refl))
 
   -- the keys of a view that has its place in a later state
   keys_after : (s : St) (id : ℕ) (v w : View) (ws : List ℕ) (homes : List (Option ℕ)) → get_elem? s.views id ≡ some v → Rule plan (record { words = ws; homes = homes; views = set s.views id w }) → AreKeys plan w.keys
@@ -60,8 +68,8 @@ module _ (plan : Plan) where
   loads_key n id q me lt live s r _ at _ =
       let v = me.0 in let found : ℕ = key s.words q in let w : View = key_loaded q found v in let fits = r.each id v at in
       let seen : AreSeen plan (key s.words) w.keys = more_unless_0 plan (key s.words) v.keys q lt fits.keys in
-      let T : Plan → Type 0 = λ o. (x : ℕ) → key_place q ≡ key_place x → ((w, me.1) ≡ (key_loaded x found v, me.1)) × AreKeys o w.keys in
-      let t : T plan = λ x e. let same : q ≡ x = omega arith in ((λ i. (key_loaded (same i) found v, me.1)), are_keys s r w.keys seen) in (
+      let T : Plan → Type 0 = λ o. (x : ℕ) → key_place q ≡ key_place x → ((w, me.1) ≡ (key_loaded x found v, me.1)) × AreKeys o w.keys × StaySeen v.keys w.keys in
+      let t : T plan = λ x e. let same : q ≡ x = omega arith in ((λ i. (key_loaded (same i) found v, me.1)), are_keys s r w.keys seen, stays_unless_0 (key s.words) v.keys q fits.keys) in (
         w,
         keeps,
         tt,
@@ -85,9 +93,10 @@ module _ (plan : Plan) where
       let full_put : found ≢ 0 → Rule plan (stepped s (key_place q) found id me.1 w keeps) = λ full.
       looked plan s r (key_place q) id v w at refl refl refl (keys_fit s.words v q now (key_place q) found lt (sym (is_no found 0 code found full)) fits) in
       let kept : Rule plan (stepped s (key_place q) (either (eqb found 0) code found) id me.1 w keeps) = exchanged found 0 code (λ u. Rule plan (stepped s (key_place q) u id me.1 w keeps)) empty_put full_put in
-      let T : Plan → Type 0 = λ o. (x : ℕ) → key_place q ≡ key_place x → ((w, me.1) ≡ (key_exchanged x code found v, me.1)) × AreKeys o w.keys in
+      let T : Plan → Type 0 = λ o. (x : ℕ) → key_place q ≡ key_place x → ((w, me.1) ≡ (key_exchanged x code found v, me.1)) × AreKeys o w.keys × StaySeen v.keys w.keys in
+      let stays : StaySeen v.keys w.keys = stays_too (key s.words) v.keys q now fits.keys (λ full. let is = (fits.keys q full).1 in is_no found 0 code found (λ z. omega arith)) in
       let keys : AreKeys plan w.keys = keys_after s id v w (set s.words (key_place q) (either (eqb found 0) code found)) s.homes at kept in
-      let t : T plan = λ x e. let same : q ≡ x = omega arith in ((λ i. (key_exchanged (same i) code found v, me.1)), keys) in (
+      let t : T plan = λ x e. let same : q ≡ x = omega arith in ((λ i. (key_exchanged (same i) code found v, me.1)), keys, stays) in (
         w,
         keeps,
         tt,
@@ -136,9 +145,9 @@ module _ (plan : Plan) where
   loads_record n id q me lt live saw s r _ at _ =
       let v = me.0 in let found : ℕ = name plan s.words q in let w : View = record_loaded plan q found v in let fits = r.each id v at in
       let T : Plan → Type 0 = λ o. (x : ℕ) → record_place (slots_of plan) q ≡ record_place (slots_of o) x
-      → ((w, me.1) ≡ (record_loaded o x found v, me.1)) × (Contains v.known (cell_at v x) → 0 < found) × (found ≤ records_of o) in
+      → ((w, me.1) ≡ (record_loaded o x found v, me.1)) × (Contains v.known (cell_at v x) → 0 < found) × (found ≤ records_of o) × StaySeen v.names w.names in
       let t : T plan = λ x e. let same : q ≡ x = omega arith in
-      ((λ i. (record_loaded plan (same i) found v, me.1)), (λ has. known_here s r v q fits lt saw (subst (λ (y : ℕ). Contains v.known (cell_at v y)) (sym same) has)), name_low s r q lt) in (
+      ((λ i. (record_loaded plan (same i) found v, me.1)), (λ has. known_here s r v q fits lt saw (subst (λ (y : ℕ). Contains v.known (cell_at v y)) (sym same) has)), name_low s r q lt, stays_unless_0 (name plan s.words) v.names q fits.names) in (
         w,
         keeps,
         tt,

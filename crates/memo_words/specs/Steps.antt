@@ -32,6 +32,11 @@ pub record AreKeys (plan : Plan) (keys : List Seen) : Type 0 where
   pub inside : (position : ℕ) → 0 < seen_at keys position → position < slots_of plan
   pub apart : (i j : ℕ) → 0 < seen_at keys i → seen_at keys i ≡ seen_at keys j → i ≡ j
 
+-- what was seen is seen still
+abbrev pub StaySeen : List Seen → List Seen → Type 0
+StaySeen before after =
+    (position : ℕ) → 0 < seen_at before position → seen_at after position ≡ seen_at before position
+
 -- the word is that of the cell's answer
 abbrev pub IsAnswerWord : Plan → Part → Cell → ℕ → Type 0
 IsAnswerWord plan part cell word =
@@ -59,17 +64,20 @@ abbrev pub KeyLoads : Telling
 KeyLoads step before found after =
     (plan : Plan) (position : ℕ) → before.0.plan ≡ Some plan → step.word ≡ key_place position
     → (after ≡ (key_loaded position found before.0, before.1)) × AreKeys plan after.0.keys
+    × StaySeen before.0.keys after.0.keys
 
 abbrev pub KeyExchanges : Telling
 KeyExchanges step before found after =
     (plan : Plan) (position : ℕ) → before.0.plan ≡ Some plan → step.word ≡ key_place position
     → (after ≡ (key_exchanged position step.second found before.0, before.1)) × AreKeys plan after.0.keys
+    × StaySeen before.0.keys after.0.keys
 
 abbrev pub RecordLoads : Telling
 RecordLoads step before found after =
     (plan : Plan) (position : ℕ) → before.0.plan ≡ Some plan → step.word ≡ record_place (slots_of plan) position
     → (after ≡ (record_loaded plan position found before.0, before.1))
     × (Contains before.0.known (cell_at before.0 position) → 0 < found) × (found ≤ records_of plan)
+    × StaySeen before.0.names after.0.names
 
 abbrev pub RecordExchanges : Telling
 RecordExchanges step before found after =

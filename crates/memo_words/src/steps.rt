@@ -22,7 +22,7 @@ impl Words {
     ghost use Rattle.memo_words.specs.Codes.{HasCellCode, cell_code};
     ghost use Rattle.memo_words.specs.Layout.{slots_of, records_of};
     ghost use Rattle.memo_words.specs.Views.{seen_at, owns, cell_at, key_loaded, key_exchanged, record_loaded, record_exchanged, counter_added, arena_stored, arena_loaded, hand_after};
-    ghost use Rattle.memo_words.specs.Steps.{AreKeys, KeysFit, IsNamedAnswer};
+    ghost use Rattle.memo_words.specs.Steps.{AreKeys, KeysFit, IsNamedAnswer, StaySeen};
     ghost use Rattle.memo_words.specs.Passes.{view_of, hand_of, plan_of, problem_of, IsPassOf, IsBehindOthers, IsReady};
 
     /// Each demanded cell has a code. Does nothing when it runs.
@@ -55,6 +55,7 @@ impl Words {
         ensures view { view_of pass.new ≡ key_loaded position result (view_of pass.old) }
         ensures hand { hand_of pass.new ≡ hand_of pass.old }
         ensures keys { AreKeys (plan_of self.now) (view_of pass.new).keys }
+        ensures stays { StaySeen (view_of pass.old).keys (view_of pass.new).keys }
         ensures steps { steps_made steps.new ≡ steps_made steps.old + 1 }
     {
         steps.count();
@@ -80,6 +81,7 @@ impl Words {
         ensures view { view_of pass.new ≡ key_exchanged position (cell_code cell) result (view_of pass.old) }
         ensures hand { hand_of pass.new ≡ hand_of pass.old }
         ensures keys { AreKeys (plan_of self.now) (view_of pass.new).keys }
+        ensures stays { StaySeen (view_of pass.old).keys (view_of pass.new).keys }
         ensures steps { steps_made steps.new ≡ steps_made steps.old + 1 }
     {
         self.demanded_cells_have_codes();
@@ -110,6 +112,7 @@ impl Words {
         ensures hand { hand_of pass.new ≡ hand_of pass.old }
         ensures known { Contains (view_of pass.old).known (cell_at (view_of pass.old) position) → 0 < result }
         ensures few { result ≤ records_of (plan_of self.now) }
+        ensures stays { StaySeen (view_of pass.old).names (view_of pass.new).names }
         ensures steps { steps_made steps.new ≡ steps_made steps.old + 1 }
     {
         steps.count();

@@ -21,3 +21,6 @@ returns-clause-view g c = ap (λ (m : Me ℕ View). m.0) (c.load.ensures.2 _ _ c
 
 pub returns-clause-keys : goal.returns-clause-keys
 returns-clause-keys g c = (c.load.ensures.2 _ _ c.requires.own.plan c.key_place.ensures).1
+
+pub returns-clause-stays : goal.returns-clause-stays
+returns-clause-stays g c = (c.load.ensures.2 _ _ c.requires.own.plan c.key_place.ensures).2

@@ -26,3 +26,6 @@ returns-clause-known g c = (c.load.ensures.2 _ _ c.requires.own.plan (c.record_p
 
 pub returns-clause-few : goal.returns-clause-few
 returns-clause-few g c = (c.load.ensures.2 _ _ c.requires.own.plan (c.record_place.ensures ∙ ap (λ (s : ℕ). record_place s c.args.position) c.args.self.now.slots_are)).2
+
+pub returns-clause-stays : goal.returns-clause-stays
+returns-clause-stays g c = (c.load.ensures.2 _ _ c.requires.own.plan (c.record_place.ensures ∙ ap (λ (s : ℕ). record_place s c.args.position) c.args.self.now.slots_are)).3
