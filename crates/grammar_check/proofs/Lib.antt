@@ -4,6 +4,8 @@ pub mod Spreads
 pub mod Sweeps
 pub mod RulePlans
 pub mod RankSteps
+pub mod Kept
+pub mod KeptPlanSteps
 pub mod PlanLists
 pub mod PartRanges
 pub mod SpreadWays

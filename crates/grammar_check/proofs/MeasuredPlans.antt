@@ -1,6 +1,6 @@
 -- The plans of a checked grammar: bounds are their values, and what they need of rules of the same length has a lesser
 -- rank.
-use Rattle.std.proofs.Common.{◌≡◌, ℕ, ◌<◌, ◌≤◌, Option, Some, None, List, length, slice_index_or, subst, arith, ◌↔◌}
+use Rattle.std.proofs.Common.{◌≡◌, ℕ, ◌+◌, ◌<◌, ◌≤◌, Option, Some, None, List, length, slice_index_or, subst, arith, ◌↔◌}
 use Rattle.std.specs.List.{All, AllByRecursion, Contains}
 use Rattle.adp_model.specs.declared.grammar.Arg.{Arg}
 use Rattle.adp_model.specs.declared.grammar.Arg.TheVariants.{Rule, Literal, Letter, Run}
@@ -12,13 +12,15 @@ use Rattle.grammar_check.specs.declared.measure.Measure.{Measure}
 use Rattle.grammar_check.specs.declared.measure.Measure.TheVariants.{Scores, Nodes}
 use Rattle.grammar_check.specs.declared.rule_plan.RulePlan.{RulePlan}
 use Rattle.grammar_check.specs.declared.table.Table.{Table}
-use Rattle.grammar_check.specs.Plans.{lows}
+use Rattle.grammar_check.specs.declared.part.Part.{Part}
+use Rattle.grammar_check.specs.Plans.{IsReadable, lows}
 use Rattle.grammar_check.specs.Alternatives.{AreSpread}
 use Rattle.grammar_check.specs.MeasuredBounds.{AreBoundsOf}
 use Rattle.grammar_check.specs.GrammarPlans.{grammar_plan}
-use Rattle.grammar_check.specs.Fills.{IsRuleReadable, rules_plan, IsPlanned, IsRanked, IsFilledTo}
+use Rattle.grammar_check.specs.Fills.{plan_at, parts_at, IsPlanned, IsRanked, IsFilledTo}
 use Rattle.grammar_check.proofs.PartRanges.{IsSound, all_from_contained}
-use Rattle.grammar_check.proofs.PlanMeaning.{plan_ranked, plans_readable, scores_planned, nodes_planned}
+use Rattle.grammar_check.proofs.PlanMeaning.{plan_ranked, plan_readable-at, scores_planned, nodes_planned}
+use Rattle.grammar_check.proofs.Sweeps.{none_spread}
 
 -- where rules that are named are there, and runs are in order
 pub sound_arguments : (grammar : Grammar) → ((rule alternative other : ℕ) → Contains (arguments_of grammar rule alternative) (Rule other) → other < length grammar.rules) → ((rule alternative class low high : ℕ) → Contains (arguments_of grammar rule alternative) (Run class low (Some high)) → low ≤ high) → (rule alternative : ℕ) → AllByRecursion (IsSound grammar) (arguments_of grammar rule alternative)
@@ -41,14 +43,14 @@ module _ (grammar : Grammar) (algebra : ℕ) (least : List ℕ) (greatest : List
   pub ranked : (measure : Measure) (most : ℕ) → IsRanked ranks (grammar_plan grammar measure (record { least = least; greatest = greatest; most = most }))
   ranked measure most = plan_ranked grammar least greatest checked.least_are checked.greatest_are between sound measure most ranks checked.ranks_fall
 
-  pub readable : (measure : Measure) (most : ℕ) (plans : List RulePlan) → rules_plan plans ≡ grammar_plan grammar measure (record { least = least; greatest = greatest; most = most }) → All (IsRuleReadable (length grammar.rules)) plans
-  readable measure most plans same = plans_readable grammar least greatest checked.least_are checked.greatest_are between sound measure most plans same
+  pub readable : (measure : Measure) (most : ℕ) (rule alternative : ℕ) → rule < length grammar.rules → alternative < length (plan_at (grammar_plan grammar measure (record { least = least; greatest = greatest; most = most })) rule) → All (λ (part : Part). IsReadable (length grammar.rules) part.worth) (parts_at (grammar_plan grammar measure (record { least = least; greatest = greatest; most = most })) rule alternative)
+  readable measure most = plan_readable-at grammar least greatest checked.least_are checked.greatest_are between sound measure most
 
 -- before the first length nothing is filled
-pub none_filled : (bound : ℕ → ℕ → ℕ) (table : Table) (plans : List RulePlan) → All (λ (plan : RulePlan). All (λ alternative. AreSpread bound alternative 0) plan.alternatives.items) plans → IsFilledTo bound table plans 0
-none_filled bound table plans spread = record {
+pub none_filled : (bound : ℕ → ℕ → ℕ) (table : Table) (plans : List RulePlan) → IsFilledTo bound table plans 0
+none_filled bound table plans = record {
   entries = λ rule l inside less. absurd (omega arith);
   spread = λ rule d inside alternative e in_rule.
       let a = slice_index_or (slice_index_or plans rule d).alternatives.items alternative e in
-      subst (AreSpread bound a) (let n = lows a.parts.items in omega arith) (spread rule d inside alternative e in_rule);
+      subst (AreSpread bound a) (let n = a.fixed + lows a.parts.items in omega arith) (none_spread bound a);
 }

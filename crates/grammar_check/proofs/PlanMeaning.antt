@@ -21,11 +21,9 @@ use Rattle.grammar_check.specs.declared.measure.Measure.{Measure}
 use Rattle.grammar_check.specs.declared.measure.Measure.TheVariants.{Scores, Nodes}
 use Rattle.grammar_check.specs.Plans.{IsReadable, rooms, lows, spread, part_at}
 use Rattle.grammar_check.specs.Alternatives.{alternative_value}
-use Rattle.grammar_check.specs.declared.rule_plan.RulePlan.{RulePlan}
-use Rattle.grammar_check.specs.RuleValues.{plan_of, rule_value}
+use Rattle.grammar_check.specs.RuleValues.{rule_value}
 use Rattle.grammar_check.specs.GrammarPlans.{Lengths, constant_in, parts_in, entry_in, grammar_plan}
-use Rattle.grammar_check.specs.Fills.{IsRuleReadable, rules_plan, plan_at, parts_at, IsPlanned, NamesLesser, IsRanked}
-use Rattle.grammar_check.proofs.RulePlans.{entry_of}
+use Rattle.grammar_check.specs.Fills.{plan_at, parts_at, IsPlanned, NamesLesser, IsRanked}
 use Rattle.grammar_check.proofs.Sweeps.{value_of_ways, value_too_short, value_too_long}
 use Rattle.grammar_check.proofs.PartRanges.{IsSound, IsAlone, into_parts, from_parts, alone}
 use Rattle.grammar_check.proofs.SpreadWays.{total_of, within_spread, spread_found}
@@ -234,27 +232,8 @@ module _ (grammar : Grammar) (least : List ℕ) (greatest : List (Option ℕ))
       subst (All (λ (part : Part). IsReadable (length grammar.rules) part.worth)) (sym (parts_are rule alternative inside in_range))
       (All-from_recursion (λ (part : Part). IsReadable (length grammar.rules) part.worth) (parts_in grammar measure (record { least = least; greatest = greatest; most = most }) (alternative_at grammar rule alternative).sign 0 (arguments_of grammar rule alternative)) (readable_parts (alternative_at grammar rule alternative).sign 0 (arguments_of grammar rule alternative) (sound rule alternative)))
 
-  pub plans_readable : (plans : List RulePlan) → rules_plan plans ≡ grammar_plan grammar measure (record { least = least; greatest = greatest; most = most }) → All (IsRuleReadable (length grammar.rules)) plans
-  plans_readable plans same rule d in_plans alternative e in_rule =
-      subst (All (λ (part : Part). IsReadable (length grammar.rules) part.worth)) parts_same
-      (plan_readable rule alternative inside in_range)
-    where
-      plan : RulePlan
-      plan = slice_index_or plans rule d
-
-      inside : rule < length grammar.rules
-      inside = omega (arith, plan_length, ap length same, length-map plans (λ (p : RulePlan). plan_of p.alternatives.items))
-
-      here : plan_at (grammar_plan grammar measure (record { least = least; greatest = greatest; most = most })) rule ≡ plan_of plan.alternatives.items
-      here = ap (λ p. plan_at p rule) (sym same) ∙ get_or-map (λ (p : RulePlan). plan_of p.alternatives.items) plans rule d [] in_plans
-
-      in_range : alternative < length (alternatives_of grammar rule)
-      in_range = omega (arith, alternatives_count rule inside, ap length here, length-map plan.alternatives.items entry_of)
-
-      parts_same : parts_at (grammar_plan grammar measure (record { least = least; greatest = greatest; most = most })) rule alternative ≡ (slice_index_or plan.alternatives.items alternative e).parts.items
-      parts_same =
-          ap (λ (p : List (ℕ × List Part)). (slice_index_or p alternative (0, [])).1) here
-          ∙ ap (λ (x : ℕ × List Part). x.1) (get_or-map entry_of plan.alternatives.items alternative e (0, []) in_rule)
+  pub plan_readable-at : (rule alternative : ℕ) → rule < length grammar.rules → alternative < length (plan_at (grammar_plan grammar measure (record { least = least; greatest = greatest; most = most })) rule) → All (λ (part : Part). IsReadable (length grammar.rules) part.worth) (parts_at (grammar_plan grammar measure (record { least = least; greatest = greatest; most = most })) rule alternative)
+  plan_readable-at rule alternative inside in_rule = plan_readable rule alternative inside (omega (arith, alternatives_count rule inside))
 
 module _ (grammar : Grammar) (algebra : ℕ) (least : List ℕ) (greatest : List (Option ℕ))
     (least_are : (rule : ℕ) → rule < length grammar.rules → IsLeastSize grammar rule (slice_index least rule))

@@ -1,5 +1,5 @@
 -- One rule more of a rank is written.
-use Rattle.std.proofs.Common.{◌≡◌, ◌≢◌, ℕ, ◌+◌, ◌<◌, ◌≤◌, ◌⊎◌, inl, inr, List, [], length, slice_index, slice_index_or, slice_set, sym, ap, subst, ◌∙◌, arith}
+use Rattle.std.proofs.Common.{◌≡◌, ◌≢◌, ℕ, ◌+◌, ◌-◌, ◌<◌, ◌≤◌, ◌⊎◌, inl, inr, List, [], length, map, slice_index, slice_index_or, slice_set, sym, ap, subst, ◌∙◌, arith}
 use Rattle.std.specs.List.{All}
 use Rattle.std.proofs.Math.Seq.{map-set_same}
 use Rattle.std.proofs.lemmas.List.{get_or-map, length-map, length-set, get_or-set_other, get_or-set_same, get_or_default}
@@ -13,9 +13,9 @@ use Rattle.grammar_check.specs.declared.rule_plan.RulePlan.{RulePlan}
 use Rattle.grammar_check.specs.Tables.{entry}
 use Rattle.grammar_check.specs.Plans.{IsReadable, ReadsRight, lows, part_at}
 use Rattle.grammar_check.specs.Alternatives.{AreRead}
-use Rattle.grammar_check.specs.RuleValues.{plan_of, rule_value, AreAllRead}
-use Rattle.grammar_check.specs.Fills.{IsRuleReadable, IsRuleSpread, rules_plan, plan_at, parts_at, IsPlanned, NamesLesser, IsRanked, IsFilledTo, IsRankFilled}
-use Rattle.grammar_check.proofs.RulePlans.{entry_of, spread_less}
+use Rattle.grammar_check.specs.RuleValues.{plan_of, kept_of, kept_rule_value, AreAllRead}
+use Rattle.grammar_check.specs.Fills.{plan_tokens, IsRuleReadable, IsRuleSpread, rules_plan, kept_at, kept_entry, IsKept, NamesLesser, IsKeptRanked, IsFilledTo, IsRankFilled}
+use Rattle.grammar_check.proofs.RulePlans.{spread_less}
 use Rattle.grammar_check.proofs.Sweeps.{low_at}
 
 -- rules of lesser ranks are written, and the rules of this rank before this one
@@ -27,7 +27,10 @@ pub record IsPartlyFilled (bound : ℕ → ℕ → ℕ) (ranks : List ℕ) (tabl
 pub rules_plan-set : (plans : List RulePlan) (rule : ℕ) (old new : RulePlan) → old ≡ slice_index_or plans rule old → plan_of new.alternatives.items ≡ plan_of old.alternatives.items → rules_plan (slice_set plans rule new) ≡ rules_plan plans
 rules_plan-set plans rule old new old_is same = map-set_same (λ (plan : RulePlan). plan_of plan.alternatives.items) plans rule new old (same ∙ ap (λ (plan : RulePlan). plan_of plan.alternatives.items) old_is)
 
-pub plan_at-rule : (plans : List RulePlan) (rule : ℕ) (old : RulePlan) → rule < length plans → old ≡ slice_index_or plans rule old → plan_at (rules_plan plans) rule ≡ plan_of old.alternatives.items
+pub tokens-set : (plans : List RulePlan) (rule : ℕ) (old new : RulePlan) → old ≡ slice_index_or plans rule old → new.tokens ≡ old.tokens → map plan_tokens (slice_set plans rule new) ≡ map plan_tokens plans
+tokens-set plans rule old new old_is same = map-set_same plan_tokens plans rule new old (ap (λ v. v.items) same ∙ ap plan_tokens old_is)
+
+pub plan_at-rule : (plans : List RulePlan) (rule : ℕ) (old : RulePlan) → rule < length plans → old ≡ slice_index_or plans rule old → kept_at (rules_plan plans) rule ≡ plan_of old.alternatives.items
 plan_at-rule plans rule old inside old_is = get_or-map (λ (plan : RulePlan). plan_of plan.alternatives.items) plans rule old [] inside ∙ ap (λ (plan : RulePlan). plan_of plan.alternatives.items) (sym old_is)
 
 pub length-rules_plan : (plans : List RulePlan) → length (rules_plan plans) ≡ length plans
@@ -47,31 +50,32 @@ module _ (bound : ℕ → ℕ → ℕ) (ranks : List ℕ) (table : Table) (plans
   worth_read filled rank_is (OfRule other factor) l known (inr same) lesser =
       subst (λ n. entry table other n ≡ told (bound other n)) (sym same) (filled.entries other known (let fall = lesser same in omega arith))
 
-  pub all_read : IsRankFilled bound ranks table plans len rank → slice_index ranks rule ≡ rank → IsRanked ranks (rules_plan plans) → (old : RulePlan) → rule < length plans → old ≡ slice_index_or plans rule old → IsRuleReadable (length plans) old → AreAllRead bound table (plan_of old.alternatives.items) len
+  pub all_read : IsRankFilled bound ranks table plans len rank → slice_index ranks rule ≡ rank → IsKeptRanked ranks (rules_plan plans) → (old : RulePlan) → rule < length plans → old ≡ slice_index_or plans rule old → IsRuleReadable (length plans) old → AreAllRead bound table (plan_of old.alternatives.items) len
   all_read filled rank_is lesser old inside old_is known = λ place d in_plan. read place d in_plan
     where
-      plan : List (ℕ × List Part)
+      plan : List (ℕ × ℕ × List Part)
       plan = plan_of old.alternatives.items
 
-      known_parts : All (λ (e : ℕ × List Part). All (λ (part : Part). IsReadable (length plans) part.worth) e.1) plan
-      known_parts = All-map (λ (e : ℕ × List Part). All (λ (part : Part). IsReadable (length plans) part.worth) e.1) entry_of old.alternatives.items known
+      known_parts : All (λ (e : ℕ × ℕ × List Part). All (λ (part : Part). IsReadable (length plans) part.worth) e.2) plan
+      known_parts = All-map (λ (e : ℕ × ℕ × List Part). All (λ (part : Part). IsReadable (length plans) part.worth) e.2) kept_of old.alternatives.items known
 
-      here : plan_at (rules_plan plans) rule ≡ plan
+      here : kept_at (rules_plan plans) rule ≡ plan
       here = plan_at-rule plans rule old inside old_is
 
-      read : (k : ℕ) (d : ℕ × List Part) → k < length plan → AreRead bound table (slice_index_or plan k d).1 len
-      read k d in_plan = λ place l in_parts room.
-          let parts : List Part = (slice_index_or plan k d).1 in
+      read : (k : ℕ) (d : ℕ × ℕ × List Part) → k < length plan → (slice_index_or plan k d).1 ≤ len → AreRead bound table (slice_index_or plan k d).2 (len - (slice_index_or plan k d).1)
+      read k d in_plan long = λ place l in_parts room.
+          let parts : List Part = (slice_index_or plan k d).2 in
+          let fixed : ℕ = (slice_index_or plan k d).1 in
           let least = low_at parts place in_parts in
-          let same_parts : parts_at (rules_plan plans) rule k ≡ parts = ap (λ (p : List (ℕ × List Part)). (slice_index_or p k (0, [])).1) here ∙ ap (λ (e : ℕ × List Part). e.1) (get_or_default plan k (0, []) d in_plan) in
+          let same_entry : kept_entry (rules_plan plans) rule k ≡ slice_index_or plan k d = ap (λ (p : List (ℕ × ℕ × List Part)). slice_index_or p k (0, 0, [])) here ∙ get_or_default plan k (0, 0, []) d in_plan in
           worth_read filled rank_is (part_at parts place).worth l (known_parts k d in_plan place (record { worth = OfLetters 0 0; low = 0; room = 0 }) in_parts) (less_or_same l len (omega arith))
-          (λ same. subst (λ ps. NamesLesser ranks rule (part_at ps place).worth) same_parts
-          (lesser rule k place (omega (arith, length-rules_plan plans)) (subst (λ p. k < length p) (sym here) in_plan) (subst (λ ps. place < length ps) (sym same_parts) in_parts)
-          (subst (λ ps. lows ps ≤ (part_at ps place).low) (sym same_parts) (omega arith))))
+          (λ same. subst (λ (e : ℕ × ℕ × List Part). NamesLesser ranks rule (part_at e.2 place).worth) same_entry
+          (lesser rule k place (omega (arith, length-rules_plan plans)) (subst (λ p. k < length p) (sym here) in_plan) (subst (λ (e : ℕ × ℕ × List Part). place < length e.2) (sym same_entry) in_parts)
+          (subst (λ (e : ℕ × ℕ × List Part). e.1 + lows e.2 ≤ (part_at e.2 place).low) (sym same_entry) (omega arith))))
 
-  pub rank_step : (next : Table) (old new : RulePlan) (value : ℕ) → IsPartlyFilled bound ranks table plans len rank rule → IsPlanned bound (rules_plan plans) len → IsRanked ranks (rules_plan plans)
+  pub rank_step : (next : Table) (old new : RulePlan) (value : ℕ) → IsPartlyFilled bound ranks table plans len rank rule → IsKept bound (rules_plan plans) len → IsKeptRanked ranks (rules_plan plans)
       → rule < length plans → slice_index ranks rule ≡ rank → old ≡ slice_index_or plans rule old → IsRuleReadable (length plans) old → len < table.width
-      → (AreAllRead bound table (plan_of old.alternatives.items) len → IsRuleSpread bound len old → value ≡ told (rule_value bound (plan_of old.alternatives.items) len))
+      → (AreAllRead bound table (plan_of old.alternatives.items) len → IsRuleSpread bound len old → value ≡ told (kept_rule_value bound (plan_of old.alternatives.items) len))
       → (AreAllRead bound table (plan_of old.alternatives.items) len → IsRuleSpread bound len old → IsRuleSpread bound (len + 1) new)
       → entry next rule len ≡ value
       → ((other : ℕ) → other ≢ len → entry next rule other ≡ entry table rule other)
@@ -116,8 +120,8 @@ module _ (bound : ℕ → ℕ → ℕ) (ranks : List ℕ) (table : Table) (plans
       here_right : entry next rule len ≡ told (bound rule len)
       here_right =
           here ∙ value_is reads old_spread
-          ∙ ap (λ p. told (rule_value bound p len)) (sym (plan_at-rule plans rule old inside old_is))
-          ∙ ap told (sym (planned rule (omega (arith, length-rules_plan plans))))
+          ∙ ap (λ p. told (kept_rule_value bound p len)) (sym (plan_at-rule plans rule old inside old_is))
+          ∙ sym (planned rule (omega (arith, length-rules_plan plans)))
 
       now : (other : ℕ) → other < length plans → (other ≡ rule) ⊎ (other ≢ rule) → (other ≢ rule → entry table other len ≡ told (bound other len)) → entry next other len ≡ told (bound other len)
       now other in_plans (inl same) before = subst (λ r. entry next r len ≡ told (bound r len)) (sym same) here_right

@@ -10,9 +10,9 @@ use Rattle.grammar_check.specs.TokenNumbers.{tokens_number, rules_number, score_
 use Rattle.grammar_check.proofs.CutNumbers.{told-max}
 
 -- the greatest at so many lengths, from 0 on, cut
-abbrev pub cut_number : Table → List (List (ℕ × List Part)) → ℕ → ℕ
-cut_number table plan zero = 0
-cut_number table plan (suc len) = max (cut_number table plan len) (max (greatest_from (λ row. entry table row len) 0 table.rows) (told (tokens_number len plan)))
+abbrev pub cut_number : Table → (ℕ → ℕ) → ℕ → ℕ
+cut_number table tokens zero = 0
+cut_number table tokens (suc len) = max (cut_number table tokens len) (max (greatest_from (λ row. entry table row len) 0 table.rows) (told (tokens len)))
 
 greatest_cut : (bound : ℕ → ℕ → ℕ) (table : Table) (len count : ℕ) → ((rule : ℕ) → rule < count → entry table rule len ≡ told (bound rule len)) → greatest_from (λ row. entry table row len) 0 count ≡ told (greatest_from (λ rule. bound rule len) 0 count)
 greatest_cut bound table len zero right = omega arith
@@ -22,7 +22,7 @@ greatest_cut bound table len (suc count) right =
     let here : entry table (0 + count) len ≡ told (bound (0 + count) len) = subst (λ n. entry table n len ≡ told (bound n len)) (sym place) (right count (omega arith)) in
     ap₂ (λ a b. max a b) rest here ∙ told-max (greatest_from (λ rule. bound rule len) 0 count) (bound (0 + count) len)
 
-pub cut_number-told : (bound : ℕ → ℕ → ℕ) (table : Table) (plan : List (List (ℕ × List Part))) (most : ℕ) → ((rule len : ℕ) → rule < table.rows → len ≤ most → entry table rule len ≡ told (bound rule len)) → (len : ℕ) → len ≤ most → cut_number table plan (suc len) ≡ told (score_number bound table.rows plan len)
+pub cut_number-told : (bound : ℕ → ℕ → ℕ) (table : Table) (plan : List (List (ℕ × List Part))) (most : ℕ) → ((rule len : ℕ) → rule < table.rows → len ≤ most → entry table rule len ≡ told (bound rule len)) → (len : ℕ) → len ≤ most → cut_number table (λ l. tokens_number l plan) (suc len) ≡ told (score_number bound table.rows plan len)
 cut_number-told bound table plan most right zero short =
     let rules = greatest_cut bound table 0 table.rows (λ rule below. right rule 0 below short) in
     let first : max 0 (max (greatest_from (λ row. entry table row 0) 0 table.rows) (told (tokens_number 0 plan))) ≡ max (greatest_from (λ row. entry table row 0) 0 table.rows) (told (tokens_number 0 plan)) = omega arith in
@@ -34,8 +34,8 @@ cut_number-told bound table plan most right (suc len) short =
     ap (λ a. max a (told (tokens_number (suc len) plan))) rules ∙ told-max (rules_number bound table.rows (suc len)) (tokens_number (suc len) plan) in
     ap₂ (λ a b. max a b) before here ∙ told-max (score_number bound table.rows plan len) (max (rules_number bound table.rows (suc len)) (tokens_number (suc len) plan))
 
-pub cut_more : (table : Table) (plan : List (List (ℕ × List Part))) (len greatest rules tokens most next : ℕ) → greatest ≡ cut_number table plan len → rules ≡ greatest_from (λ row. entry table row len) 0 table.rows → tokens ≡ told (tokens_number len plan) → most ≡ max rules tokens → next ≡ max greatest most → next ≡ cut_number table plan (len + 1)
-cut_more table plan len greatest rules tokens most next greatest_is rules_are tokens_are most_is next_is =
+pub cut_more : (table : Table) (number : ℕ → ℕ) (len greatest rules tokens most next : ℕ) → greatest ≡ cut_number table number len → rules ≡ greatest_from (λ row. entry table row len) 0 table.rows → tokens ≡ told (number len) → most ≡ max rules tokens → next ≡ max greatest most → next ≡ cut_number table number (len + 1)
+cut_more table number len greatest rules tokens most next greatest_is rules_are tokens_are most_is next_is =
     let count : len + 1 ≡ suc len = omega arith in
     rw count (omega arith)
 
@@ -52,3 +52,9 @@ row_more row len value number each before here at below = by (order at len)
         let same : at ≡ length row = omega arith in
         let last : len ≡ at = omega arith in
         ap (λ n. slice_index (row ++ value ∷ []) n) same ∙ get_or_push row value 0 (length row) refl ∙ here ∙ ap number last
+
+-- the same tokens have the same rows
+pub cut_number-same : (table : Table) (tokens others : ℕ → ℕ) → ((len : ℕ) → tokens len ≡ others len) → (count : ℕ) → cut_number table tokens count ≡ cut_number table others count
+cut_number-same table tokens others same zero = refl
+cut_number-same table tokens others same (suc len) =
+    ap₂ (λ a b. max a (max (greatest_from (λ row. entry table row len) 0 table.rows) (told b))) (cut_number-same table tokens others same len) (same len)

@@ -1,7 +1,7 @@
 -- The greatest over all ways to spread spare letters over parts, one part at a time.
-use Rattle.std.proofs.Common.{◌≡◌, ℕ, suc, ◌+◌, ◌-◌, ◌*◌, ◌^◌, ◌<◌, ◌≤◌, min, max, List, length, drop, nat_cmp, sym, ap, ap₂, subst, ◌∙◌, arith}
+use Rattle.std.proofs.Common.{◌≡◌, ℕ, suc, ◌+◌, ◌-◌, ◌*◌, ◌^◌, ◌<◌, ◌≤◌, min, max, List, [], ◌∷◌, length, drop, nat_cmp, sym, ap, ap₂, subst, ◌∙◌, arith}
 use Rattle.std.specs.Ordering.{ord_max}
-use Rattle.std.proofs.lemmas.List.{drop_more}
+use Rattle.std.proofs.lemmas.List.{drop_more, drop_all}
 use Rattle.adp_model.specs.LimitFaults.{told}
 use Rattle.grammar_check.specs.declared.part.Part.{Part}
 use Rattle.grammar_check.specs.declared.part.Worth.{Worth}
@@ -48,3 +48,26 @@ best_done bound parts part place spare rest_room best more first last inside par
     ∙ ap (λ n. told (greatest_from (added_by bound part (drop (place + 1) parts) spare) n (min spare part.room + 1 - n))) from_there
     ∙ ap (λ p. told (greatest_from (added_by bound p (drop (place + 1) parts) spare) (spare - rooms (drop (place + 1) parts)) (min spare p.room + 1 - (spare - rooms (drop (place + 1) parts))))) part_is
     ∙ ap told (sym (spread_at bound parts place spare inside))
+
+-- the last part takes all spare letters, where it has room for them
+pub last_taken : (bound : ℕ → ℕ → ℕ) (part : Part) (spare : ℕ) → spare ≤ part.room → spread bound (part ∷ []) spare ≡ worth_of bound part.worth (part.low + spare)
+last_taken bound part spare few =
+    let first : spare - 0 ≡ spare = omega arith in
+    let count : min spare part.room + 1 - (spare - 0) ≡ 1 = omega arith in
+    let all : greatest_from (added_by bound part [] spare) (spare - 0) (min spare part.room + 1 - (spare - 0)) ≡ greatest_from (added_by bound part [] spare) spare 1 =
+    ap (λ n. greatest_from (added_by bound part [] spare) (spare - 0) n) count ∙ ap (λ n. greatest_from (added_by bound part [] spare) n 1) first in
+    let place : spare + 0 ≡ spare = omega arith in
+    let one : added_by bound part [] spare (spare + 0) ≡ added_by bound part [] spare spare = ap (added_by bound part [] spare) place in
+    all ∙ omega (arith, one)
+
+pub last_too_many : (bound : ℕ → ℕ → ℕ) (part : Part) (spare : ℕ) → part.room < spare → spread bound (part ∷ []) spare ≡ 0
+last_too_many bound part spare many =
+    let count : min spare part.room + 1 - (spare - 0) ≡ 0 = omega arith in
+    ap (λ n. greatest_from (added_by bound part [] spare) (spare - 0) n) count
+
+-- the part at the last place stands alone
+pub last_alone : (bound : ℕ → ℕ → ℕ) (parts : List Part) (part : Part) (place spare : ℕ) → place + 1 ≡ length parts → part ≡ part_at parts place → spread bound (part ∷ []) spare ≡ spread bound (drop place parts) spare
+last_alone bound parts part place spare ends part_is =
+    let whole = drop_more parts place (record { worth = OfLetters 0 0; low = 0; room = 0 }) (omega arith) in
+    let none : drop (place + 1) parts ≡ [] = drop_all (place + 1) parts (omega arith) in
+    ap (λ ps. spread bound ps spare) (ap₂ (λ p ps. p ∷ ps) part_is (sym none) ∙ sym whole)

@@ -13,12 +13,11 @@ alternative_value bound constant parts len =
     if nat_le (lows parts) len && nat_le (len - lows parts) (rooms parts)
     then constant + spread bound parts (len - lows parts) else 0
 
--- the rows have what the parts add over fewer spare letters than these
+-- the rows have what the parts behind the first, and fewer of them, add over fewer spare letters than these
 pub record AreSpread (bound : ℕ → ℕ → ℕ) (alternative : Alternative) (count : ℕ) : Type 0 where
-  pub rows : (place column : ℕ) → place < length alternative.parts.items → column < count
-      → entry alternative.spreads place column ≡ told (spread bound (drop place alternative.parts.items) column)
-  pub last : (column : ℕ) → column < alternative.spreads.width
-      → entry alternative.spreads (length alternative.parts.items) column ≡ 0
+  pub rows : (place column : ℕ) → place + 1 < length alternative.parts.items → column < count
+      → entry alternative.spreads place column
+      ≡ told (spread bound (drop (place + 1) alternative.parts.items) column)
 
 -- the table has the bounds that ways to give the parts this length need
 abbrev pub AreRead : (ℕ → ℕ → ℕ) → Table → List Part → ℕ → Type 0

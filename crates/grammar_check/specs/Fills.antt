@@ -9,7 +9,7 @@ use Rattle.grammar_check.specs.declared.table.Table.{Table}
 use Rattle.grammar_check.specs.declared.rule_plan.RulePlan.{RulePlan}
 use Rattle.grammar_check.specs.Tables.{entry}
 use Rattle.grammar_check.specs.Plans.{lows, part_at}
-use Rattle.grammar_check.specs.RuleValues.{IsAllReadable, IsWide, IsSpreadTo, plan_of, rule_value}
+use Rattle.grammar_check.specs.RuleValues.{IsAllReadable, IsWide, IsSpreadTo, plan_of, rule_value, kept_rule_value}
 
 abbrev pub IsRuleReadable : ℕ → RulePlan → Type 0
 IsRuleReadable rules plan = All (IsAllReadable rules) plan.alternatives.items
@@ -20,9 +20,13 @@ IsRuleWide width plan = All (IsWide width) plan.alternatives.items
 abbrev pub IsRuleSpread : (ℕ → ℕ → ℕ) → ℕ → RulePlan → Type 0
 IsRuleSpread bound len plan = All (IsSpreadTo bound len) plan.alternatives.items
 
--- the plans of all rules
-abbrev pub rules_plan : List RulePlan → List (List (ℕ × List Part))
+-- the kept plans of all rules
+abbrev pub rules_plan : List RulePlan → List (List (ℕ × ℕ × List Part))
 rules_plan plans = map (λ (plan : RulePlan). plan_of plan.alternatives.items) plans
+
+-- the tokens of a rule's plan
+abbrev pub plan_tokens : RulePlan → List Part
+plan_tokens plan = plan.tokens.items
 
 -- the plan of a rule
 abbrev pub plan_at : List (List (ℕ × List Part)) → ℕ → List (ℕ × List Part)
@@ -48,6 +52,27 @@ IsRanked ranks plan =
     → place < length (parts_at plan rule alternative)
     → lows (parts_at plan rule alternative) ≤ (part_at (parts_at plan rule alternative) place).low
     → NamesLesser ranks rule (part_at (parts_at plan rule alternative) place).worth
+
+-- what is kept of a rule's plan, and of an alternative
+abbrev pub kept_at : List (List (ℕ × ℕ × List Part)) → ℕ → List (ℕ × ℕ × List Part)
+kept_at plan rule = slice_index_or plan rule []
+
+abbrev pub kept_entry : List (List (ℕ × ℕ × List Part)) → ℕ → ℕ → ℕ × ℕ × List Part
+kept_entry plan rule alternative = slice_index_or (kept_at plan rule) alternative (0, 0, [])
+
+-- the bounds are, cut, the values of what is kept of the plan at this length
+abbrev pub IsKept : (ℕ → ℕ → ℕ) → List (List (ℕ × ℕ × List Part)) → ℕ → Type 0
+IsKept bound plan len =
+    (rule : ℕ) → rule < length plan → told (bound rule len) ≡ told (kept_rule_value bound (kept_at plan rule) len)
+
+-- a kept part that can be as long as the rule, since all others can be empty, names a rule of lesser rank
+abbrev pub IsKeptRanked : List ℕ → List (List (ℕ × ℕ × List Part)) → Type 0
+IsKeptRanked ranks plan =
+    (rule alternative place : ℕ) → rule < length plan → alternative < length (kept_at plan rule)
+    → place < length (kept_entry plan rule alternative).2
+    → (kept_entry plan rule alternative).1 + lows (kept_entry plan rule alternative).2
+    ≤ (part_at (kept_entry plan rule alternative).2 place).low
+    → NamesLesser ranks rule (part_at (kept_entry plan rule alternative).2 place).worth
 
 -- the table has the bounds at all lesser lengths, cut, and the rows of all alternatives are as far
 pub record IsFilledTo (bound : ℕ → ℕ → ℕ) (table : Table) (plans : List RulePlan) (len : ℕ) : Type 0 where

@@ -5,6 +5,7 @@ pub mod RuleValues
 pub mod Fills
 pub mod GrammarPlans
 pub mod TokenNumbers
+pub mod KeptPlans
 pub mod CheckedGrammar
 pub mod MeasuredBounds
 pub mod ToldBounds

@@ -1,6 +1,6 @@
 -- Plans: the alternatives of a grammar's rules as numbers, for the rows of a bound. An argument is a part, with what it
 -- adds by its length; a way spreads the spare letters, those beyond the parts' least lengths, over the parts.
-use Rattle.std.specs.Prelude.{◌≡◌, ℕ, zero, suc, ◌+◌, ◌-◌, ◌*◌, ◌<◌, max, min, List, [], ◌∷◌, slice_index_or}
+use Rattle.std.specs.Prelude.{◌≡◌, ℕ, zero, suc, ◌+◌, ◌-◌, ◌*◌, ◌<◌, max, min, Bool, false, ◌&&◌, true, nat_eq, if◌then◌else◌, List, [], ◌∷◌, slice_index_or}
 use Rattle.adp_model.specs.LimitFaults.{told}
 use Rattle.grammar_check.specs.declared.part.Worth.{Worth}
 use Rattle.grammar_check.specs.declared.part.Worth.TheVariants.{OfRule, OfLetters}
@@ -48,3 +48,28 @@ spread bound (part ∷ parts) spare =
 -- a part by its place
 abbrev pub part_at : List Part → ℕ → Part
 part_at parts place = slice_index_or parts place (record { worth = OfLetters 0 0; low = 0; room = 0 })
+
+-- it adds by the number of letters
+abbrev pub is_letters : Worth → Bool
+is_letters (OfRule rule factor) = false
+is_letters (OfLetters weight factor) = true
+
+-- a token of one length
+abbrev pub is_fixed : Part → Bool
+is_fixed part = nat_eq part.room 0 && is_letters part.worth
+
+-- the other parts
+abbrev pub open_parts : List Part → List Part
+open_parts [] = []
+open_parts (part ∷ parts) = if is_fixed part then open_parts parts else part ∷ open_parts parts
+
+-- the letters of tokens of one length
+abbrev pub fixed_length : List Part → ℕ
+fixed_length [] = 0
+fixed_length (part ∷ parts) = (if is_fixed part then part.low else 0) + fixed_length parts
+
+-- what these add
+abbrev pub fixed_worth : List Part → ℕ
+fixed_worth [] = 0
+fixed_worth (part ∷ parts) =
+    (if is_fixed part then worth_of (λ rule len. 0) part.worth part.low else 0) + fixed_worth parts

@@ -1,4 +1,4 @@
-ghost use Rattle.std.specs.Prelude.{◌≡◌, ℕ, ◌+◌, ◌-◌, ◌^◌, ◌<◌, ◌≤◌, min, length, drop, slice_index, vec_len, IfOk};
+ghost use Rattle.std.specs.Prelude.{◌≡◌, ◌≢◌, ℕ, ◌+◌, ◌-◌, ◌^◌, ◌<◌, ◌≤◌, [], ◌∷◌, min, length, drop, slice_index, vec_len, IfOk};
 ghost use Rattle.std.specs.List.{All};
 ghost use Rattle.adp_model.specs.LimitFaults.{told};
 ghost use Rattle.grammar_check.specs.Plans.{IsReadable, ReadsRight, lows, rooms, spread, part_at, worth_of};
@@ -22,40 +22,44 @@ fn lows(parts: &[Part]) -> usize
     total
 }
 
-/// An alternative of a rule, for the rows of a bound: what it adds of its own, its parts, and the least length of all
-/// parts together. Row i of `spreads` has, by the number of spare letters, what the parts from i on add; the last row
-/// stands for no parts.
+/// An alternative of a rule, for the rows of a bound: what it adds of its own, with its tokens of one length; the
+/// letters of these; the least length of all arguments together; and its other arguments as parts. Row i of `spreads`
+/// has, by the number of spare letters, what the parts behind part i add. So an alternative with one part keeps no row.
 #[derive(Drop)]
 pub struct Alternative {
     pub constant: u64,
+    pub fixed: usize,
     pub low: usize,
     pub parts: Vec<Part>,
     pub spreads: Table,
-    ghost least: { low ≡ min (lows parts.items) (2 ^ 64 - 1) },
-    ghost rows: { spreads.rows ≡ vec_len parts + 1 },
+    ghost least: { low ≡ min (fixed + lows parts.items) (2 ^ 64 - 1) },
+    ghost rows: { vec_len parts ≤ spreads.rows + 1 },
 }
 
 impl Alternative {
-    ghost use Rattle.grammar_check.specs.Alternatives.{AreSpread, AreRead, alternative_value};
+    ghost use Rattle.grammar_check.specs.Alternatives.{AreSpread, AreRead};
+    ghost use Rattle.grammar_check.specs.RuleValues.{kept_value};
 
     /// An alternative with tables for lengths up to `most`.
     pub fn new(
         alloc: Global,
         constant: u64,
+        fixed: usize,
         parts: Vec<Part>,
         most: usize,
     ) -> Result<Alternative, AllocError>
         requires few { vec_len parts ≤ 4 }
         requires short { most ≤ 4000 }
         ensures constant { IfOk result (λ alternative. alternative.constant ≡ constant) }
+        ensures fixed { IfOk result (λ alternative. alternative.fixed ≡ fixed) }
         ensures parts { IfOk result (λ alternative. alternative.parts.items ≡ parts.items) }
         ensures width { IfOk result (λ alternative. alternative.spreads.width ≡ most + 1) }
-        ensures spread { IfOk result (λ alternative. (bound : ℕ → ℕ → ℕ) → AreSpread bound alternative 0) }
     {
-        let low = lows(&parts);
-        let spreads = Table::new(alloc, parts.len() + 1, most + 1)?;
+        let low = fixed.saturating_add(lows(&parts));
+        let spreads = Table::new(alloc, parts.len().saturating_sub(1), most + 1)?;
         Ok(Alternative {
             constant,
+            fixed,
             low,
             parts,
             spreads,
@@ -73,11 +77,14 @@ impl Alternative {
             → ((more : ℕ) → more ≤ spare
             → ReadsRight bound bounds.now (part_at self.now.parts.items place).worth
             ((part_at self.now.parts.items place).low + more))
-            → ((column : ℕ) → column ≤ spare → entry self.now.spreads (place + 1) column
-            ≡ told (spread bound (drop (place + 1) self.now.parts.items) column))
+            → (place + 1 < length self.now.parts.items → (column : ℕ) → column ≤ spare
+            → entry self.now.spreads place column ≡ told (spread bound (drop (place + 1) self.now.parts.items) column))
             → result ≡ told (spread bound (drop place self.now.parts.items) spare) }
     {
         let part = self.parts[place];
+        if place + 1 == self.parts.len() {
+            return last_spread(part, spare, bounds);
+        }
         if let Worth::OfRule { rule, factor: 1 } = part.worth {
             return self.best_of_rule(place, spare, rest_room, bounds.row(rule as usize));
         }
@@ -86,7 +93,7 @@ impl Alternative {
         let mut best = 0;
         for more in first..last + 1 {
             let here = part.worth.at(bounds, part.low + more);
-            let rest = self.spreads.get(place + 1, spare - more);
+            let rest = self.spreads.get(place, spare - more);
             best = best.max(cut_sum(here, rest));
         }
         best
@@ -94,7 +101,7 @@ impl Alternative {
 
     /// The same, where the first of these parts is a rule whose bound is counted once, and these are the rule's bounds.
     fn best_of_rule(&self, place: usize, spare: usize, rest_room: usize, own: &[u64]) -> u64
-        requires place { place < vec_len self.now.parts }
+        requires place { place + 1 < vec_len self.now.parts }
         requires column { spare < self.now.spreads.width }
         requires within { (part_at self.now.parts.items place).low + spare < length own.now }
         requires rest_room { rest_room ≡ min (rooms (drop (place + 1) self.now.parts.items)) (2 ^ 64 - 1) }
@@ -102,19 +109,39 @@ impl Alternative {
             → ((more : ℕ) → more ≤ spare → slice_index own.now ((part_at self.now.parts.items place).low + more)
             ≡ told (worth_of bound (part_at self.now.parts.items place).worth
             ((part_at self.now.parts.items place).low + more)))
-            → ((column : ℕ) → column ≤ spare → entry self.now.spreads (place + 1) column
+            → ((column : ℕ) → column ≤ spare → entry self.now.spreads place column
             ≡ told (spread bound (drop (place + 1) self.now.parts.items) column))
             → result ≡ told (spread bound (drop place self.now.parts.items) spare) }
     {
         let part = self.parts[place];
         let first = spare.saturating_sub(rest_room);
         let last = spare.min(part.room);
-        let others = self.spreads.row(place + 1);
+        let others = self.spreads.row(place);
         let mut best = 0;
         for more in first..last + 1 {
             best = best.max(cut_sum(own[part.low + more], others[spare - more]));
         }
         best
+    }
+
+    /// Keeps what the parts from this one on add with so many spare letters, where a part stands in front of them.
+    fn keep(&mut self, place: usize, spare: usize, best: u64)
+        requires place { place < vec_len self.old.parts }
+        requires column { spare < self.old.spreads.width }
+        ensures constant { self.new.constant ≡ self.old.constant }
+        ensures fixed { self.new.fixed ≡ self.old.fixed }
+        ensures low { self.new.low ≡ self.old.low }
+        ensures parts { self.new.parts.items ≡ self.old.parts.items }
+        ensures width { self.new.spreads.width ≡ self.old.spreads.width }
+        ensures here { 0 < place → entry self.new.spreads (place - 1) spare ≡ best }
+        ensures other_columns { (row column : ℕ) → column ≢ spare → column < self.old.spreads.width
+            → entry self.new.spreads row column ≡ entry self.old.spreads row column }
+        ensures other_rows { (row : ℕ) → row + 1 ≢ place
+            → entry self.new.spreads row spare ≡ entry self.old.spreads row spare }
+    {
+        if place > 0 {
+            self.spreads.set(place - 1, spare, best);
+        }
     }
 
     /// The greatest value of the alternative over its ways to have this length, cut; 0 where there is no way. The
@@ -125,29 +152,46 @@ impl Alternative {
         requires columns { bounds.now.width ≤ self.old.spreads.width }
         requires short { len < 2 ^ 32 }
         ensures constant { self.new.constant ≡ self.old.constant }
+        ensures fixed { self.new.fixed ≡ self.old.fixed }
         ensures low { self.new.low ≡ self.old.low }
         ensures parts { self.new.parts.items ≡ self.old.parts.items }
         ensures width { self.new.spreads.width ≡ self.old.spreads.width }
-        ensures value { (bound : ℕ → ℕ → ℕ) → AreRead bound bounds.now self.old.parts.items len
-            → AreSpread bound self.old (len - lows self.old.parts.items)
-            → result ≡ told (alternative_value bound self.old.constant self.old.parts.items len) }
-        ensures spread { (bound : ℕ → ℕ → ℕ) → AreRead bound bounds.now self.old.parts.items len
-            → AreSpread bound self.old (len - lows self.old.parts.items)
-            → AreSpread bound self.new (len + 1 - lows self.old.parts.items) }
+        ensures value { (bound : ℕ → ℕ → ℕ)
+            → (self.old.fixed ≤ len → AreRead bound bounds.now self.old.parts.items (len - self.old.fixed))
+            → AreSpread bound self.old (len - (self.old.fixed + lows self.old.parts.items))
+            → result ≡ told (kept_value bound self.old.constant self.old.fixed self.old.parts.items len) }
+        ensures spread { (bound : ℕ → ℕ → ℕ)
+            → (self.old.fixed ≤ len → AreRead bound bounds.now self.old.parts.items (len - self.old.fixed))
+            → AreSpread bound self.old (len - (self.old.fixed + lows self.old.parts.items))
+            → AreSpread bound self.new (len + 1 - (self.old.fixed + lows self.old.parts.items)) }
     {
         if len < self.low {
             return 0;
         }
         let spare = len - self.low;
+        let mut best = 0;
         let mut rest_room: usize = 0;
         for place in (0..self.parts.len()).rev() {
-            let best = self.best_spread(place, spare, rest_room, bounds);
-            self.spreads.set(place, spare, best);
+            best = self.best_spread(place, spare, rest_room, bounds);
+            self.keep(place, spare, best);
             rest_room = rest_room.saturating_add(self.parts[place].room);
         }
         if spare > rest_room {
             return 0;
         }
-        cut_sum(self.constant, self.spreads.get(0, spare))
+        cut_sum(self.constant, best)
     }
+}
+
+/// What a part adds that all spare letters are given to, cut; 0 where they are too many.
+fn last_spread(part: Part, spare: usize, bounds: &Table) -> u64
+    requires readable { IsReadable bounds.now.rows part.worth }
+    requires within { part.low + spare < bounds.now.width }
+    ensures { (bound : ℕ → ℕ → ℕ) → ReadsRight bound bounds.now part.worth (part.low + spare)
+        → result ≡ told (spread bound (part ∷ []) spare) }
+{
+    if spare > part.room {
+        return 0;
+    }
+    part.worth.at(bounds, part.low + spare)
 }

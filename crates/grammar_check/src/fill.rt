@@ -1,6 +1,6 @@
-ghost use Rattle.std.specs.Prelude.{◌≡◌, ℕ, ◌+◌, ◌^◌, ◌<◌, ◌≤◌, length, slice_index, vec_len};
+ghost use Rattle.std.specs.Prelude.{◌≡◌, ℕ, ◌+◌, ◌^◌, ◌<◌, ◌≤◌, length, map, slice_index, vec_len};
 ghost use Rattle.std.specs.List.{All};
-ghost use Rattle.grammar_check.specs.Fills.{IsRuleReadable, IsRuleWide, rules_plan, IsPlanned, IsRanked, IsFilledTo, IsRankFilled};
+ghost use Rattle.grammar_check.specs.Fills.{plan_tokens, IsRuleReadable, IsRuleWide, rules_plan, IsKept, IsKeptRanked, IsFilledTo, IsRankFilled};
 
 use crate::rule_plan::RulePlan;
 use crate::table::Table;
@@ -17,10 +17,11 @@ fn fill_rank(plans: &mut Vec<RulePlan>, ranks: &[u32], table: &mut Table, len: u
     ensures width { table.new.width ≡ table.old.width }
     ensures each { vec_len plans.new ≡ vec_len plans.old }
     ensures plan { rules_plan plans.new.items ≡ rules_plan plans.old.items }
+    ensures tokens { map plan_tokens plans.new.items ≡ map plan_tokens plans.old.items }
     ensures readable { All (λ plan. IsRuleReadable (vec_len plans.old) plan) plans.new.items }
     ensures columns { All (λ plan. IsRuleWide table.old.width plan) plans.new.items }
-    ensures filled { (bound : ℕ → ℕ → ℕ) → IsPlanned bound (rules_plan plans.old.items) len
-        → IsRanked ranks.now (rules_plan plans.old.items)
+    ensures filled { (bound : ℕ → ℕ → ℕ) → IsKept bound (rules_plan plans.old.items) len
+        → IsKeptRanked ranks.now (rules_plan plans.old.items)
         → IsRankFilled bound ranks.now table.old plans.old.items len rank
         → IsRankFilled bound ranks.now table.new plans.new.items len (rank + 1) }
 {
@@ -46,10 +47,11 @@ fn fill_length(plans: &mut Vec<RulePlan>, ranks: &[u32], table: &mut Table, len:
     ensures width { table.new.width ≡ table.old.width }
     ensures each { vec_len plans.new ≡ vec_len plans.old }
     ensures plan { rules_plan plans.new.items ≡ rules_plan plans.old.items }
+    ensures tokens { map plan_tokens plans.new.items ≡ map plan_tokens plans.old.items }
     ensures readable { All (λ plan. IsRuleReadable (vec_len plans.old) plan) plans.new.items }
     ensures columns { All (λ plan. IsRuleWide table.old.width plan) plans.new.items }
-    ensures filled { (bound : ℕ → ℕ → ℕ) → IsPlanned bound (rules_plan plans.old.items) len
-        → IsRanked ranks.now (rules_plan plans.old.items)
+    ensures filled { (bound : ℕ → ℕ → ℕ) → IsKept bound (rules_plan plans.old.items) len
+        → IsKeptRanked ranks.now (rules_plan plans.old.items)
         → IsFilledTo bound table.old plans.old.items len → IsFilledTo bound table.new plans.new.items (len + 1) }
 {
     for rank in 0..plans.len() {
@@ -68,11 +70,12 @@ pub fn fill(plans: &mut Vec<RulePlan>, ranks: &[u32], table: &mut Table, most: u
     requires columns { All (λ plan. IsRuleWide table.old.width plan) plans.old.items }
     ensures rows { table.new.rows ≡ table.old.rows }
     ensures width { table.new.width ≡ table.old.width }
-    ensures filled { (bound : ℕ → ℕ → ℕ) → ((len : ℕ) → len ≤ most → IsPlanned bound (rules_plan plans.old.items) len)
-        → IsRanked ranks.now (rules_plan plans.old.items)
+    ensures filled { (bound : ℕ → ℕ → ℕ) → ((len : ℕ) → len ≤ most → IsKept bound (rules_plan plans.old.items) len)
+        → IsKeptRanked ranks.now (rules_plan plans.old.items)
         → IsFilledTo bound table.old plans.old.items 0 → IsFilledTo bound table.new plans.new.items (most + 1) }
     ensures each { vec_len plans.new ≡ vec_len plans.old }
     ensures plan { rules_plan plans.new.items ≡ rules_plan plans.old.items }
+    ensures tokens { map plan_tokens plans.new.items ≡ map plan_tokens plans.old.items }
 {
     for len in 0..most + 1 {
         fill_length(plans, ranks, table, len);

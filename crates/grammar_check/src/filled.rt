@@ -2,7 +2,8 @@ ghost use Rattle.std.specs.Prelude.{◌≡◌, ℕ, ◌+◌, ◌<◌, ◌≤◌,
 ghost use Rattle.adp_model.specs.LimitFaults.{told};
 ghost use Rattle.grammar_check.specs.Tables.{entry};
 ghost use Rattle.grammar_check.specs.GrammarPlans.{grammar_plan, lengths_of};
-ghost use Rattle.grammar_check.specs.Fills.{rules_plan};
+ghost use Rattle.grammar_check.specs.KeptPlans.{rule_tokens};
+ghost use Rattle.grammar_check.specs.TokenNumbers.{greatest_of, tokens_number};
 ghost use Rattle.grammar_check.specs.MeasuredBounds.{AreBoundsOf};
 
 use crate::checked::Checked;
@@ -30,8 +31,8 @@ pub fn filled_table(
     most: usize,
 ) -> Result<Filled, AllocError>
     requires { most ≤ 4000 }
-    ensures plan { IfOk result (λ filled. rules_plan filled.plans.items
-        ≡ grammar_plan checked.now.grammar measure (lengths_of checked.now.sizes most)) }
+    ensures tokens { IfOk result (λ filled. (len : ℕ) → greatest_of (rule_tokens len) filled.plans.items
+        ≡ tokens_number len (grammar_plan checked.now.grammar measure (lengths_of checked.now.sizes most))) }
     ensures rows { IfOk result (λ filled. filled.table.rows ≡ length checked.now.grammar.rules) }
     ensures width { IfOk result (λ filled. filled.table.width ≡ most + 1) }
     ensures entries { IfOk result (λ filled. (bound : ℕ → ℕ → ℕ) → AreBoundsOf checked.now.grammar measure bound

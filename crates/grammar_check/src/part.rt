@@ -1,9 +1,11 @@
-ghost use Rattle.std.specs.Prelude.{◌≡◌, ℕ, ◌<◌};
+ghost use Rattle.std.specs.Prelude.{◌≡◌, ℕ, ◌*◌, ◌^◌, ◌-◌, ◌<◌, [], ◌∷◌, min, true, length, slice_index_or, IfOk};
 ghost use Rattle.adp_model.specs.LimitFaults.{told};
-ghost use Rattle.grammar_check.specs.Plans.{worth_of, IsReadable, ReadsRight};
+ghost use Rattle.grammar_check.specs.Plans.{worth_of, IsReadable, ReadsRight, is_fixed, fixed_length, fixed_worth, open_parts};
+ghost use Rattle.grammar_check.specs.TokenNumbers.{letters_worth};
 
-use crate::cut::cut_product;
+use crate::cut::{cut_product, cut_sum};
 use crate::table::Table;
+use std::alloc::{AllocError, Global};
 
 /// What an argument adds to a bound, by its length.
 #[derive(Clone, Copy)]
@@ -36,4 +38,142 @@ impl Worth {
             }
         }
     }
+
+    /// Whether the two add the same.
+    fn is_same(self, other: Worth) -> bool
+        ensures { result ≡ true → self ≡ other }
+    {
+        match (self, other) {
+            (
+                Worth::OfRule { rule, factor },
+                Worth::OfRule {
+                    rule: other_rule,
+                    factor: other_factor,
+                },
+            ) => rule == other_rule && factor == other_factor,
+            (
+                Worth::OfLetters { weight, factor },
+                Worth::OfLetters {
+                    weight: other_weight,
+                    factor: other_factor,
+                },
+            ) => weight == other_weight && factor == other_factor,
+            _ => false,
+        }
+    }
+
+    /// How much a letter adds; nothing for a rule.
+    pub fn letter_weight(self) -> u64
+        ensures { (len : ℕ) → letters_worth self len ≡ result * len }
+    {
+        match self {
+            Worth::OfRule { .. } => 0,
+            Worth::OfLetters { weight, .. } => weight,
+        }
+    }
+}
+
+impl Part {
+    /// Whether it is a token of one length.
+    fn is_fixed(self) -> bool
+        ensures { result ≡ is_fixed self }
+    {
+        match self.worth {
+            Worth::OfRule { .. } => false,
+            Worth::OfLetters { .. } => self.room == 0,
+        }
+    }
+
+    /// What it adds, cut, where it is a token of one length; else 0.
+    fn fixed_worth(self) -> u64
+        ensures { result ≡ told (fixed_worth (self ∷ [])) }
+    {
+        match self.worth {
+            Worth::OfLetters { weight, factor } if self.room == 0 => {
+                cut_product(factor, cut_product(weight, self.low as u64))
+            }
+            _ => 0,
+        }
+    }
+
+    /// Whether the two are the same.
+    pub fn is_same(self, other: Part) -> bool
+        ensures { result ≡ true → self ≡ other }
+    {
+        self.low == other.low && self.room == other.room && self.worth.is_same(other.worth)
+    }
+}
+
+/// The letters of the tokens of one length, or the greatest number that there is.
+pub fn fixed_length(parts: &[Part]) -> usize
+    ensures { result ≡ min (fixed_length parts.now) (2 ^ 64 - 1) }
+{
+    let mut total: usize = 0;
+    let mut rest = parts;
+    while let Some((first, others)) = rest.split_first() {
+        if first.is_fixed() {
+            total = total.saturating_add(first.low);
+        }
+        rest = others;
+    }
+    total
+}
+
+/// What the tokens of one length add, cut.
+pub fn fixed_worth(parts: &[Part]) -> u64
+    ensures { result ≡ told (fixed_worth parts.now) }
+{
+    let mut total = 0;
+    let mut rest = parts;
+    while let Some((first, others)) = rest.split_first() {
+        total = cut_sum(total, first.fixed_worth());
+        rest = others;
+    }
+    total
+}
+
+/// The parts other than tokens of one length.
+pub fn open_parts(alloc: Global, parts: &[Part]) -> Result<Vec<Part>, AllocError>
+    ensures { IfOk result (λ others. others.items ≡ open_parts parts.now) }
+{
+    let mut kept = Vec::new(alloc);
+    let mut rest = parts;
+    while let Some((first, others)) = rest.split_first() {
+        if !first.is_fixed() {
+            kept.push(*first)?;
+        }
+        rest = others;
+    }
+    Ok(kept)
+}
+
+/// Whether the parts have this one.
+pub fn has(parts: &[Part], wanted: Part) -> bool
+    ensures { result ≡ true → (place : ℕ) × (place < length parts.now)
+        × (slice_index_or parts.now place wanted ≡ wanted) }
+{
+    for part in parts {
+        if part.is_same(wanted) {
+            return true;
+        }
+    }
+    false
+}
+
+/// Whether the two lists are the same.
+pub fn is_same_list(parts: &[Part], others: &[Part]) -> bool
+    ensures { result ≡ true → parts.now ≡ others.now }
+{
+    let mut rest = parts;
+    let mut other_rest = others;
+    while let Some((first, behind)) = rest.split_first() {
+        match other_rest.split_first() {
+            Some((other, other_behind)) if first.is_same(*other) => {
+                rest = behind;
+                other_rest = other_behind;
+            }
+            _ => return false,
+        }
+    }
+    other_rest.is_empty()
 }

@@ -1,13 +1,10 @@
-ghost use Rattle.std.specs.Prelude.{◌≡◌, ℕ, ◌+◌, ◌*◌, ◌^◌, ◌<◌, ◌≤◌, ◌++◌, IfOk, IsTrue, length, map, min, vec_len};
+ghost use Rattle.std.specs.Prelude.{◌≡◌, ◌+◌, ◌^◌, ◌<◌, ◌≤◌, IfOk, IsTrue, length, map};
 ghost use Rattle.std.specs.List.{All};
 ghost use Rattle.adp_model.specs.WellFormed.{is_well_formed};
-ghost use Rattle.grammar_check.specs.GrammarPlans.{low_in, high_in, ranged, part_in, parts_in, entry_in, grammar_plan, lengths_of};
-ghost use Rattle.grammar_check.specs.Plans.{lows};
-ghost use Rattle.grammar_check.specs.RuleValues.{plan_of};
-ghost use Rattle.grammar_check.specs.Alternatives.{AreSpread};
-ghost use Rattle.grammar_check.specs.Fills.{IsRuleWide, rules_plan};
+ghost use Rattle.grammar_check.specs.GrammarPlans.{low_in, high_in, ranged, parts_in, entry_in, lengths_of};
+ghost use Rattle.grammar_check.specs.Fills.{IsRuleWide};
+ghost use Rattle.grammar_check.specs.KeptPlans.{Keeps, KeepsAll};
 
-use crate::alternative::Alternative;
 use crate::measure::Measure;
 use crate::part::{Part, Worth};
 use crate::rule_plan::RulePlan;
@@ -89,7 +86,7 @@ fn parts(
     Ok(parts)
 }
 
-/// The alternatives of a rule, for lengths up to `most`.
+/// What is kept of the alternatives of a rule, for lengths up to `most`.
 fn rule_plan(
     alloc: Global,
     grammar: &Grammar,
@@ -100,33 +97,21 @@ fn rule_plan(
 ) -> Result<RulePlan, AllocError>
     requires few { All (λ alternative. length alternative.args ≤ 4) alternatives.now }
     requires short { most ≤ 4000 }
-    ensures plan { IfOk result (λ plan. plan_of plan.alternatives.items
-        ≡ map (entry_in grammar.now measure (lengths_of sizes.now most)) alternatives.now) }
-    ensures columns { IfOk result (λ plan. IsRuleWide (most + 1) plan) }
-    ensures spread { IfOk result (λ plan. (bound : ℕ → ℕ → ℕ)
-        → All (λ alternative. AreSpread bound alternative 0) plan.alternatives.items) }
+    ensures plan { IfOk result
+        (Keeps (map (entry_in grammar.now measure (lengths_of sizes.now most)) alternatives.now)) }
+    ensures columns { IfOk result (IsRuleWide (most + 1)) }
 {
-    let mut planned = Vec::with_capacity(alloc, alternatives.len())?;
+    let mut plan = RulePlan::new(alloc);
     for alternative in alternatives {
         let sign = alternative.sign;
-        let parts = parts(
-            alloc,
-            grammar,
-            sizes,
-            measure,
-            most,
-            sign,
-            alternative.args.as_slice(),
-        )?;
-        let constant = measure.constant(grammar, sign);
-        planned.push(Alternative::new(alloc, constant, parts, most)?)?;
+        let arguments = alternative.args.as_slice();
+        let parts = parts(alloc, grammar, sizes, measure, most, sign, arguments)?;
+        plan.add(alloc, measure.constant(grammar, sign), &parts, most)?;
     }
-    Ok(RulePlan {
-        alternatives: planned,
-    })
+    Ok(plan)
 }
 
-/// The plan of a grammar, rule by rule, for lengths up to `most`.
+/// What is kept of a grammar's plan, rule by rule, for lengths up to `most`.
 pub fn plans(
     alloc: Global,
     grammar: &Grammar,
@@ -136,11 +121,8 @@ pub fn plans(
 ) -> Result<Vec<RulePlan>, AllocError>
     requires well_formed { IsTrue (is_well_formed grammar.now) }
     requires short { most ≤ 4000 }
-    ensures plan { IfOk result (λ plans. rules_plan plans.items
-        ≡ grammar_plan grammar.now measure (lengths_of sizes.now most)) }
+    ensures plan { IfOk result (λ plans. KeepsAll grammar.now measure (lengths_of sizes.now most) plans.items) }
     ensures columns { IfOk result (λ plans. All (λ plan. IsRuleWide (most + 1) plan) plans.items) }
-    ensures spread { IfOk result (λ plans. (bound : ℕ → ℕ → ℕ)
-        → All (λ plan. All (λ alternative. AreSpread bound alternative 0) plan.alternatives.items) plans.items) }
 {
     arguments_are_few_and_known();
     let mut planned = Vec::with_capacity(alloc, grammar.rules.as_slice().len())?;

@@ -1,18 +1,126 @@
-ghost use Rattle.std.specs.Prelude.{◌≡◌, ℕ, ◌+◌, ◌^◌, ◌<◌, ◌≤◌};
+ghost use Rattle.std.specs.Prelude.{◌≡◌, ℕ, ◌+◌, ◌^◌, ◌<◌, ◌≤◌, [], ◌∷◌, ◌++◌, true, max, length, slice_index_or, vec_len, List, OnOk, IfSome};
 ghost use Rattle.std.specs.List.{All};
 ghost use Rattle.adp_model.specs.LimitFaults.{told};
-ghost use Rattle.grammar_check.specs.RuleValues.{IsWide, IsAllReadable, plan_of, rule_value, AreAllRead, IsSpreadTo};
+ghost use Rattle.grammar_check.specs.declared.part.Part.{Part};
+ghost use Rattle.grammar_check.specs.Fills.{IsRuleWide};
+ghost use Rattle.grammar_check.specs.KeptPlans.{AddsKept, Keeps};
+ghost use Rattle.grammar_check.specs.RuleValues.{IsWide, IsAllReadable, plan_of, kept_rule_value, AreAllRead, IsSpreadTo};
+ghost use Rattle.grammar_check.specs.TokenNumbers.{greatest_of, token_number};
 
 use crate::alternative::Alternative;
+use crate::cut::cut_sum;
+use crate::part::{Part, fixed_length, fixed_worth, has, is_same_list, open_parts};
 use crate::table::Table;
+use std::alloc::{AllocError, Global};
 
-/// The alternatives of a rule, for the rows of a bound.
+/// The alternatives of a rule, for the rows of a bound: one of those with the same parts and as many letters of tokens.
+/// Its tokens are those of all alternatives that add something, each once.
 #[derive(Drop)]
 pub struct RulePlan {
     pub alternatives: Vec<Alternative>,
+    pub tokens: Vec<Part>,
 }
 
 impl RulePlan {
+    /// The plan of no alternatives.
+    pub fn new(alloc: Global) -> RulePlan
+        ensures keeps { Keeps [] result }
+        ensures columns { (width : ℕ) → IsRuleWide width result }
+    {
+        RulePlan {
+            alternatives: Vec::new(alloc),
+            tokens: Vec::new(alloc),
+        }
+    }
+
+    /// Adds an alternative, which adds this of its own and has these parts, for lengths up to `most`.
+    pub fn add(
+        &mut self,
+        alloc: Global,
+        constant: u64,
+        parts: &[Part],
+        most: usize,
+    ) -> Result<(), AllocError>
+        requires few { length parts.now ≤ 4 }
+        requires short { most ≤ 4000 }
+        ensures keeps { OnOk result ((entries : List (ℕ × List Part)) → Keeps entries self.old
+            → Keeps (entries ++ (constant, parts.now) ∷ []) self.new) }
+        ensures columns { OnOk result (IsRuleWide (most + 1) self.old → IsRuleWide (most + 1) self.new) }
+    {
+        self.add_tokens(parts)?;
+        let open = open_parts(alloc, parts)?;
+        let constant = cut_sum(constant, fixed_worth(parts));
+        self.add_kept(alloc, constant, fixed_length(parts), open, most)
+    }
+
+    /// Adds what is kept of an alternative: this of its own, tokens of so many letters, and these parts.
+    fn add_kept(
+        &mut self,
+        alloc: Global,
+        constant: u64,
+        fixed: usize,
+        parts: Vec<Part>,
+        most: usize,
+    ) -> Result<(), AllocError>
+        requires few { vec_len parts ≤ 4 }
+        requires short { most ≤ 4000 }
+        ensures tokens { self.new.tokens ≡ self.old.tokens }
+        ensures kept { OnOk result (AddsKept (plan_of self.old.alternatives.items) (plan_of self.new.alternatives.items)
+            (constant, fixed, parts.items)) }
+        ensures columns { OnOk result (IsRuleWide (most + 1) self.old → IsRuleWide (most + 1) self.new) }
+    {
+        if let Some(place) = self.place_of(fixed, &parts) {
+            let alternative = &mut self.alternatives[place];
+            alternative.constant = alternative.constant.max(constant);
+            return Ok(());
+        }
+        let alternative = Alternative::new(alloc, constant, fixed, parts, most)?;
+        self.alternatives.push(alternative)?;
+        Ok(())
+    }
+
+    /// Adds the tokens among the parts.
+    fn add_tokens(&mut self, parts: &[Part]) -> Result<(), AllocError>
+        ensures alternatives { self.new.alternatives ≡ self.old.alternatives }
+        ensures tokens { OnOk result ((len : ℕ) → greatest_of (token_number len) self.new.tokens.items
+            ≡ max (greatest_of (token_number len) self.old.tokens.items) (greatest_of (token_number len) parts.now)) }
+    {
+        let mut rest = parts;
+        while let Some((first, others)) = rest.split_first() {
+            self.add_token(*first)?;
+            rest = others;
+        }
+        Ok(())
+    }
+
+    /// Adds the part to the tokens, where it is a token that adds something.
+    fn add_token(&mut self, part: Part) -> Result<(), AllocError>
+        ensures alternatives { self.new.alternatives ≡ self.old.alternatives }
+        ensures tokens { OnOk result ((len : ℕ) → greatest_of (token_number len) self.new.tokens.items
+            ≡ max (greatest_of (token_number len) self.old.tokens.items) (token_number len part)) }
+    {
+        if part.worth.letter_weight() > 0 && !has(&self.tokens, part) {
+            self.tokens.push(part)?;
+        }
+        Ok(())
+    }
+
+    /// The number of an alternative with the same parts and as many letters of tokens.
+    fn place_of(&self, fixed: usize, parts: &[Part]) -> Option<usize>
+        ensures inside { IfSome result (λ place. place < length self.now.alternatives.items) }
+        ensures fixed { IfSome result (λ place. (d : Alternative)
+            → (slice_index_or self.now.alternatives.items place d).fixed ≡ fixed) }
+        ensures parts { IfSome result (λ place. (d : Alternative)
+            → (slice_index_or self.now.alternatives.items place d).parts.items ≡ parts.now) }
+    {
+        for (place, alternative) in self.alternatives.iter().enumerate() {
+            if alternative.fixed == fixed && is_same_list(&alternative.parts, parts) {
+                return Some(place);
+            }
+        }
+        None
+    }
+
     /// The greatest value of the rule over all ways to have this length, cut; 0 where there is no way. The values at
     /// all lesser lengths were asked for before, and the table has the bounds of rules that it needs.
     pub fn extend(&mut self, bounds: &Table, len: usize) -> u64
@@ -21,11 +129,12 @@ impl RulePlan {
         requires columns { All (λ alternative. IsWide bounds.now.width alternative) self.old.alternatives.items }
         requires short { len < 2 ^ 32 }
         ensures plan { plan_of self.new.alternatives.items ≡ plan_of self.old.alternatives.items }
+        ensures tokens { self.new.tokens ≡ self.old.tokens }
         ensures readable { All (λ alternative. IsAllReadable bounds.now.rows alternative) self.new.alternatives.items }
         ensures columns { All (λ alternative. IsWide bounds.now.width alternative) self.new.alternatives.items }
         ensures value { (bound : ℕ → ℕ → ℕ) → AreAllRead bound bounds.now (plan_of self.old.alternatives.items) len
             → All (IsSpreadTo bound len) self.old.alternatives.items
-            → result ≡ told (rule_value bound (plan_of self.old.alternatives.items) len) }
+            → result ≡ told (kept_rule_value bound (plan_of self.old.alternatives.items) len) }
         ensures spread { (bound : ℕ → ℕ → ℕ) → AreAllRead bound bounds.now (plan_of self.old.alternatives.items) len
             → All (IsSpreadTo bound len) self.old.alternatives.items
             → All (IsSpreadTo bound (len + 1)) self.new.alternatives.items }

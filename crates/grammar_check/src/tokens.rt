@@ -1,11 +1,8 @@
 ghost use Rattle.std.specs.Prelude.{◌≡◌, ◌^◌, ◌<◌};
-ghost use Rattle.std.specs.List.{All};
 ghost use Rattle.adp_model.specs.LimitFaults.{told};
-ghost use Rattle.grammar_check.specs.TokenNumbers.{greatest_of, token_number, alternative_tokens, tokens_number};
-ghost use Rattle.grammar_check.specs.RuleValues.{plan_of};
-ghost use Rattle.grammar_check.specs.Fills.{rules_plan};
+ghost use Rattle.grammar_check.specs.TokenNumbers.{greatest_of, token_number};
+ghost use Rattle.grammar_check.specs.KeptPlans.{rule_tokens};
 
-use crate::alternative::Alternative;
 use crate::cut::cut_product;
 use crate::part::{Part, Worth};
 use crate::rule_plan::RulePlan;
@@ -36,27 +33,14 @@ fn parts_token(parts: &[Part], len: usize) -> u64
     greatest
 }
 
-/// The greatest over the alternatives.
-fn rule_token(alternatives: &[Alternative], len: usize) -> u64
-    ensures { result ≡ told (greatest_of (alternative_tokens len) (plan_of alternatives.now)) }
-{
-    let mut greatest = 0;
-    let mut rest = alternatives;
-    while let Some((first, others)) = rest.split_first() {
-        greatest = parts_token(&first.parts, len).max(greatest);
-        rest = others;
-    }
-    greatest
-}
-
-/// The greatest that letters of this number are worth to a token of the plan, cut.
+/// The greatest that letters of this number are worth to a token of the plans, cut.
 pub fn greatest_token(plans: &[RulePlan], len: usize) -> u64
-    ensures { result ≡ told (tokens_number len (rules_plan plans.now)) }
+    ensures { result ≡ told (greatest_of (rule_tokens len) plans.now) }
 {
     let mut greatest = 0;
     let mut rest = plans;
     while let Some((first, others)) = rest.split_first() {
-        greatest = rule_token(&first.alternatives, len).max(greatest);
+        greatest = parts_token(&first.tokens, len).max(greatest);
         rest = others;
     }
     greatest

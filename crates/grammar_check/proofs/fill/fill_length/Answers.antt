@@ -1,6 +1,6 @@
 use Rattle.std.proofs.Common.{refl, sym, subst, ◌∙◌, arith}
 use Rattle.std.specs.List.{All}
-use Rattle.grammar_check.specs.Fills.{IsRuleReadable, IsRuleWide, IsPlanned, IsRanked}
+use Rattle.grammar_check.specs.Fills.{IsRuleReadable, IsRuleWide, IsKept, IsKeptRanked}
 use Rattle.grammar_check.proofs.RankSteps.{length_begun, length_done}
 use Rattle.grammar_check.proofs.fill.fill_length.Goals as goal
 
@@ -10,6 +10,7 @@ loop-rank-init c = record {
   width = refl;
   each = refl;
   plan = refl;
+  tokens = refl;
   readable = c.requires.readable;
   columns = c.requires.columns;
   filled = λ bound planned lesser filled. length_begun bound c.args.ranks.now c.args.table.now c.args.plans.now.items c.args.len filled;
@@ -23,10 +24,11 @@ loop-rank-preserved c =
       width = c.fill_rank.ensures.width ∙ inv.width;
       each = c.fill_rank.ensures.each ∙ inv.each;
       plan = c.fill_rank.ensures.plan ∙ inv.plan;
+      tokens = c.fill_rank.ensures.tokens ∙ inv.tokens;
       readable = subst (λ n. All (IsRuleReadable n) c.fill_rank.new.plans.items) inv.each c.fill_rank.ensures.readable;
       columns = subst (λ n. All (IsRuleWide n) c.fill_rank.new.plans.items) inv.width c.fill_rank.ensures.columns;
       filled = λ bound planned lesser filled.
-          c.fill_rank.ensures.filled bound (subst (λ p. IsPlanned bound p c.args.len) (sym inv.plan) planned) (subst (λ p. IsRanked c.args.ranks.now p) (sym inv.plan) lesser)
+          c.fill_rank.ensures.filled bound (subst (λ p. IsKept bound p c.args.len) (sym inv.plan) planned) (subst (λ p. IsKeptRanked c.args.ranks.now p) (sym inv.plan) lesser)
           (inv.filled bound planned lesser filled);
     }
 

@@ -1,7 +1,7 @@
 use Rattle.std.proofs.Common.{◌≡◌, ◌<◌, length, vec_len, sym, subst, ◌∙◌, arith}
 use Rattle.std.proofs.lemmas.List.Elements.{All-set}
-use Rattle.grammar_check.specs.Fills.{IsRuleReadable, IsRuleWide, IsPlanned, IsRanked}
-use Rattle.grammar_check.proofs.RankSteps.{rules_plan-set, rank_step, rank_skip, rank_done}
+use Rattle.grammar_check.specs.Fills.{IsRuleReadable, IsRuleWide, IsKept, IsKeptRanked}
+use Rattle.grammar_check.proofs.RankSteps.{rules_plan-set, tokens-set, rank_step, rank_skip, rank_done}
 use Rattle.grammar_check.proofs.fill.fill_rank.Goals as goal
 use Rattle.grammar_check.proofs.fill.fill_rank.Goals.{then-ranks-rule, else-ranks-rule}
 
@@ -23,13 +23,14 @@ loop-rule-preserved c = elim c.if-ranks-rule.branch [
         width = w.set.ensures.width ∙ inv.width;
         each = inv.each;
         plan = rules_plan-set plans rule old new old_is w.extend-value.ensures.plan ∙ inv.plan;
+        tokens = tokens-set plans rule old new old_is w.extend-value.ensures.tokens ∙ inv.tokens;
         readable = All-set (IsRuleReadable (vec_len c.args.plans.now)) plans rule new (subst (λ n. IsRuleReadable n new) rows w.extend-value.ensures.readable) inv.readable;
         columns = All-set (IsRuleWide c.args.table.now.width) plans rule new (subst (λ n. IsRuleWide n new) inv.width w.extend-value.ensures.columns) inv.columns;
         filled = λ bound planned lesser filled.
             rank_step bound c.args.ranks.now c.loop-rule.table plans c.args.len c.args.rank rule w.set.new.self old new w.extend-value.result
             (inv.filled bound planned lesser filled)
-            (subst (λ p. IsPlanned bound p c.args.len) (sym inv.plan) planned)
-            (subst (λ p. IsRanked c.args.ranks.now p) (sym inv.plan) lesser)
+            (subst (λ p. IsKept bound p c.args.len) (sym inv.plan) planned)
+            (subst (λ p. IsKeptRanked c.args.ranks.now p) (sym inv.plan) lesser)
             inside w.if-ranks-rule.true old_is (subst (λ n. IsRuleReadable n old) (sym count) old_readable) (omega (arith, inv.width, c.requires.within))
             (w.extend-value.ensures.value bound) (w.extend-value.ensures.spread bound)
             w.set.ensures.here w.set.ensures.other_columns w.set.ensures.other_rows;
@@ -39,6 +40,7 @@ loop-rule-preserved c = elim c.if-ranks-rule.branch [
     width = c.loop-rule.invariant.width;
     each = c.loop-rule.invariant.each;
     plan = c.loop-rule.invariant.plan;
+    tokens = c.loop-rule.invariant.tokens;
     readable = c.loop-rule.invariant.readable;
     columns = c.loop-rule.invariant.columns;
     filled = λ bound planned lesser filled.

@@ -1,13 +1,14 @@
-use Rattle.std.proofs.Common.{◌≡◌, ◌+◌, length, map, slice_index_or, ap, subst, ◌∙◌, arith}
+use Rattle.std.proofs.Common.{◌≡◌, ℕ, ◌+◌, [], length, map, slice_index_or, ap, sym, subst, ◌∙◌, arith}
 use Rattle.std.specs.List.{All}
+use Rattle.std.proofs.lemmas.List.{get_or-map, length_push}
 use Rattle.std.proofs.lemmas.List.Elements.{All-push}
 use Rattle.adp_model.specs.declared.grammar.Rule as rules
 use Rattle.grammar_check.specs.declared.rule_plan.RulePlan.{RulePlan}
-use Rattle.grammar_check.specs.Alternatives.{AreSpread}
-use Rattle.grammar_check.specs.RuleValues.{plan_of}
-use Rattle.grammar_check.specs.Fills.{IsRuleWide}
-use Rattle.grammar_check.specs.GrammarPlans.{entry_in, lengths_of}
-use Rattle.grammar_check.proofs.PlanLists.{map_step, few_at}
+use Rattle.grammar_check.specs.Fills.{IsRuleWide, plan_at}
+use Rattle.grammar_check.specs.GrammarPlans.{entry_in, grammar_plan, lengths_of}
+use Rattle.grammar_check.specs.KeptPlans.{Keeps}
+use Rattle.grammar_check.proofs.KeptPlanSteps.{each_push}
+use Rattle.grammar_check.proofs.PlanLists.{few_at}
 use Rattle.grammar_check.proofs.plan.plans.Goals as goal
 
 pub rule_plan-requires-clause-few : goal.rule_plan-requires-clause-few
@@ -20,9 +21,18 @@ pub loop-rule-preserved : goal.loop-rule-preserved
 loop-rule-preserved c =
     let old = c.loop-rule.planned.items in
     let new = c.in_ok-rule_plan.field-0 in
+    let item = c.rule-item.result in
+    let inside = c.loop-rule-test.true in
+    let same = c.as_slice-rule-items.ensures in
+    let lengths = lengths_of c.args.sizes.now c.args.most in
+    let entry = entry_in c.args.grammar.now c.args.measure lengths in
+    let here : plan_at (grammar_plan c.args.grammar.now c.args.measure lengths) c.loop-rule.rule-index ≡ map entry c.as_slice-in-loop-rule.result.now =
+    get_or-map (λ (rule : rules.Rule). map entry rule.alts) c.args.grammar.now.rules c.loop-rule.rule-index item [] (omega (arith, ap length same, inside))
+    ∙ ap (λ (rule : rules.Rule). map entry rule.alts) (sym (subst (λ rs. item ≡ slice_index_or rs c.loop-rule.rule-index item) same c.rule-item.is))
+    ∙ ap (map entry) (sym c.as_slice-in-loop-rule.ensures) in
     rw c.in_ok-push.ensures.items (record {
-      plan = map_step (λ (plan : RulePlan). plan_of plan.alternatives.items) (λ (rule : rules.Rule). map (entry_in c.args.grammar.now c.args.measure (lengths_of c.args.sizes.now c.args.most)) rule.alts) old c.as_slice-rule-items.result.now c.loop-rule.rule-index new c.rule-item.result c.loop-rule-test.true c.rule-item.is
-          (c.in_ok-rule_plan.ensures.plan ∙ ap (map (entry_in c.args.grammar.now c.args.measure (lengths_of c.args.sizes.now c.args.most))) c.as_slice-in-loop-rule.ensures) c.loop-rule.invariant.plan;
+      each = omega (arith, length_push old new, c.loop-rule.invariant.each);
+      keeps = each_push (λ (rule : ℕ) (plan : RulePlan). Keeps (plan_at (grammar_plan c.args.grammar.now c.args.measure lengths) rule) plan) old new c.loop-rule.invariant.keeps
+          (subst (λ p. Keeps p new) (sym (ap (λ n. plan_at (grammar_plan c.args.grammar.now c.args.measure lengths) n) c.loop-rule.invariant.each ∙ here)) c.in_ok-rule_plan.ensures.plan);
       columns = All-push (IsRuleWide (c.args.most + 1)) old new c.loop-rule.invariant.columns c.in_ok-rule_plan.ensures.columns;
-      spread = λ bound. All-push (λ (plan : RulePlan). All (λ alternative. AreSpread bound alternative 0) plan.alternatives.items) old new (c.loop-rule.invariant.spread bound) (c.in_ok-rule_plan.ensures.spread bound);
     })

@@ -9,6 +9,6 @@ abbrev pub invariant-loop-more : goal.invariant-loop-more
 invariant-loop-more l = record {
   upper : l.more ≤ max l.first (l.last + 1);
   best : (bound : ℕ → ℕ → ℕ) → ((more : ℕ) → more ≤ l.spare → slice_index l.own (l.part.low + more) ≡ told (worth_of bound l.part.worth (l.part.low + more)))
-      → ((column : ℕ) → column ≤ l.spare → entry l.self.spreads (l.place + 1) column ≡ told (spread bound (drop (l.place + 1) l.self.parts.items) column))
+      → ((column : ℕ) → column ≤ l.spare → entry l.self.spreads l.place column ≡ told (spread bound (drop (l.place + 1) l.self.parts.items) column))
       → l.best ≡ told (greatest_from (added_by bound l.part (drop (l.place + 1) l.self.parts.items) l.spare) l.first (l.more - l.first));
 }

@@ -5,6 +5,6 @@ use Rattle.grammar_check.proofs.alternative.Alternative.extend.Given as goal
 
 abbrev pub invariant-loop-place : goal.invariant-loop-place
 invariant-loop-place l = record {
-  sweeping : IsSweeping l.bounds l.len l.spare l.initial.self l.self l.place;
+  sweeping : IsSweeping l.bounds (l.len - l.initial.self.fixed) l.spare l.initial.self l.self l.place l.best;
   rest_room : l.rest_room ≡ min (rooms (drop l.place l.initial.self.parts.items)) (2 ^ 64 - 1);
 }

@@ -1,4 +1,4 @@
-use Rattle.std.proofs.Common.{◌≡◌, ℕ, ◌<◌, ◌≤◌, ◌+◌, ◌-◌, length, slice_index_or, sym, subst, ◌∙◌, arith}
+use Rattle.std.proofs.Common.{◌≡◌, ℕ, ◌<◌, ◌≤◌, ◌+◌, ◌-◌, length, slice_index_or, sym, ap₂, subst, ◌∙◌, arith}
 use Rattle.std.specs.List.{All}
 use Rattle.std.proofs.lemmas.List.{length-set}
 use Rattle.std.proofs.lemmas.List.Elements.{All-set, AllWithin-more_set}
@@ -6,9 +6,9 @@ use Rattle.grammar_check.specs.declared.part.Part.{Part}
 use Rattle.grammar_check.specs.declared.alternative.Alternative.{Alternative}
 use Rattle.grammar_check.specs.Plans.{IsReadable, lows}
 use Rattle.grammar_check.specs.Alternatives.{AreSpread}
-use Rattle.grammar_check.specs.RuleValues.{IsWide, IsAllReadable, plan_of, AreAllRead, IsSpreadTo}
+use Rattle.grammar_check.specs.RuleValues.{IsWide, IsAllReadable, kept_of, plan_of, AreAllRead, IsSpreadTo}
 use Rattle.grammar_check.proofs.Spreads.{ord_max-numbers}
-use Rattle.grammar_check.proofs.RulePlans.{entry_of, plan-set, plan_at, length-plan, value_step, read_at, spread_less}
+use Rattle.grammar_check.proofs.RulePlans.{plan-set, plan_at, length-plan, value_step, read_at, spread_less}
 use Rattle.grammar_check.proofs.rule_plan.RulePlan.extend.Goals as goal
 
 pub loop-place-preserved : goal.loop-place-preserved
@@ -20,14 +20,15 @@ loop-place-preserved c =
     let new = c.extend-value.new.self in
     let inv = c.loop-place.invariant in
     let inside : place < length now = omega (arith, c.len-place-end.ensures, inv.each, c.args.self.now.alternatives.ok.0) in
-    let here : slice_index_or (plan_of before) place (entry_of old) ≡ entry_of old = plan_at now (plan_of before) place old inside inv.plan c.index_mut-alternative.ensures.value in
+    let here : slice_index_or (plan_of before) place (kept_of old) ≡ kept_of old = plan_at now (plan_of before) place old inside inv.plan c.index_mut-alternative.ensures.value in
     let in_plan : place < length (plan_of before) = omega (arith, length-plan before, inv.each) in
     let old_all = λ (P : Alternative → Type 0) (all : All P now). subst P (sym c.index_mut-alternative.ensures.value) (all place old inside) in
     let spread_of = λ (bound : ℕ → ℕ → ℕ) (reads : AreAllRead bound c.args.bounds.now (plan_of before) c.args.len) (spreads : All (IsSpreadTo bound c.args.len) before).
-    subst (λ ps. AreSpread bound new (c.args.len + 1 - lows ps)) (sym c.extend-value.ensures.parts)
+    subst (λ n. AreSpread bound new (c.args.len + 1 - n)) (sym (ap₂ (λ f ps. f + lows ps) c.extend-value.ensures.fixed c.extend-value.ensures.parts))
     (c.extend-value.ensures.spread bound (read_at bound c.args.bounds.now (plan_of before) place c.args.len old in_plan here reads) (old_all (IsSpreadTo bound c.args.len) (inv.older bound reads spreads))) in
     record {
-      plan = plan-set now place old new c.index_mut-alternative.ensures.value c.extend-value.ensures.constant c.extend-value.ensures.parts ∙ inv.plan;
+      plan = plan-set now place old new c.index_mut-alternative.ensures.value c.extend-value.ensures.constant c.extend-value.ensures.fixed c.extend-value.ensures.parts ∙ inv.plan;
+      tokens = inv.tokens;
       each = length-set now place new ∙ inv.each;
       readable = All-set (IsAllReadable c.args.bounds.now.rows) now place new (subst (λ ps. All (λ (part : Part). IsReadable c.args.bounds.now.rows part.worth) ps) (sym c.extend-value.ensures.parts) (old_all (IsAllReadable c.args.bounds.now.rows) inv.readable)) inv.readable;
       columns = All-set (IsWide c.args.bounds.now.width) now place new (subst (λ w. c.args.bounds.now.width ≤ w) (sym c.extend-value.ensures.width) (old_all (IsWide c.args.bounds.now.width) inv.columns)) inv.columns;

@@ -1,0 +1,268 @@
+-- The plan of a rule with one alternative more, and the plans of a grammar.
+use Rattle.std.proofs.Common.{◌≡◌, ◌≢◌, ℕ, zero, suc, ◌+◌, ◌-◌, ◌*◌, ◌^◌, ◌<◌, ◌≤◌, min, max, Bool, true, false, ◌&&◌, nat_le, ◌⊎◌, inl, inr, List, [], ◌∷◌, ◌++◌, length, map, slice_index, slice_index_or, slice_set, refl, sym, ap, ap₂, subst, ◌∙◌, arith}
+use Rattle.std.specs.Prelude.{if◌then◌else◌}
+use Rattle.std.specs.List.{All}
+use Rattle.std.proofs.lemmas.List.{map-append, map-set, get_or-map, get_or_append_left, get_or_push, get_or_default, length-map, length_push, length-set, get_or-set_other, get_or-set_same}
+use Rattle.adp_model.specs.LimitFaults.{told}
+use Rattle.adp_model.specs.declared.grammar.Rule as rules
+use Rattle.adp_model.specs.declared.grammar.Grammar.{Grammar}
+use Rattle.grammar_check.specs.declared.part.Part.{Part}
+use Rattle.grammar_check.specs.declared.part.Worth.{Worth}
+use Rattle.grammar_check.specs.declared.part.Worth.TheVariants.{OfLetters}
+use Rattle.grammar_check.specs.declared.alternative.Alternative.{Alternative}
+use Rattle.grammar_check.specs.declared.rule_plan.RulePlan.{RulePlan}
+use Rattle.grammar_check.specs.declared.measure.Measure.{Measure}
+use Rattle.grammar_check.specs.Plans.{IsReadable, lows, part_at, open_parts, fixed_length, fixed_worth}
+use Rattle.grammar_check.specs.Alternatives.{alternative_value}
+use Rattle.grammar_check.specs.RuleValues.{rule_value, kept_of, plan_of, kept_value, kept_rule_value}
+use Rattle.grammar_check.specs.GrammarPlans.{Lengths, entry_in, grammar_plan}
+use Rattle.grammar_check.specs.Fills.{IsRuleReadable, rules_plan, plan_at, parts_at, kept_at, kept_entry, IsPlanned, IsKept, NamesLesser, IsRanked, IsKeptRanked}
+use Rattle.grammar_check.specs.TokenNumbers.{greatest_of, letters_worth, token_number, alternative_tokens, tokens_number}
+use Rattle.grammar_check.specs.KeptPlans.{KeepsParts, SameParts, AddsKept, KeepsPlan, Keeps, KeepsAll, rule_tokens}
+use Rattle.grammar_check.proofs.CutNumbers.{told-max}
+use Rattle.grammar_check.proofs.Kept.{less_or_not, kept_value-is, kept_value-max, lows-open, open_found}
+use Rattle.grammar_check.proofs.Sweeps.{low_at}
+use Rattle.grammar_check.proofs.ScoreNumbers.{of_above}
+
+-- ---- lists
+
+-- what holds of each item by its place holds with one item more
+pub each_push : {X : Type 0} (P : ℕ → X → Type 0) (items : List X) (item : X) → ((k : ℕ) (d : X) → k < length items → P k (slice_index_or items k d)) → P (length items) item → (k : ℕ) (d : X) → k < length (items ++ item ∷ []) → P k (slice_index_or (items ++ item ∷ []) k d)
+each_push {X = X} P items item each last k d inside = by (less_or_not k (length items))
+  where
+    by : (k < length items) ⊎ (length items ≤ k) → P k (slice_index_or (items ++ item ∷ []) k d)
+    by (inl less) = subst (P k) (sym (get_or_append_left items (item ∷ []) d k less)) (each k d less)
+    by (inr past) =
+        let same : length items ≡ k = omega (arith, length_push items item) in
+        subst (λ n. P n (slice_index_or (items ++ item ∷ []) n d)) same
+        (subst (P (length items)) (sym (get_or_push items item d (length items) refl)) last)
+
+pub greatest_of-push : {X : Type 0} (number : X → ℕ) (items : List X) (item : X) → greatest_of number (items ++ item ∷ []) ≡ max (greatest_of number items) (number item)
+greatest_of-push number [] item = let here = number item in omega arith
+greatest_of-push number (first ∷ items) item =
+    let rest = greatest_of-push number items item in let here = number first in let all = greatest_of number items in let last = number item in omega arith
+
+-- the greatest of the items of two lists whose numbers are the same
+greatest_of-each : {X Y : Type 0} (number : X → ℕ) (other : Y → ℕ) (items : List X) (others : List Y) (e : Y) → length items ≡ length others → ((k : ℕ) (d : X) → k < length items → number (slice_index_or items k d) ≡ other (slice_index_or others k e)) → greatest_of number items ≡ greatest_of other others
+greatest_of-each number other [] [] e same each = refl
+greatest_of-each number other [] (y ∷ others) e same each = absurd (omega arith)
+greatest_of-each number other (x ∷ items) [] e same each = absurd (omega arith)
+greatest_of-each number other (x ∷ items) (y ∷ others) e same each =
+    ap₂ (λ a b. max a b) (each 0 x (omega arith)) (greatest_of-each number other items others e (omega arith) (λ k d inside. each (suc k) d (omega arith)))
+
+-- a plan of a list that has one
+first_plan : (plans : List RulePlan) (k : ℕ) → k < length plans → RulePlan
+first_plan [] k inside = absurd (omega arith)
+first_plan (plan ∷ plans) k inside = plan
+
+pub greatest_of-map : {X Y : Type 0} (number : Y → ℕ) (f : X → Y) (items : List X) → greatest_of (λ x. number (f x)) items ≡ greatest_of number (map f items)
+greatest_of-map number f [] = refl
+greatest_of-map number f (item ∷ items) = ap (λ n. max (number (f item)) n) (greatest_of-map number f items)
+
+-- ---- one alternative more
+
+rule_value-push : (bound : ℕ → ℕ → ℕ) (entries : List (ℕ × List Part)) (entry : ℕ × List Part) (len : ℕ) → rule_value bound (entries ++ entry ∷ []) len ≡ max (rule_value bound entries len) (alternative_value bound entry.0 entry.1 len)
+rule_value-push bound [] entry len = let here = alternative_value bound entry.0 entry.1 len in omega arith
+rule_value-push bound (first ∷ entries) entry len =
+    let rest = rule_value-push bound entries entry len in
+    let here = alternative_value bound first.0 first.1 len in
+    let all = rule_value bound entries len in
+    let last = alternative_value bound entry.0 entry.1 len in omega arith
+
+kept_rule_value-push : (bound : ℕ → ℕ → ℕ) (plan : List (ℕ × ℕ × List Part)) (kept : ℕ × ℕ × List Part) (len : ℕ) → kept_rule_value bound (plan ++ kept ∷ []) len ≡ max (kept_rule_value bound plan len) (kept_value bound kept.0 kept.1 kept.2 len)
+kept_rule_value-push bound [] kept len = let here = kept_value bound kept.0 kept.1 kept.2 len in omega arith
+kept_rule_value-push bound (first ∷ plan) kept len =
+    let rest = kept_rule_value-push bound plan kept len in
+    let here = kept_value bound first.0 first.1 first.2 len in
+    let all = kept_rule_value bound plan len in
+    let last = kept_value bound kept.0 kept.1 kept.2 len in omega arith
+
+-- one that stands there has its constant raised
+kept_rule_value-set : (bound : ℕ → ℕ → ℕ) (plan : List (ℕ × ℕ × List Part)) (place : ℕ) (d : ℕ × ℕ × List Part) (constant other fixed : ℕ) (parts : List Part) (len : ℕ) → place < length plan → slice_index_or plan place d ≡ (constant, fixed, parts) → kept_rule_value bound (slice_set plan place (max constant other, fixed, parts)) len ≡ max (kept_rule_value bound plan len) (kept_value bound other fixed parts len)
+kept_rule_value-set bound [] place d constant other fixed parts len inside here = absurd (omega arith)
+kept_rule_value-set bound (first ∷ plan) zero d constant other fixed parts len inside here =
+    let old : kept_value bound first.0 first.1 first.2 len ≡ kept_value bound constant fixed parts len = ap (λ (e : ℕ × ℕ × List Part). kept_value bound e.0 e.1 e.2 len) here in
+    let new = kept_value-max bound constant other fixed parts len in
+    among (kept_value bound (max constant other) fixed parts len) (kept_rule_value bound plan len) (kept_value bound first.0 first.1 first.2 len) (kept_value bound constant fixed parts len) (kept_value bound other fixed parts len) old new
+  where
+    among : (new all old here more : ℕ) → old ≡ here → new ≡ max here more → max new all ≡ max (max old all) more
+    among new all old here more e f = omega arith
+kept_rule_value-set bound (first ∷ plan) (suc place) d constant other fixed parts len inside here =
+    let rest = kept_rule_value-set bound plan place d constant other fixed parts len (omega arith) here in
+    among (kept_value bound first.0 first.1 first.2 len) (kept_rule_value bound (slice_set plan place (max constant other, fixed, parts)) len) (kept_rule_value bound plan len) (kept_value bound other fixed parts len) rest
+  where
+    among : (first new all more : ℕ) → new ≡ max all more → max first new ≡ max (max first all) more
+    among first new all more e = omega arith
+
+pub push_adds : (plan : List (ℕ × ℕ × List Part)) (kept : ℕ × ℕ × List Part) → AddsKept plan (plan ++ kept ∷ []) kept
+push_adds plan kept = record {
+  values = λ bound len. kept_rule_value-push bound plan kept len;
+  parts = λ place inside. by place inside (less_or_not place (length plan));
+}
+  where
+    by : (place : ℕ) → place < length (plan ++ kept ∷ []) → (place < length plan) ⊎ (length plan ≤ place) → SameParts (slice_index_or (plan ++ kept ∷ []) place (0, 0, [])) kept ⊎ ((place < length plan) × SameParts (slice_index_or (plan ++ kept ∷ []) place (0, 0, [])) (slice_index_or plan place (0, 0, [])))
+    by place inside (inl less) =
+        let same = get_or_append_left plan (kept ∷ []) (0, 0, []) place less in
+        inr (less, (ap (λ (e : ℕ × ℕ × List Part). e.1) same, ap (λ (e : ℕ × ℕ × List Part). e.2) same))
+    by place inside (inr past) =
+        let last : place ≡ length plan = omega (arith, length_push plan kept) in
+        let same : slice_index_or (plan ++ kept ∷ []) place (0, 0, []) ≡ kept = get_or_push plan kept (0, 0, []) place (sym last) in
+        inl (ap (λ (e : ℕ × ℕ × List Part). e.1) same, ap (λ (e : ℕ × ℕ × List Part). e.2) same)
+
+pub set_adds : (plan : List (ℕ × ℕ × List Part)) (at : ℕ) (constant other fixed : ℕ) (parts : List Part) → at < length plan → slice_index_or plan at (0, 0, []) ≡ (constant, fixed, parts) → AddsKept plan (slice_set plan at (max constant other, fixed, parts)) (other, fixed, parts)
+set_adds plan at constant other fixed parts inside here = record {
+  values = λ bound len. kept_rule_value-set bound plan at (0, 0, []) constant other fixed parts len inside here;
+  parts = λ place below. by place below (same_or_not place at);
+}
+  where
+    same_or_not : (a b : ℕ) → (a ≡ b) ⊎ (a ≢ b)
+    same_or_not a b = grind arith
+
+    new : ℕ × ℕ × List Part
+    new = (max constant other, fixed, parts)
+
+    by : (place : ℕ) → place < length (slice_set plan at new) → (place ≡ at) ⊎ (place ≢ at) → SameParts (slice_index_or (slice_set plan at new) place (0, 0, [])) (other, fixed, parts) ⊎ ((place < length plan) × SameParts (slice_index_or (slice_set plan at new) place (0, 0, [])) (slice_index_or plan place (0, 0, [])))
+    by place below (inl same) =
+        let found : slice_index_or (slice_set plan at new) place (0, 0, []) ≡ new = ap (λ n. slice_index_or (slice_set plan at new) n (0, 0, [])) same ∙ get_or-set_same plan at new (0, 0, []) inside in
+        inl (ap (λ (e : ℕ × ℕ × List Part). e.1) found, ap (λ (e : ℕ × ℕ × List Part). e.2) found)
+    by place below (inr differ) =
+        let found = get_or-set_other plan at place new (0, 0, []) differ in
+        inr (omega (arith, length-set plan at new), (ap (λ (e : ℕ × ℕ × List Part). e.1) found, ap (λ (e : ℕ × ℕ × List Part). e.2) found))
+
+-- an alternative with the same parts has its constant raised
+pub raise_adds : (alternatives : List Alternative) (place : ℕ) (old new : Alternative) (other fixed : ℕ) (parts : List Part) → place < length alternatives → old ≡ slice_index_or alternatives place old → new.constant ≡ max old.constant other → new.fixed ≡ old.fixed → new.parts.items ≡ old.parts.items → old.fixed ≡ fixed → old.parts.items ≡ parts → AddsKept (plan_of alternatives) (plan_of (slice_set alternatives place new)) (other, fixed, parts)
+raise_adds alternatives place old new other fixed parts inside old_is constant same_fixed same_parts fixed_is parts_is =
+    let here : slice_index_or (plan_of alternatives) place (0, 0, []) ≡ (old.constant, fixed, parts) =
+    get_or-map kept_of alternatives place old (0, 0, []) inside ∙ ap kept_of (sym old_is) ∙ (λ i. (old.constant, fixed_is i, parts_is i)) in
+    let new_is : kept_of new ≡ (max old.constant other, fixed, parts) = λ i. (constant i, (same_fixed ∙ fixed_is) i, (same_parts ∙ parts_is) i) in
+    subst (λ ps. AddsKept (plan_of alternatives) ps (other, fixed, parts)) (sym (map-set kept_of alternatives place new ∙ ap (λ (e : ℕ × ℕ × List Part). slice_set (plan_of alternatives) place e) new_is))
+    (set_adds (plan_of alternatives) place old.constant other fixed parts (omega (arith, length-map alternatives kept_of)) here)
+
+-- an alternative comes last
+pub last_adds : (alternatives : List Alternative) (new : Alternative) (constant fixed : ℕ) (parts : List Part) → new.constant ≡ constant → new.fixed ≡ fixed → new.parts.items ≡ parts → AddsKept (plan_of alternatives) (plan_of (alternatives ++ new ∷ [])) (constant, fixed, parts)
+last_adds alternatives new constant fixed parts constant_is fixed_is parts_is =
+    let new_is : kept_of new ≡ (constant, fixed, parts) = λ i. (constant_is i, fixed_is i, parts_is i) in
+    subst (λ ps. AddsKept (plan_of alternatives) ps (constant, fixed, parts)) (sym (map-append kept_of alternatives (new ∷ []) ∙ ap (λ (e : ℕ × ℕ × List Part). plan_of alternatives ++ e ∷ []) new_is))
+    (push_adds (plan_of alternatives) (constant, fixed, parts))
+
+-- ---- tokens
+
+if_nothing : (b : Bool) (n : ℕ) → n ≡ 0 → (if b then n else 0) ≡ 0
+if_nothing true n e = e
+if_nothing false n e = refl
+
+-- a part whose letters add nothing is no token that counts
+pub nothing_worth : (part : Part) (weight len : ℕ) → ((l : ℕ) → letters_worth part.worth l ≡ weight * l) → weight ≤ 0 → token_number len part ≡ 0
+nothing_worth part weight len worth none =
+    let zero' : weight ≡ 0 = omega arith in
+    let nothing : 0 * len ≡ 0 = omega arith in
+    if_nothing (nat_le part.low len && nat_le len (part.low + part.room)) (letters_worth part.worth len) (worth len ∙ ap (λ w. w * len) zero' ∙ nothing)
+
+pub nothing_more : (greatest number : ℕ) → number ≤ greatest → greatest ≡ max greatest number
+nothing_more greatest number low = omega arith
+
+-- a token that stands there adds none
+pub known_token : (tokens : List Part) (part : Part) (len : ℕ) → ((place : ℕ) × (place < length tokens) × (slice_index_or tokens place part ≡ part)) → greatest_of (token_number len) tokens ≡ max (greatest_of (token_number len) tokens) (token_number len part)
+known_token tokens part len found =
+    let above = of_above (token_number len) tokens found.0 part found.1 in
+    nothing_more (greatest_of (token_number len) tokens) (token_number len part) (subst (λ p. token_number len p ≤ greatest_of (token_number len) tokens) found.2 above)
+
+pub none_kept : KeepsPlan [] [] []
+none_kept = record {
+  values = λ bound len short. refl;
+  parts = λ place inside. absurd (omega arith);
+  tokens_are = λ len. refl;
+}
+
+-- the plan with one entry more
+pub keeps_more : (entries : List (ℕ × List Part)) (before after : List (ℕ × ℕ × List Part)) (tokens tokens' parts : List Part) (constant : ℕ) → KeepsPlan entries before tokens → AddsKept before after (told (constant + fixed_worth parts), min (fixed_length parts) (2 ^ 64 - 1), open_parts parts) → ((len : ℕ) → greatest_of (token_number len) tokens' ≡ max (greatest_of (token_number len) tokens) (greatest_of (token_number len) parts)) → KeepsPlan (entries ++ (constant, parts) ∷ []) after tokens'
+keeps_more entries before after tokens tokens' parts constant keeps adds counts = record {
+  values = λ bound len short.
+      cut (kept_rule_value bound after len) (kept_rule_value bound before len) (kept_value bound (told (constant + fixed_worth parts)) (min (fixed_length parts) (2 ^ 64 - 1)) (open_parts parts) len) (rule_value bound entries len) (alternative_value bound constant parts len) (rule_value bound (entries ++ (constant, parts) ∷ []) len)
+      (adds.values bound len) (keeps.values bound len short) (kept_value-is bound constant parts len short) (rule_value-push bound entries (constant, parts) len);
+  parts = λ place inside. by place (adds.parts place inside);
+  tokens_are = λ len.
+      counts len ∙ ap (λ n. max n (greatest_of (token_number len) parts)) (keeps.tokens_are len)
+      ∙ sym (greatest_of-push (alternative_tokens len) entries (constant, parts));
+}
+  where
+    cut : (after before kept all one whole : ℕ) → after ≡ max before kept → told before ≡ told all → told kept ≡ told one → whole ≡ max all one → told after ≡ told whole
+    cut after before kept all one whole e f g h = omega arith
+
+    last : slice_index_or (entries ++ (constant, parts) ∷ []) (length entries) (0, []) ≡ (constant, parts)
+    last = get_or_push entries (constant, parts) (0, []) (length entries) refl
+
+    by : (place : ℕ) → SameParts (slice_index_or after place (0, 0, [])) (told (constant + fixed_worth parts), min (fixed_length parts) (2 ^ 64 - 1), open_parts parts) ⊎ ((place < length before) × SameParts (slice_index_or after place (0, 0, [])) (slice_index_or before place (0, 0, [])))
+        → (at : ℕ) × (at < length (entries ++ (constant, parts) ∷ [])) × KeepsParts (slice_index_or (entries ++ (constant, parts) ∷ []) at (0, [])) (slice_index_or after place (0, 0, []))
+    by place (inl same) = (
+      length entries,
+      omega (arith, length_push entries (constant, parts)),
+      (
+        same.0 ∙ ap (λ (e : ℕ × List Part). min (fixed_length e.1) (2 ^ 64 - 1)) (sym last),
+        same.1 ∙ ap (λ (e : ℕ × List Part). open_parts e.1) (sym last),
+      ),
+    )
+    by place (inr old) =
+        let from = keeps.parts place old.0 in
+        let same : slice_index_or (entries ++ (constant, parts) ∷ []) from.0 (0, []) ≡ slice_index_or entries from.0 (0, []) = get_or_append_left entries ((constant, parts) ∷ []) (0, []) from.0 from.1 in (
+          from.0,
+          omega (arith, from.1, length_push entries (constant, parts)),
+          (
+            old.1.0 ∙ from.2.0 ∙ ap (λ (e : ℕ × List Part). min (fixed_length e.1) (2 ^ 64 - 1)) (sym same),
+            old.1.1 ∙ from.2.1 ∙ ap (λ (e : ℕ × List Part). open_parts e.1) (sym same),
+          ),
+        )
+
+-- ---- the plans of a grammar
+
+module _ (grammar : Grammar) (measure : Measure) (lengths : Lengths) (plans : List RulePlan) (keeps : KeepsAll grammar measure lengths plans) where
+  plan_length : length (grammar_plan grammar measure lengths) ≡ length plans
+  plan_length = length-map grammar.rules (λ (rule : rules.Rule). map (entry_in grammar measure lengths) rule.alts) ∙ sym keeps.each
+
+  kept_length : length (rules_plan plans) ≡ length plans
+  kept_length = length-map plans (λ (plan : RulePlan). plan_of plan.alternatives.items)
+
+  kept_is : (rule : ℕ) (d : RulePlan) → rule < length plans → kept_at (rules_plan plans) rule ≡ plan_of (slice_index_or plans rule d).alternatives.items
+  kept_is rule d inside = get_or-map (λ (plan : RulePlan). plan_of plan.alternatives.items) plans rule d [] inside
+
+  of_rule : (rule : ℕ) (d : RulePlan) → rule < length plans → KeepsPlan (plan_at (grammar_plan grammar measure lengths) rule) (kept_at (rules_plan plans) rule) (slice_index_or plans rule d).tokens.items
+  of_rule rule d inside =
+      subst (λ k. KeepsPlan (plan_at (grammar_plan grammar measure lengths) rule) k (slice_index_or plans rule d).tokens.items) (sym (kept_is rule d inside)) (keeps.keeps rule d inside)
+
+  pub kept : (bound : ℕ → ℕ → ℕ) (len : ℕ) → len < 2 ^ 32 → IsPlanned bound (grammar_plan grammar measure lengths) len → IsKept bound (rules_plan plans) len
+  kept bound len short planned rule inside =
+      ap told (planned rule (omega (arith, plan_length, kept_length))) ∙ sym ((of_rule rule (first_plan plans rule (omega (arith, kept_length))) (omega (arith, kept_length))).values bound len short)
+
+  pub kept_ranked : (ranks : List ℕ) → IsRanked ranks (grammar_plan grammar measure lengths) → IsKeptRanked ranks (rules_plan plans)
+  kept_ranked ranks ranked rule alternative place inside in_rule in_parts least_only =
+      let from = (of_rule rule (first_plan plans rule (omega (arith, kept_length))) (omega (arith, kept_length))).parts alternative in_rule in
+      let entry = kept_entry (rules_plan plans) rule alternative in
+      let parts = parts_at (grammar_plan grammar measure lengths) rule from.0 in
+      let found = open_found parts place (subst (λ ps. place < length ps) from.2.1 in_parts) in
+      let same : part_at parts found.place ≡ part_at entry.2 place = found.part_is ∙ ap (λ ps. part_at ps place) (sym from.2.1) in
+      let low = low_at entry.2 place in_parts in
+      let total = lows-open parts in
+      let others : lows entry.2 ≡ lows (open_parts parts) = ap lows from.2.1 in
+      let fixed = from.2.0 in
+      let alone : lows parts ≤ (part_at parts found.place).low = subst (λ (p : Part). lows parts ≤ p.low) (sym same) (omega (arith, fixed, total, others, low, least_only)) in
+      subst (λ (p : Part). NamesLesser ranks rule p.worth) same
+      (ranked rule from.0 found.place (omega (arith, plan_length, kept_length)) from.1 found.inside alone)
+
+  pub kept_tokens : (len : ℕ) → greatest_of (rule_tokens len) plans ≡ tokens_number len (grammar_plan grammar measure lengths)
+  kept_tokens len =
+      greatest_of-each (rule_tokens len) (greatest_of (alternative_tokens len)) plans (grammar_plan grammar measure lengths) [] (sym plan_length)
+      (λ rule d inside. (of_rule rule d inside).tokens_are len)
+
+  pub kept_readable : (rules : ℕ) → ((rule alternative : ℕ) → rule < length grammar.rules → alternative < length (plan_at (grammar_plan grammar measure lengths) rule) → All (λ (part : Part). IsReadable rules part.worth) (parts_at (grammar_plan grammar measure lengths) rule alternative)) → All (IsRuleReadable rules) plans
+  kept_readable rules readable = λ rule d inside alternative e in_rule place p in_parts.
+      let plan = slice_index_or plans rule d in
+      let here = keeps.keeps rule d inside in
+      let in_plan : alternative < length (plan_of plan.alternatives.items) = omega (arith, length-map plan.alternatives.items kept_of) in
+      let from = here.parts alternative in_plan in
+      let same_parts : (slice_index_or plan.alternatives.items alternative e).parts.items ≡ open_parts (parts_at (grammar_plan grammar measure lengths) rule from.0) =
+      sym (ap (λ (k : ℕ × ℕ × List Part). k.2) (get_or-map kept_of plan.alternatives.items alternative e (0, 0, []) in_rule)) ∙ from.2.1 in
+      let ps = (slice_index_or plan.alternatives.items alternative e).parts.items in
+      let parts = parts_at (grammar_plan grammar measure lengths) rule from.0 in
+      let found = open_found parts place (subst (λ (xs : List Part). place < length xs) same_parts in_parts) in
+      let part : part_at parts found.place ≡ slice_index_or ps place p = found.part_is ∙ ap (λ xs. part_at xs place) (sym same_parts) ∙ get_or_default ps place (record { worth = OfLetters 0 0; low = 0; room = 0 }) p in_parts in
+      subst (λ (x : Part). IsReadable rules x.worth) part (readable rule from.0 (omega (arith, keeps.each)) from.1 found.place (record { worth = OfLetters 0 0; low = 0; room = 0 }) found.inside)

@@ -1,0 +1,38 @@
+use Rattle.std.proofs.Common.{◌≡◌, ℕ, ◌+◌, ◌-◌, ◌^◌, min, List, [], ◌∷◌, ◌++◌, length, Result, Ok, Err, OnOk, sym, ap, ap₂, subst, ◌∙◌, arith}
+use Rattle.adp_model.specs.LimitFaults.{told}
+use Rattle.grammar_check.specs.declared.part.Part.{Part}
+use Rattle.grammar_check.specs.Plans.{open_parts, fixed_length, fixed_worth}
+use Rattle.grammar_check.specs.RuleValues.{plan_of}
+use Rattle.grammar_check.specs.TokenNumbers.{greatest_of, token_number}
+use Rattle.grammar_check.specs.KeptPlans.{AddsKept, Keeps}
+use Rattle.grammar_check.proofs.Kept.{length-open}
+use Rattle.grammar_check.proofs.KeptPlanSteps.{keeps_more}
+use Rattle.grammar_check.proofs.rule_plan.RulePlan.add.Goals as goal
+
+on_ok : {E : Type 0} {P Q : Type 0} (result : Result (Unit {0}) E) → (P → Q) → OnOk result P → OnOk result Q
+on_ok (Ok done) f p = f p
+on_ok (Err error) f p = tt
+
+summed : (total constant cut worth : ℕ) → total ≡ told (constant + cut) → cut ≡ told worth → total ≡ told (constant + worth)
+summed total constant cut worth e f = omega arith
+
+pub add_kept-requires-clause-few : goal.add_kept-requires-clause-few
+add_kept-requires-clause-few c =
+    let fewer = length-open c.args.parts.now in
+    omega (arith, c.requires.few, ap length c.in_ok-open.ensures, c.in_ok-open.open.ok.0)
+
+pub returns-clause-keeps : goal.returns-clause-keeps
+returns-clause-keeps c =
+    let before = c.args.self.now in
+    let middle = c.add_tokens.new.self in
+    let after = c.add_kept.new.self in
+    let parts = c.args.parts.now in
+    on_ok c.add_kept.result
+    (λ adds entries keeps.
+    keeps_more entries (plan_of before.alternatives.items) (plan_of after.alternatives.items) before.tokens.items after.tokens.items parts c.args.constant keeps
+    (subst (λ (items : List (ℕ × ℕ × List Part)). AddsKept items (plan_of after.alternatives.items) (told (c.args.constant + fixed_worth parts), min (fixed_length parts) (2 ^ 64 - 1), open_parts parts))
+    (ap (λ v. plan_of v.items) c.add_tokens.ensures.alternatives)
+    (subst (λ (kept : ℕ × ℕ × List Part). AddsKept (plan_of middle.alternatives.items) (plan_of after.alternatives.items) kept)
+    (λ i. (summed c.cut_sum-constant.result c.args.constant c.fixed_worth.result (fixed_worth parts) c.cut_sum-constant.ensures c.fixed_worth.ensures i, c.fixed_length.ensures i, c.in_ok-open.ensures i)) adds))
+    (λ len. ap (λ v. greatest_of (token_number len) v.items) c.add_kept.ensures.tokens ∙ c.in_ok-add_tokens.ensures.tokens len))
+    c.add_kept.ensures.kept
