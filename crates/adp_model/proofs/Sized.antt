@@ -102,3 +102,15 @@ within_from_derived p least greatest ranks checked short cell tree d =
     let inside : cell.to ≤ length p.word = (IsSpan-derived p cell tree d).in_word in
     let kept : cell.to - cell.from ≤ greatest_kept = omega arith in
     length_within p.grammar cell.rule (cell.to - cell.from) (slice_index least cell.rule) (slice_index_or greatest cell.rule None) (checked.least_are cell.rule known) (checked.greatest_are cell.rule known) has kept
+
+-- the same for every grammar, where these are the rule's sizes
+pub between_from_derived : (p : PosedProblem) (least : ℕ) (greatest : Option ℕ) (cell : Cell) (tree : Tree) → IsLeastSize p.grammar cell.rule least → IsGreatestSize p.grammar cell.rule greatest → length p.word ≤ 4000 → Derives p cell tree → (least ≤ cell.to - cell.from) × IfSome greatest (λ most. cell.to - cell.from ≤ most)
+between_from_derived p least greatest cell tree low high short d =
+    let has = HasLength-derived p cell tree d in
+    let inside : cell.to ≤ length p.word = (IsSpan-derived p cell tree d).in_word in
+    let kept : cell.to - cell.from ≤ greatest_kept = omega arith in
+    by greatest high (let k : low.0 ≤ cell.to - cell.from = low.2 (cell.to - cell.from) has in let e = low.3 in omega arith) has kept
+  where
+    by : (top : Option ℕ) → IsGreatestSize p.grammar cell.rule top → least ≤ cell.to - cell.from → HasLength p.grammar cell.rule (cell.to - cell.from) → cell.to - cell.from ≤ greatest_kept → (least ≤ cell.to - cell.from) × IfSome top (λ most. cell.to - cell.from ≤ most)
+    by None high' above has kept = (above, tt)
+    by (Some top) high' above has kept = let n : cell.to - cell.from ≤ high'.1 = high'.3 (cell.to - cell.from) has in let e = high'.4 in (above, omega arith)

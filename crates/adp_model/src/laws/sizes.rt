@@ -1,6 +1,6 @@
 //! Sizes of rules, and lengths of derived trees.
 
-ghost use Rattle.std.specs.Prelude.{◌≡◌, ℕ, ◌-◌, ◌<◌, ◌≤◌, ◌↔◌, Option, None, List, length, slice_index, slice_index_or};
+ghost use Rattle.std.specs.Prelude.{◌≡◌, ℕ, ◌-◌, ◌<◌, ◌≤◌, ◌↔◌, Option, None, IfSome, List, length, slice_index, slice_index_or};
 ghost use Rattle.adp_model.specs.declared.grammar.Grammar.{Grammar};
 ghost use Rattle.adp_model.specs.declared.cell.Cell.{Cell};
 ghost use Rattle.adp_model.specs.PosedProblem.{PosedProblem};
@@ -35,10 +35,14 @@ pub fn sizes_are_numbers()
 {}
 
 /// The length of a derived tree is one of its rule's lengths, and lies between the rule's sizes where the word has at
-/// most 4,000 letters.
+/// most 4,000 letters. That the rule has sizes is a premise; a grammar that passes the checks has them for all rules.
 pub fn derived_lengths_are_within_sizes()
     ensures lengths { (p : PosedProblem) (cell : Cell) (tree : Tree) → Derives p cell tree
         → HasLength p.grammar cell.rule (cell.to - cell.from) }
+    ensures between { (p : PosedProblem) (least : ℕ) (greatest : Option ℕ) (cell : Cell) (tree : Tree)
+        → IsLeastSize p.grammar cell.rule least → IsGreatestSize p.grammar cell.rule greatest
+        → length p.word ≤ most_letters → Derives p cell tree
+        → (least ≤ cell.to - cell.from) × IfSome greatest (λ most. cell.to - cell.from ≤ most) }
     ensures within { (p : PosedProblem) (least : List ℕ) (greatest : List (Option ℕ)) (ranks : List ℕ)
         → IsChecked p.grammar p.algebra least greatest ranks → length p.word ≤ most_letters
         → (cell : Cell) (tree : Tree) → Derives p cell tree → IsWithinSizes p.grammar cell.rule (cell.to - cell.from) }
