@@ -36,7 +36,7 @@ pub fn code_cell(code: u64) -> Cell
 }
 
 /// The word of no candidate, as a score and as a choice.
-const NO_CANDIDATE: u64 = 1;
+pub const NO_CANDIDATE: u64 = 1;
 
 /// The magnitude of each score is below this number.
 const MAGNITUDES: i64 = 1 << 62;

@@ -15,7 +15,8 @@ mod view;
 mod words;
 
 pub use codes::{
-    cell_code, choice_code, code_cell, code_choice, code_score, codes_tell_apart, score_code,
+    NO_CANDIDATE, cell_code, choice_code, code_cell, code_choice, code_score, codes_tell_apart,
+    score_code,
 };
 pub use homes::{each_position_is_tried_once, home, nth_position};
 pub use part::Part;
