@@ -1,13 +1,12 @@
 pub mod BlockPlaces
 pub mod CellCounts
 pub mod CellMarks
-pub mod CountedBlocks
-pub mod CountedFars
 pub mod CountedSpans
 pub mod FarBits
 pub mod FlaggedMarks
 pub mod GatheredMarks
 pub mod Lists
+pub mod MissingBits
 pub mod NotedCells
 pub mod NumberBits
 pub mod RowCounts

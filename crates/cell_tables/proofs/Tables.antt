@@ -6,43 +6,36 @@ use Rattle.adp_model.specs.declared.grammar.Grammar.{Grammar}
 use Rattle.adp_model.specs.declared.cell.Cell.{Cell}
 use Rattle.adp_model.specs.PosedProblem.{PosedProblem}
 use Rattle.adp_model.specs.Cells.{IsCounted, IsCellBound, IsPlaceOf, AreCountedEnds}
-use Rattle.cell_tables.specs.declared.grid.Block.{Block}
-use Rattle.cell_tables.specs.declared.layout.Side.TheVariants.{Rows, Columns}
+use Rattle.yield_sizes.specs.declared.layout.Block.{Block}
+use Rattle.yield_sizes.specs.declared.layout.Side.TheVariants.{Rows, Columns}
 use Rattle.cell_tables.specs.Spans.{Spans, Stands, HasSameBlocks, block_at, place_of, value_at}
-use Rattle.cell_tables.specs.Layout.{block_in, AreCountedBlocks}
+use Rattle.yield_sizes.specs.Layout.{block_in, AreCountedBlocks, ArePlaced}
 use Rattle.cell_tables.specs.Tables.{Table, AreCells}
 use Rattle.cell_tables.proofs.Values.{nothing, stands_where_some, value_standing, is_some_at}
-use Rattle.cell_tables.proofs.CountedSpans.{some_counted, counted_some, counted_stands, block_placed, all_counted}
+use Rattle.cell_tables.proofs.CountedSpans.{some_counted, counted_some}
 
 -- ---- the cells of a new table
-
--- how the places of counted cells go on
-pub record Numbering (grammar : Grammar) (len : ℕ) : Type 0 where
-  pub begin : IsPlaceOf grammar len (record { rule = 0; from = 0; to = 0 }) 0
-  pub ends : (rule from first past k to : ℕ) → AreCountedEnds grammar len rule from first past → IsPlaceOf grammar len (record { rule = rule; from = from; to = 0 }) k → first ≤ to → to ≤ past
-      → IsPlaceOf grammar len (record { rule = rule; from = from; to = to }) (k + (to - first))
-  pub starts : (rule from first past k : ℕ) → AreCountedEnds grammar len rule from first past → first ≤ past → IsPlaceOf grammar len (record { rule = rule; from = from; to = 0 }) k
-      → IsPlaceOf grammar len (record { rule = rule; from = from + 1; to = 0 }) (k + (past - first))
-  pub rules : (rule k : ℕ) → IsPlaceOf grammar len (record { rule = rule; from = len + 1; to = 0 }) k → IsPlaceOf grammar len (record { rule = rule + 1; from = 0; to = 0 }) k
-  pub bound : (k : ℕ) → IsPlaceOf grammar len (record { rule = length grammar.rules; from = 0; to = 0 }) k → IsCellBound grammar len k
-  pub unique : (cell : Cell) (a b : ℕ) → IsPlaceOf grammar len cell a → IsPlaceOf grammar len cell b → a ≡ b
 
 below : (grammar : Grammar) (len rule near : ℕ) → rule < length grammar.rules → near ≤ len → rule * (len + 1) + near < length grammar.rules * (len + 1)
 below grammar len rule near known within = omega (arith, mul-add-lt rule (len + 1) near (length grammar.rules) known (omega arith))
 
-module _ {V : Type 0} (p : PosedProblem) (rows columns : Spans V) (numbering : Numbering p.grammar (length p.word)) (row_positions : rows.positions ≡ length p.word + 1) (row_blocks : AreCountedBlocks p.grammar (length p.word) Rows (length rows.values) rows.blocks) (column_positions : columns.positions ≡ length p.word + 1) (column_blocks : AreCountedBlocks p.grammar (length p.word) Columns (length columns.values) columns.blocks) where
+-- how the places of the counted cells of a start go on, and that a cell has one place
+pub record Numbering (grammar : Grammar) (len : ℕ) : Type 0 where
+  pub ends : (rule from first past k to : ℕ) → AreCountedEnds grammar len rule from first past → IsPlaceOf grammar len (record { rule = rule; from = from; to = 0 }) k → first ≤ to → to ≤ past
+      → IsPlaceOf grammar len (record { rule = rule; from = from; to = to }) (k + (to - first))
+  pub unique : (cell : Cell) (a b : ℕ) → IsPlaceOf grammar len cell a → IsPlaceOf grammar len cell b → a ≡ b
+
+module _ {V : Type 0} (p : PosedProblem) (rows columns : Spans V) (numbering : Numbering p.grammar (length p.word)) (row_positions : rows.positions ≡ length p.word + 1) (row_blocks : AreCountedBlocks p.grammar (length p.word) Rows (length rows.values) rows.blocks) (starts : ArePlaced p.grammar (length p.word) rows.blocks) (bound : IsCellBound p.grammar (length p.word) (length rows.values)) (column_positions : columns.positions ≡ length p.word + 1) (column_blocks : AreCountedBlocks p.grammar (length p.word) Columns (length columns.values) columns.blocks) where
   row_placed : (cell : Cell) (place : ℕ) → IsCounted p.grammar (length p.word) cell → IsPlaceOf p.grammar (length p.word) cell place → place_of rows cell.rule cell.from cell.to ≡ place
   row_placed cell place counted is_place =
       let g = p.grammar in
       let len = length p.word in
-      let s = counted_stands g len Rows rows row_positions row_blocks cell.rule cell.from cell.to counted in
+      let within : cell.from ≤ len = omega (arith, counted.in_order, counted.in_word) in
       let block = block_in rows.blocks len cell.rule cell.from in
       let is_block : block ≡ block_at rows cell.rule cell.from = sym (ap (λ n. get_or rows.blocks (cell.rule * n + cell.from) nothing) row_positions) in
-      let stands : Stands rows cell.rule cell.from cell.to = s in
-      let begins = block_placed g len rows.blocks (length rows.values) row_blocks numbering.starts numbering.rules numbering.begin cell.rule cell.from counted.rule (omega (arith, counted.in_order, counted.in_word)) in
-      let fars : AreCountedEnds g len cell.rule cell.from block.first block.past = (row_blocks.are cell.rule cell.from (omega (arith, counted.in_order, counted.in_word)) (below g len cell.rule cell.from counted.rule (omega (arith, counted.in_order, counted.in_word)))).fars in
+      let fars : AreCountedEnds g len cell.rule cell.from block.first block.past = (row_blocks.are cell.rule cell.from within (below g len cell.rule cell.from counted.rule within)).fars in
       let range = (fars cell.to).0 counted in
-      let there = numbering.ends cell.rule cell.from block.first block.past block.place cell.to fars begins range.0 (omega (arith, range.1)) in
+      let there = numbering.ends cell.rule cell.from block.first block.past block.place cell.to fars (starts cell.rule cell.from counted.rule within) range.0 (omega (arith, range.1)) in
       let same : place_of rows cell.rule cell.from cell.to ≡ block.place + (cell.to - block.first) = ap (λ (b : Block). b.place + (cell.to - b.first)) (sym is_block) in
       same ∙ numbering.unique cell (block.place + (cell.to - block.first)) place there is_place
 
@@ -50,7 +43,7 @@ module _ {V : Type 0} (p : PosedProblem) (rows columns : Spans V) (numbering : N
   new_cells = record {
     rows_are = λ cell. (some_counted p.grammar (length p.word) Rows rows row_positions row_blocks cell.rule cell.from cell.to, counted_some p.grammar (length p.word) Rows rows row_positions row_blocks cell.rule cell.from cell.to);
     columns_are = λ cell. (some_counted p.grammar (length p.word) Columns columns column_positions column_blocks cell.rule cell.to cell.from, counted_some p.grammar (length p.word) Columns columns column_positions column_blocks cell.rule cell.to cell.from);
-    one_each = all_counted p.grammar (length p.word) rows.blocks (length rows.values) row_blocks numbering.starts numbering.rules numbering.begin numbering.bound;
+    one_each = bound;
     placed = row_placed;
   }
 

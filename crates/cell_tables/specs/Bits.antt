@@ -27,3 +27,9 @@ pub record IsBitOf (bits : List ℕ) (first past place : ℕ) : Type 0 where
 pub record IsBitIn (word number far : ℕ) : Type 0 where
   pub number_is : far / 64 ≡ number
   pub bit : bit_at word (far % 64) ≡ 1
+
+-- of the places from `first` on and before `past` whose bits are set, the first one at which it doesn't hold
+pub record IsFirstMissing (bits : List ℕ) (first past : ℕ) (Holds : ℕ → Type 0) (place : ℕ) : Type 0 where
+  pub set : IsBitOf bits first past place
+  pub missing : Holds place → ⊥
+  pub before : (other : ℕ) → IsBitOf bits first past other → other < place → Holds other

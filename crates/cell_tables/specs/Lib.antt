@@ -1,7 +1,6 @@
 pub mod Bits
 pub mod Flags
-pub mod Layout
-pub mod LayoutFields
+pub mod GridFields
 pub mod Marks
 pub mod MarksFields
 pub mod Noted

@@ -15,6 +15,10 @@ pub record Notes : Type 0 where
 abbrev pub IsNoted : Notes → Cell → Type 0
 IsNoted notes cell = IsSet notes.rows cell.rule cell.from cell.to
 
+-- the cell with this rule, this start and this end is noted
+abbrev pub IsNotedAt : Notes → ℕ → ℕ → ℕ → Type 0
+IsNotedAt notes rule from to = IsNoted notes (record { rule = rule; from = from; to = to })
+
 -- there is a bit in a row and one in a column for each counted cell, both are set or none, and no bit is set that is
 -- not that of a counted cell
 pub record AreNotes (notes : Notes) : Type 0 where

@@ -1,7 +1,8 @@
 -- Values for spans: by a rule, a near end and a far end of a span. Those of one rule and one near end stand side by
 -- side, in order of far ends.
-use Rattle.std.specs.Prelude.{◌≡◌, ℕ, ◌+◌, ◌-◌, ◌*◌, ◌<◌, ◌≤◌, ◌&&◌, nat_le, nat_lt, Option, Some, None, List, length, take, sum_by, slice_get, slice_index_or, if◌then◌else◌}
-use Rattle.cell_tables.specs.declared.grid.Block.{Block}
+use Rattle.std.specs.Prelude.{◌≡◌, ℕ, ◌+◌, ◌-◌, ◌*◌, ◌<◌, ◌≤◌, ◌&&◌, nat_le, nat_lt, Option, Some, None, List, length, slice_get, slice_index_or, if◌then◌else◌}
+use Rattle.yield_sizes.specs.declared.layout.Block.{Block}
+use Rattle.yield_sizes.specs.Layout.{AreLaid}
 
 -- how many near ends a rule has, the block of each rule and near end, rule by rule, and the values of all blocks
 pub record Spans (V : Type 0) : Type 0 where
@@ -31,16 +32,6 @@ pub record Stands {V : Type 0} (spans : Spans V) (rule near far : ℕ) : Type 0 
   pub near_in : near < spans.positions
   pub low : (block_at spans rule near).first ≤ far
   pub high : far < (block_at spans rule near).past
-
--- how many values a block has
-abbrev pub size_of : Block → ℕ
-size_of block = block.past - block.first
-
--- the blocks lie one behind the other, and have so many values together
-pub record AreLaid (blocks : List Block) (count : ℕ) : Type 0 where
-  pub placed : (number : ℕ) (d : Block) → number < length blocks
-      → (slice_index_or blocks number d).place ≡ sum_by size_of (take number blocks)
-  pub all : count ≡ sum_by size_of blocks
 
 -- the blocks lie one behind the other, and their values are there
 abbrev pub AreBlocks : {V : Type 0} → Spans V → Type 0

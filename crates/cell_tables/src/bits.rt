@@ -1,16 +1,28 @@
 //! Bits for spans of a word, 64 far ends in a number.
 
-ghost use Rattle.std.specs.Prelude.{◌≡◌, ◌↔◌, ℕ, ◌+◌, ◌-◌, ◌*◌, ◌/◌, ◌^◌, ◌<◌, ◌≤◌, IsSome, IsTrue, length};
+ghost use Rattle.std.specs.Prelude.{◌≡◌, ◌↔◌, ℕ, ◌+◌, ◌-◌, ◌*◌, ◌/◌, ◌^◌, ◌<◌, ◌≤◌, IfOk, IfSome, IsSome, IsTrue, MatchOption, None, length};
 ghost use Rattle.std.specs.Int.{bit_at};
 ghost use Rattle.std.specs.List.{Contains};
+ghost use Rattle.adp_model.specs.Cells.{IsCounted};
+ghost use Rattle.yield_sizes.specs.Layout.{cell_at};
 ghost use Rattle.cell_tables.specs.Spans.{value_at};
-ghost use Rattle.cell_tables.specs.Bits.{AreSetToo, IsBitIn, IsBitOf, IsSet};
+ghost use Rattle.cell_tables.specs.Bits.{AreSetToo, IsBitIn, IsBitOf, IsFirstMissing, IsSet};
 ghost use Rattle.cell_tables.specs.WordBits.{AreBitsSet, IsBitOfFar};
 
 use crate::grid::Grid;
+use std::alloc::{AllocError, Global};
+use yield_sizes::{Layout, Side, WORD};
 
-/// How many far ends share a number.
-pub const WORD: u16 = 64;
+/// The grid that has a number, 0, for each 64 far ends among which that of a counted cell lies. Fails for want of
+/// memory alone.
+pub fn word_grid(alloc: Global, layout: &Layout<'_>, side: Side) -> Result<Grid<u64>, AllocError>
+    ensures there { IfOk result (λ grid. (rule near far : ℕ)
+        → IsCounted layout.now.grammar (length layout.now.word) (cell_at side rule near far)
+        → IsSome (value_at grid rule near (far / 64))) }
+    ensures none { IfOk result (λ grid. (rule near far : ℕ) → IsSet grid rule near far → ⊥) }
+{
+    Grid::new(alloc, layout.positions(), layout.words(side), 0)
+}
 
 impl Grid<u64> {
     /// Whether the bit of a span is there and set. Takes constant time and no memory.
@@ -57,6 +69,35 @@ impl Grid<u64> {
             let start = block.place as usize + (first / WORD - block.first) as usize;
             set_words(&mut self.values, start, first, past, bits);
         }
+    }
+
+    /// The first far end from `first` on and before `past`, of those whose bits are set, whose span with this near end
+    /// has no bit or one that is not set: `bits` are for the far ends from 0 on, 64 in a number. Takes no memory.
+    #[inline]
+    pub(crate) fn first_missing(
+        &self,
+        rule: u32,
+        near: u16,
+        first: u16,
+        past: u16,
+        bits: &[u64],
+    ) -> Option<u16>
+        requires bits { past ≤ 64 * length bits.now }
+        ensures { MatchOption result
+            ((far : ℕ) → IsBitOf bits.now first past far → IsSet self.now rule near far)
+            (IsFirstMissing bits.now first past (λ far. IsSet self.now rule near far)) }
+    {
+        if first >= past {
+            return None;
+        }
+        for number in first / WORD..(past - 1) / WORD + 1 {
+            let set = self.get(rule, near, number).unwrap_or(0);
+            let missing = word_between(bits, number as usize, first, past) & !set;
+            if let Some(far) = first_bit(missing, number) {
+                return Some(far);
+            }
+        }
+        None
     }
 }
 
@@ -128,4 +169,30 @@ fn set_words(words: &mut [u64], start: usize, first: u16, past: u16, bits: &[u64
     if low < high {
         words[start + (high - low)] |= word_between(bits, high, first, past);
     }
+}
+
+/// The last of the 64 places of a number whose bit is set.
+pub fn last_bit(bits: u64, number: u16) -> Option<u16>
+    requires { number < 2 ^ 10 }
+    ensures none { result ≡ None → (place : ℕ) → IsBitIn bits number place → ⊥ }
+    ensures set { IfSome result (IsBitIn bits number) }
+    ensures last { IfSome result (λ last. (place : ℕ) → IsBitIn bits number place → place ≤ last) }
+{
+    if bits == 0 {
+        return None;
+    }
+    Some(number * WORD + (WORD - 1 - bits.leading_zeros() as u16))
+}
+
+/// The first of the 64 places of a number whose bit is set.
+pub fn first_bit(bits: u64, number: u16) -> Option<u16>
+    requires { number < 2 ^ 10 }
+    ensures none { result ≡ None → (place : ℕ) → IsBitIn bits number place → ⊥ }
+    ensures set { IfSome result (IsBitIn bits number) }
+    ensures first { IfSome result (λ first. (place : ℕ) → IsBitIn bits number place → first ≤ place) }
+{
+    if bits == 0 {
+        return None;
+    }
+    Some(number * WORD + bits.trailing_zeros() as u16)
 }

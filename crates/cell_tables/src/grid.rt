@@ -2,62 +2,57 @@
 
 ghost use Rattle.std.specs.Prelude.{◌≡◌, ℕ, ◌+◌, ◌-◌, ◌^◌, ◌<◌, ◌≤◌, IfOk, IsSome, Some, MatchOption, length, slice_get};
 ghost use Rattle.std.specs.List.{Contains};
-ghost use Rattle.cell_tables.specs.Spans.{AreLaid, AreSet, IsWritten, Stands, block_at, value_at};
+ghost use Rattle.std.specs.Arc.{arc_value};
+ghost use Rattle.yield_sizes.specs.Layout.{AreLaid};
+ghost use Rattle.cell_tables.specs.Spans.{AreSet, IsWritten, Stands, block_at, value_at};
 
 use std::alloc::{AllocError, Global};
 use std::marker::Model;
+use std::sync::Arc;
+use yield_sizes::{Block, Laid};
 
-/// The values of a rule and a near end: those of the far ends from `first` on and before `past` stand side by side
-/// from `place` on.
-#[derive(Clone, Copy)]
-pub struct Block {
-    pub place: u32,
-    pub first: u16,
-    pub past: u16,
-}
-
-/// A value for each of some spans, by a rule, a near end and a far end of the span.
+/// A value for each of some spans, by a rule, a near end and a far end of the span: those of a rule and a near end stand
+/// side by side, from the place of their block on. The blocks are shared with others that are laid out alike.
 #[derive(Drop)]
 pub struct Grid<V> {
     /// How many near ends a rule has.
     positions: u32,
-    /// Rule by rule.
-    blocks: Vec<Block>,
+    laid: Arc<Laid, Global>,
     pub(crate) values: Vec<V>,
 }
 
 impl<V> Model for Grid<V> {
     ghost use Rattle.cell_tables.specs.Spans.{Spans, AreBlocks};
+    ghost use Rattle.cell_tables.specs.GridFields.{grid_spans};
 
     ghost Value = { Spans V };
 
-    ghost view = { λ grid.
-        record { positions = grid.positions; blocks = grid.blocks.items; values = grid.values.items } };
+    ghost view = { grid_spans };
 
-    ghost invariant = { λ grid. AreBlocks
-        (record { positions = grid.positions; blocks = grid.blocks.items; values = grid.values.items }) };
+    ghost invariant = { λ grid. AreBlocks (grid_spans grid) };
 }
 
 impl<V: Copy> Grid<V> {
-    /// The grid that has these blocks, and one value everywhere. Fails for want of memory alone.
+    /// The grid that has these blocks, which are counted up, and one value everywhere. Fails for want of memory alone.
     pub fn new(
         alloc: Global,
         positions: u32,
-        blocks: Vec<Block>,
-        count: u32,
+        laid: &Arc<Laid, Global>,
         value: V,
     ) -> Result<Grid<V>, AllocError>
-        requires laid { AreLaid blocks.items count }
+        requires laid { AreLaid (arc_value laid.now).blocks.items (arc_value laid.now).count }
         requires copied { (other : V) → V.is_clone value other → other ≡ value }
         ensures positions { IfOk result (λ grid. grid.positions ≡ positions) }
-        ensures blocks { IfOk result (λ grid. grid.blocks ≡ blocks.items) }
-        ensures count { IfOk result (λ grid. length grid.values ≡ count) }
-        ensures values { IfOk result (λ grid. (place : ℕ) → place < count → slice_get grid.values place ≡ Some value) }
+        ensures blocks { IfOk result (λ grid. grid.blocks ≡ (arc_value laid.now).blocks.items) }
+        ensures count { IfOk result (λ grid. length grid.values ≡ (arc_value laid.now).count) }
+        ensures values { IfOk result (λ grid. (place : ℕ) → place < (arc_value laid.now).count
+            → slice_get grid.values place ≡ Some value) }
     {
-        let values = vec![in alloc; value; count as usize]?;
+        let values = vec![in alloc; value; laid.count as usize]?;
+        let laid = Arc::try_clone(laid)?;
         Ok(Grid {
             positions,
-            blocks,
+            laid,
             values,
         })
     }
@@ -72,7 +67,7 @@ impl<V: Copy> Grid<V> {
             return None;
         }
         let number = rule as usize * self.positions as usize + near as usize;
-        self.blocks.get(number).copied()
+        self.laid.blocks.get(number).copied()
     }
 
     /// The value of a span, where it has one. Takes constant time and no memory.

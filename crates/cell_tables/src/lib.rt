@@ -5,15 +5,14 @@
 mod bits;
 mod flags;
 mod grid;
-mod layout;
 mod marked_spans;
 mod marks;
 mod noted;
 mod table;
 
-pub use bits::{WORD, set_each};
-pub use grid::{Block, Grid, set_places};
-pub use layout::{Layout, Side};
+pub use bits::set_each;
+pub use grid::{Grid, set_places};
 pub use marks::Marks;
 pub use noted::Noted;
 pub use table::Table;
+pub use yield_sizes::{Layout, Side, WORD};

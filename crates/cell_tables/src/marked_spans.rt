@@ -9,10 +9,11 @@ ghost use Rattle.cell_tables.specs.Spans.{value_at};
 ghost use Rattle.cell_tables.specs.Bits.{AreSetToo, IsBitIn, IsSet};
 ghost use Rattle.cell_tables.specs.Marks.{AreInRows, AreMarkedToo, IsEndMarked, IsLastMarked, IsMarked, IsMarkedInRow, IsNextMarked, IsSpanMarked};
 
-use crate::bits::WORD;
+use crate::bits::{first_bit, last_bit};
 use crate::flags::raise;
 use crate::grid::Grid;
 use crate::marks::Marks;
+use yield_sizes::WORD;
 
 impl<'a> Marks<'a> {
     /// The last end before `below` of the spans that begin at `from` and are marked in a row of one of the rules. Takes
@@ -163,7 +164,7 @@ impl<'a> Marks<'a> {
         if !self.is_in_columns(rule) {
             return;
         }
-        let ends = self.ends(rule, from);
+        let ends = self.layout.ends(rule, from);
         let any = gather_row(
             &mut self.rows,
             &self.columns,
@@ -201,7 +202,7 @@ impl<'a> Marks<'a> {
             return 0;
         }
         self.cells();
-        let ends = self.ends(rule, from);
+        let ends = self.layout.ends(rule, from);
         let mut count = 0;
         for number in ends.start / WORD..ends.end.div_ceil(WORD) {
             let bits = self.rows.get(rule, from, number).unwrap_or(0);
@@ -226,32 +227,6 @@ fn bits_from(least: u16, number: u16) -> u64
     ensures { (place : ℕ) → IsBitIn result number place ↔ ((place / 64 ≡ number) × (least ≤ place)) }
 {
     u64::MAX << least.saturating_sub(number * WORD)
-}
-
-/// The last of the 64 places of a number whose bit is set.
-fn last_bit(bits: u64, number: u16) -> Option<u16>
-    requires { number < 2 ^ 10 }
-    ensures none { result ≡ None → (place : ℕ) → IsBitIn bits number place → ⊥ }
-    ensures set { IfSome result (IsBitIn bits number) }
-    ensures last { IfSome result (λ last. (place : ℕ) → IsBitIn bits number place → place ≤ last) }
-{
-    if bits == 0 {
-        return None;
-    }
-    Some(number * WORD + (WORD - 1 - bits.leading_zeros() as u16))
-}
-
-/// The first of the 64 places of a number whose bit is set.
-fn first_bit(bits: u64, number: u16) -> Option<u16>
-    requires { number < 2 ^ 10 }
-    ensures none { result ≡ None → (place : ℕ) → IsBitIn bits number place → ⊥ }
-    ensures set { IfSome result (IsBitIn bits number) }
-    ensures first { IfSome result (λ first. (place : ℕ) → IsBitIn bits number place → first ≤ place) }
-{
-    if bits == 0 {
-        return None;
-    }
-    Some(number * WORD + bits.trailing_zeros() as u16)
 }
 
 /// From which number of 64 far ends on, and before which, spans of the rules with this near end have bits.

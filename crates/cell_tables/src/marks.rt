@@ -2,27 +2,25 @@
 
 ghost use Rattle.std.specs.Prelude.{false, ◌≡◌, ◌↔◌, ◌+◌, ◌*◌, ◌-◌, ◌<◌, ◌≤◌, ℕ, IfOk, IsTrue, length};
 ghost use Rattle.adp_model.specs.declared.cell.Cell.{Cell};
-ghost use Rattle.adp_model.specs.Cells.{AreCountedEnds, IsCounted};
+ghost use Rattle.adp_model.specs.Cells.{IsCounted};
 ghost use Rattle.cell_tables.specs.Bits.{IsBitOf};
 ghost use Rattle.cell_tables.specs.Marks.{AreInRows, AreMarkedToo, AreMarks, IsMarked, IsMarkedInColumn, IsMarkedInRow};
 
+use crate::bits::word_grid;
 use crate::flags::{flag, raise};
 use crate::grid::Grid;
-use crate::layout::{Laid, Layout, Side, word_grid};
+use adp_model::Cell;
 use adp_model::laws::well_formed::numbers_fit_together;
-use adp_model::{Cell, Problem};
 use std::alloc::{AllocError, Global};
 use std::marker::Model;
-use std::ops::Range;
+use yield_sizes::{Layout, Side};
 
 /// Marks of a problem's counted cells, as bits: rows go by a rule and a start and have the ends side by side, columns
-/// go by a rule and an end and have the starts side by side. Takes two bits for each counted cell, and at most 56
-/// bytes for each rule and position. Contracts see it as the problem and the bits of rows and columns.
+/// go by a rule and an end and have the starts side by side. Takes two bits for each counted cell; the blocks of
+/// its rows and columns are the layout's. Contracts see it as the problem and the bits of rows and columns.
 #[derive(Drop)]
 pub struct Marks<'a> {
-    pub(crate) problem: &'a Problem<'a>,
-    /// The blocks of the counted cells in rows.
-    counted: Laid,
+    pub(crate) layout: Layout<'a>,
     pub(crate) rows: Grid<u64>,
     pub(crate) columns: Grid<u64>,
     /// For each rule whether a cell of it is marked in its column.
@@ -49,15 +47,14 @@ impl<'a> Marks<'a> {
         ensures problem { IfOk result (λ marks. marks.problem ≡ layout.now) }
         ensures none { IfOk result (λ marks. (cell : Cell) → IsMarked marks cell → ⊥) }
     {
+        let shared = layout.shared()?;
+        let problem = shared.problem();
         let rows = word_grid(alloc, layout, Side::Rows)?;
         let columns = word_grid(alloc, layout, Side::Columns)?;
-        let counted = layout.rows.copied(alloc)?;
-        let problem = layout.problem;
         let in_columns = vec![in alloc; false; problem.grammar.rules.as_slice().len()]?;
-        let begun = vec![in alloc; false; problem.word.bytes().len() + 1]?;
+        let begun = vec![in alloc; false; shared.positions() as usize]?;
         Ok(Marks {
-            problem,
-            counted,
+            layout: shared,
             rows,
             columns,
             in_columns,
@@ -69,31 +66,7 @@ impl<'a> Marks<'a> {
     pub fn cells(&self)
         ensures { AreMarks self.now }
     {
-        let _ = &self.problem;
-    }
-
-    /// Whether the cell is one that the cell bound counts. Takes constant time and no memory.
-    pub fn counts(&self, cell: Cell) -> bool
-        ensures { IsTrue result ↔ IsCounted self.now.problem.grammar (length self.now.problem.word) cell }
-    {
-        if cell.rule >= self.rules() || cell.from > self.length() {
-            return false;
-        }
-        let ends = self.ends(cell.rule, cell.from);
-        ends.start <= cell.to && cell.to < ends.end
-    }
-
-    /// The ends of the counted cells of a rule that begin at `from`, in order; an empty range where there is none.
-    pub(crate) fn ends(&self, rule: u32, from: u16) -> Range<u16>
-        requires rule { rule < length self.now.problem.grammar.rules }
-        requires from { from ≤ length self.now.problem.word }
-        ensures ends { AreCountedEnds self.now.problem.grammar (length self.now.problem.word) rule from result.start
-            result.end }
-        ensures in_order { result.start ≤ result.end }
-    {
-        let positions = self.length() as usize + 1;
-        let block = self.counted.blocks[rule as usize * positions + from as usize];
-        block.first..block.past
+        let _ = &self.layout;
     }
 
     /// How many letters the word has.
@@ -101,9 +74,7 @@ impl<'a> Marks<'a> {
         ensures same { result ≡ length self.now.problem.word }
         ensures few { result ≤ 4000 }
     {
-        let problem = self.problem;
-        problem.admissible();
-        problem.word.bytes().len() as u16
+        self.layout.problem().letters().len() as u16
     }
 
     /// How many rules the grammar has.
@@ -111,7 +82,7 @@ impl<'a> Marks<'a> {
         ensures same { result ≡ length self.now.problem.grammar.rules }
         ensures few { result ≤ 128 }
     {
-        let problem = self.problem;
+        let problem = self.layout.problem();
         problem.admissible();
         numbers_fit_together();
         problem.grammar.rules.as_slice().len() as u32

@@ -1,15 +1,17 @@
 //! The cells that are noted.
 
-ghost use Rattle.std.specs.Prelude.{◌≡◌, ◌↔◌, ◌⊎◌, IfOk, IsTrue, length};
+ghost use Rattle.std.specs.Prelude.{◌≡◌, ◌↔◌, ◌⊎◌, ◌*◌, ◌≤◌, ℕ, IfOk, IsTrue, MatchOption, length};
 ghost use Rattle.adp_model.specs.declared.cell.Cell.{Cell};
 ghost use Rattle.adp_model.specs.Cells.{IsCounted};
-ghost use Rattle.cell_tables.specs.Noted.{AreNotes, IsNoted};
+ghost use Rattle.cell_tables.specs.Bits.{IsBitOf, IsFirstMissing};
+ghost use Rattle.cell_tables.specs.Noted.{AreNotes, IsNoted, IsNotedAt};
 
+use crate::bits::word_grid;
 use crate::grid::Grid;
-use crate::layout::{Layout, Side, word_grid};
 use adp_model::{Cell, Problem};
 use std::alloc::{AllocError, Global};
 use std::marker::Model;
+use yield_sizes::{Layout, Side};
 
 /// Notes of a problem's counted cells: for each a bit in its row and one in its column, which are set together.
 /// Contracts see them as the problem and the bits of rows and columns.
@@ -43,7 +45,7 @@ impl<'a> Noted<'a> {
         let rows = word_grid(alloc, layout, Side::Rows)?;
         let columns = word_grid(alloc, layout, Side::Columns)?;
         Ok(Noted {
-            problem: layout.problem,
+            problem: layout.problem(),
             rows,
             columns,
         })
@@ -78,5 +80,41 @@ impl<'a> Noted<'a> {
     {
         self.rows.set_bit(cell.rule, cell.from, cell.to);
         self.columns.set_bit(cell.rule, cell.to, cell.from);
+    }
+
+    /// The first end from `first` on and before `past`, of those whose bits are set, at which the rule's cell from
+    /// `from` is not noted: `bits` are for the ends from 0 on, 64 in a number. Takes no memory.
+    pub fn first_missing_end(
+        &self,
+        rule: u32,
+        from: u16,
+        first: u16,
+        past: u16,
+        bits: &[u64],
+    ) -> Option<u16>
+        requires bits { past ≤ 64 * length bits.now }
+        ensures { MatchOption result
+            ((to : ℕ) → IsBitOf bits.now first past to → IsNotedAt self.now rule from to)
+            (IsFirstMissing bits.now first past (λ to. IsNotedAt self.now rule from to)) }
+    {
+        self.rows.first_missing(rule, from, first, past, bits)
+    }
+
+    /// The first start from `first` on and before `past`, of those whose bits are set, from which the rule's cell up to
+    /// `to` is not noted: `bits` are for the starts from 0 on, 64 in a number. Takes no memory.
+    pub fn first_missing_start(
+        &self,
+        rule: u32,
+        to: u16,
+        first: u16,
+        past: u16,
+        bits: &[u64],
+    ) -> Option<u16>
+        requires bits { past ≤ 64 * length bits.now }
+        ensures { MatchOption result
+            ((from : ℕ) → IsBitOf bits.now first past from → IsNotedAt self.now rule from to)
+            (IsFirstMissing bits.now first past (λ from. IsNotedAt self.now rule from to)) }
+    {
+        self.columns.first_missing(rule, to, first, past, bits)
     }
 }

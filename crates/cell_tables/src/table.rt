@@ -7,15 +7,15 @@ ghost use Rattle.cell_tables.specs.Spans.{IsWritten};
 ghost use Rattle.cell_tables.specs.Tables.{AreCells, in_row, in_column, spans_of};
 
 use crate::grid::Grid;
-use crate::layout::{Layout, Side};
 use adp_model::laws::cells::{places_are_unique, places_go_on};
 use adp_model::{Cell, Problem};
 use std::alloc::{AllocError, Global};
 use std::marker::Model;
+use yield_sizes::{Layout, Side};
 
 /// A value for each counted cell of a problem, in its row and in its column: rows go by a rule and a start and have the
 /// ends side by side, columns go by a rule and an end and have the starts side by side. Takes two values for each
-/// counted cell, and 16 bytes for each rule and position. Contracts see it as the problem and the values by rows and
+/// counted cell; the blocks of its rows and columns are the layout's. Contracts see it as the problem and the values by rows and
 /// columns.
 #[derive(Drop)]
 pub struct Table<'a, V> {
@@ -47,28 +47,23 @@ impl<'a, V> Table<'a, V> {
 }
 
 impl<'a, V: Copy> Table<'a, V> {
-    /// The table that has this value for each counted cell of the layout's problem. Fails for want of memory alone.
-    pub fn new(alloc: Global, layout: Layout<'a>, value: V) -> Result<Table<'a, V>, AllocError>
+    /// The table that has this value for each counted cell of the layout's problem; the layout's blocks are counted up.
+    /// Fails for want of memory alone.
+    pub fn new(alloc: Global, layout: &Layout<'a>, value: V) -> Result<Table<'a, V>, AllocError>
         requires { (other : V) → V.is_clone value other → other ≡ value }
-        ensures problem { IfOk result (λ table. table.problem ≡ layout.entry) }
+        ensures problem { IfOk result (λ table. table.problem ≡ layout.now) }
         ensures rows { IfOk result (λ table. (cell : Cell)
-            → IsCounted layout.entry.grammar (length layout.entry.word) cell → in_row table cell ≡ Some value) }
+            → IsCounted layout.now.grammar (length layout.now.word) cell → in_row table cell ≡ Some value) }
         ensures columns { IfOk result (λ table. (cell : Cell)
-            → IsCounted layout.entry.grammar (length layout.entry.word) cell → in_column table cell ≡ Some value) }
+            → IsCounted layout.now.grammar (length layout.now.word) cell → in_column table cell ≡ Some value) }
     {
-        let Layout {
-            problem,
-            rows,
-            columns,
-        } = layout;
-        problem.admissible();
-        let positions = problem.word.bytes().len() as u32 + 1;
-        let rows = Grid::new(alloc, positions, rows.blocks, rows.count, value)?;
-        let columns = Grid::new(alloc, positions, columns.blocks, columns.count, value)?;
         places_go_on();
         places_are_unique();
+        let positions = layout.positions();
+        let rows = Grid::new(alloc, positions, layout.rows(), value)?;
+        let columns = Grid::new(alloc, positions, layout.columns(), value)?;
         Ok(Table {
-            problem,
+            problem: layout.problem(),
             rows,
             columns,
         })

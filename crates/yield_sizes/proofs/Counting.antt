@@ -6,7 +6,11 @@ use Rattle.adp_model.specs.declared.grammar.Grammar.{Grammar}
 use Rattle.adp_model.specs.Sizes.{IsLeastSize, IsGreatestSize, IsWithinSizes, IsBetween}
 use Rattle.adp_model.specs.Cells.{IsCounted, AreCountedEnds}
 use Rattle.adp_model.specs.ProblemFields.{AreLeftAnchors, AreRightAnchors}
+use Rattle.yield_sizes.specs.declared.cells.RuleBounds.{RuleBounds}
+use Rattle.yield_sizes.specs.declared.layout.Side.{Side}
+use Rattle.yield_sizes.specs.declared.layout.Side.TheVariants.{Rows, Columns}
 use Rattle.yield_sizes.specs.CountedCells.{LeavesSpan, bounds_in}
+use Rattle.yield_sizes.specs.Layout.{AreBoundsOf, AreCountedFars, cell_at}
 
 -- sizes as numbers
 abbrev pub SizesAreNumbers : Type 0
@@ -48,8 +52,23 @@ module _ (grammar : Grammar) (least : List ℕ) (greatest : List (Option ℕ)) (
         },
       )
 
+  -- the bounds leave the spans of the counted cells
+  pub bounds_counted : (len : ℕ) → AreBoundsOf grammar len rule (bounds_in least greatest left right rule)
+  bounds_counted len from to = counted_by_numbers len from to
+
   -- the ends that the bounds leave are those of the counted cells
   pub ends_counted : (len from first past : ℕ) → ((to : ℕ) → LeavesSpan (bounds_in least greatest left right rule) len from to ↔ ((first ≤ to) × (to < past))) → AreCountedEnds grammar len rule from first past
   ends_counted len from first past ends to =
       let same = counted_by_numbers len from to in
       (λ counted. (ends to).0 (same.0 counted), λ within. same.1 ((ends to).1 within))
+
+-- ---- the far ends of counted cells
+
+either_way : {A B C : Type 0} → A ↔ B → B ↔ C → A ↔ C
+either_way (f, back) (g, return) = (λ a. g (f a), λ c. back (return c))
+
+-- the far ends that the bounds leave are those of the counted cells
+pub fars_counted : (grammar : Grammar) (len : ℕ) (side : Side) (rule near first past : ℕ) (bounds : RuleBounds) → AreBoundsOf grammar len rule bounds
+    → ((far : ℕ) → LeavesSpan bounds len (cell_at side 0 near far).from (cell_at side 0 near far).to ↔ ((first ≤ far) × (far < past))) → AreCountedFars grammar len side rule near first past
+fars_counted grammar len Rows rule near first past bounds are fars far = either_way (are near far) (fars far)
+fars_counted grammar len Columns rule near first past bounds are fars far = either_way (are far near) (fars far)

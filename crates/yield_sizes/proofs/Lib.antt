@@ -1,5 +1,7 @@
 pub mod Counting
-pub mod Fronts
+pub mod CountedBlocks
+pub mod PlacedBlocks
+pub mod WordBlocks
 pub mod EndPlaces
 pub mod TurnedRanks
 pub mod Dividing
@@ -9,7 +11,6 @@ pub mod FirstPlace
 pub mod NextPlace
 pub mod Passing
 pub mod WholeCell
-pub mod StartLists
 pub mod Searching
 pub mod GrammarReads
 pub mod LeastLengths

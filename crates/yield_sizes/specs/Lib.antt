@@ -6,4 +6,5 @@ pub mod LoopAnswers
 pub mod AnchorTests
 pub mod CountedCells
 pub mod Placing
-pub mod Starts
+pub mod Layout
+pub mod LayoutFields

@@ -5,7 +5,9 @@ ghost use Rattle.adp_model.specs.WellFormed.{is_well_formed};
 ghost use Rattle.adp_model.specs.Cells.{IsCellBound};
 ghost use Rattle.yield_sizes.specs.GrammarSizes.{AreSizes, AreAnchors};
 ghost use Rattle.yield_sizes.specs.CountedCells.{LeavesSpan, bounds_in};
+ghost use Rattle.yield_sizes.specs.Layout.{cell_at};
 
+use crate::layout::Side;
 use crate::rule_anchors::Anchors;
 use crate::rule_sizes::Sizes;
 use adp_model::Grammar;
@@ -25,20 +27,53 @@ pub struct RuleBounds {
 
 impl RuleBounds {
     /// The ends that are left to the rule's cells which begin at `from`, in words of `len` letters.
-    pub fn ends(self, len: u32, from: u32) -> Range<u32>
+    pub fn ends(self, len: u16, from: u16) -> Range<u16>
         requires short { len ≤ 4000 }
         requires within { from ≤ len }
         ensures ends { (to : ℕ) → LeavesSpan self len from to ↔ ((result.start ≤ to) × (to < result.end)) }
         ensures in_order { result.start ≤ result.end }
         ensures in_word { result.end ≤ len + 1 }
     {
-        let room = len - from;
+        let room = u32::from(len - from);
         if (self.left && from > 0) || self.least > room {
             return from..from;
         }
         let shortest = if self.right { room } else { self.least };
         let longest = self.greatest.map_or(room, |most| most.min(room));
-        from + shortest..from + shortest.max(longest + 1)
+        from + shortest as u16..from + shortest.max(longest + 1) as u16
+    }
+
+    /// The starts that are left to the rule's cells which end at `to`, in words of `len` letters.
+    fn starts(self, len: u16, to: u16) -> Range<u16>
+        requires short { len ≤ 4000 }
+        requires within { to ≤ len }
+        ensures starts { (from : ℕ) → LeavesSpan self len from to ↔ ((result.start ≤ from) × (from < result.end)) }
+        ensures in_order { result.start ≤ result.end }
+        ensures in_word { result.end ≤ len + 1 }
+    {
+        if (self.right && to < len) || self.least > u32::from(to) {
+            return to..to;
+        }
+        let first = self
+            .greatest
+            .map_or(0, |most| u32::from(to).saturating_sub(most) as u16);
+        let last = if self.left { 0 } else { to - self.least as u16 };
+        first..first.max(last + 1)
+    }
+
+    /// The far ends that are left to the rule's cells at a near end, in words of `len` letters.
+    pub fn fars(self, len: u16, side: Side, near: u16) -> Range<u16>
+        requires short { len ≤ 4000 }
+        requires near { near ≤ len }
+        ensures fars { (far : ℕ) → LeavesSpan self len (cell_at side 0 near far).from (cell_at side 0 near far).to
+            ↔ ((result.start ≤ far) × (far < result.end)) }
+        ensures in_order { result.start ≤ result.end }
+        ensures in_word { result.end ≤ len + 1 }
+    {
+        match side {
+            Side::Rows => self.ends(len, near),
+            Side::Columns => self.starts(len, near),
+        }
     }
 }
 
@@ -91,8 +126,8 @@ pub fn cell_bound(grammar: &Grammar, sizes: &Sizes, anchors: &Anchors, n: u32) -
     let mut count = 0;
     for rule in 0..grammar.rules.as_slice().len() {
         let bounds = all.of_rule(rule);
-        for from in 0..n + 1 {
-            let ends = bounds.ends(n, from);
+        for from in 0..n as u16 + 1 {
+            let ends = bounds.ends(n as u16, from);
             count += u64::from(ends.end - ends.start);
         }
     }

@@ -1,36 +1,26 @@
 //! Places of the cells that the cell bound counts: their numbers in order.
 
-ghost use Rattle.std.specs.Prelude.{◌≡◌, ℕ, ◌+◌, ◌*◌, ◌<◌, ◌≤◌, IfSome, MatchOption, IsTrue, length};
-ghost use Rattle.adp_model.specs.Cells.{IsCounted, IsCellBound, IsPlaceOf, AreCountedEnds};
-ghost use Rattle.adp_model.specs.WellFormed.{is_well_formed};
-ghost use Rattle.yield_sizes.specs.Starts.{IsStart, AreFirstStarts};
+ghost use Rattle.std.specs.Prelude.{◌≡◌, ℕ, ◌<◌, IfOk, length};
+ghost use Rattle.std.specs.Arc.{arc_value};
+ghost use Rattle.adp_model.specs.Cells.{IsCellBound, IsCounted, IsPlaceOf};
+ghost use Rattle.yield_sizes.specs.LayoutFields.{AreLaidBlocks};
+ghost use Rattle.yield_sizes.specs.declared.layout.Side.TheVariants.{Rows};
 
+use crate::layout::{Laid, Layout};
 use adp_model::laws::cells::{places_fill_the_bound, places_go_on};
-use adp_model::{Cell, Grammar, Text};
+use adp_model::laws::well_formed::numbers_fit_together;
+use adp_model::{Cell, Problem};
+use std::alloc::{AllocError, Global};
 use std::marker::Model;
-use std::ops::Range;
-
-/// The counted cells of a rule that begin at one position: the place of the first of them or, where there is none, of
-/// the next counted cell, and their ends, from `first` on and before `past`.
-#[derive(Clone, Copy)]
-pub struct Start {
-    pub place: u32,
-    pub first: u16,
-    pub past: u16,
-}
+use std::sync::Arc;
 
 /// The places of a problem's counted cells: of each the number of counted cells that come before it, by rule, then by
-/// start, then by end. So the places are the numbers below the cell bound. Contracts see it as the problem, of which
-/// the grammar and the length of the word count.
+/// start, then by end. So the places are the numbers below the cell bound. Contracts see it as the problem.
 #[derive(Drop)]
 pub struct Places<'a> {
-    grammar: &'a Grammar,
-    algebra: u32,
-    word: &'a Text,
-    /// How many positions a word has: one more than letters.
-    positions: usize,
-    /// What is kept for each rule and position, rule by rule.
-    starts: Vec<Start>,
+    problem: &'a Problem<'a>,
+    /// The blocks of the counted cells in rows.
+    rows: Arc<Laid, Global>,
 }
 
 impl<'a> Model for Places<'a> {
@@ -38,43 +28,28 @@ impl<'a> Model for Places<'a> {
 
     ghost Value = { PosedProblem };
 
-    ghost use Rattle.yield_sizes.specs.Starts.{posed_problem, ArePlaces};
+    ghost use Rattle.yield_sizes.specs.LayoutFields.{ArePlaces};
 
-    ghost view = { posed_problem };
+    ghost view = { λ places. places.problem.now };
 
     ghost invariant = { ArePlaces };
 }
 
 impl<'a> Places<'a> {
-    /// The places of this problem's counted cells, by the starts of all rules.
-    pub(crate) fn new(
-        grammar: &'a Grammar,
-        algebra: u32,
-        word: &'a Text,
-        starts: Vec<Start>,
-    ) -> Places<'a>
-        requires well_formed { IsTrue (is_well_formed grammar.now) }
-        requires letters { length word.now ≤ 4000 }
-        requires starts { AreFirstStarts grammar.now (length word.now)
-            (length grammar.now.rules * (length word.now + 1)) starts.items }
-        ensures { result ≡ record { grammar = grammar.now; algebra = algebra; word = word.now } }
+    /// The places by the blocks of the problem's counted cells in rows.
+    pub(crate) fn new(problem: &'a Problem<'a>, rows: Arc<Laid, Global>) -> Places<'a>
+        requires { AreLaidBlocks problem.now Rows (arc_value rows) }
+        ensures { result ≡ problem.now }
     {
-        Places {
-            grammar,
-            algebra,
-            word,
-            positions: word.bytes().len() + 1,
-            starts,
-        }
+        Places { problem, rows }
     }
 
-    /// What is kept for a rule and a position.
-    fn start(&self, rule: u32, from: u16) -> Start
-        requires rule { rule < length self.now.grammar.rules }
-        requires from { from ≤ length self.now.word }
-        ensures { IsStart self.now.grammar (length self.now.word) rule from result }
+    /// The places of the layout's problem: its rows are counted up, and nothing is copied. Fails where they were
+    /// counted up too often.
+    pub fn of(layout: &Layout<'a>) -> Result<Places<'a>, AllocError>
+        ensures { IfOk result (λ places. places ≡ layout.now) }
     {
-        self.starts[rule as usize * self.positions + from as usize]
+        Ok(Places::new(layout.problem(), Arc::try_clone(layout.rows())?))
     }
 
     /// The place of a counted cell. Takes constant time and no memory.
@@ -83,42 +58,13 @@ impl<'a> Places<'a> {
         ensures place { IsPlaceOf self.now.grammar (length self.now.word) cell result }
         ensures below { (bound : ℕ) → IsCellBound self.now.grammar (length self.now.word) bound → result < bound }
     {
+        let problem = self.problem;
+        problem.admissible();
+        numbers_fit_together();
         places_go_on();
         places_fill_the_bound();
-        let start = self.start(cell.rule, cell.from);
-        start.place + u32::from(cell.to - start.first)
-    }
-
-    /// The place of a cell, or `None` where the cell is not counted. Takes constant time and no memory.
-    pub fn find(&self, cell: Cell) -> Option<u32>
-        ensures place { MatchOption result (IsCounted self.now.grammar (length self.now.word) cell → ⊥)
-            (λ place. IsCounted self.now.grammar (length self.now.word) cell
-            × IsPlaceOf self.now.grammar (length self.now.word) cell place) }
-        ensures below { (bound : ℕ) → IsCellBound self.now.grammar (length self.now.word) bound
-            → IfSome result (λ place. place < bound) }
-    {
-        if cell.rule as usize >= self.grammar.rules.as_slice().len()
-            || cell.from as usize >= self.positions
-        {
-            return None;
-        }
-        let start = self.start(cell.rule, cell.from);
-        if cell.to < start.first || cell.to >= start.past {
-            return None;
-        }
-        Some(self.place(cell))
-    }
-
-    /// The ends of the counted cells of a rule that begin at `from`, in order; an empty range where there is none.
-    /// Takes constant time and no memory.
-    pub fn ends(&self, rule: u32, from: u16) -> Range<u16>
-        requires rule { rule < length self.now.grammar.rules }
-        requires from { from ≤ length self.now.word }
-        ensures ends { AreCountedEnds self.now.grammar (length self.now.word) rule from result.start result.end }
-        ensures in_order { result.start ≤ result.end }
-        ensures in_word { result.end ≤ length self.now.word + 1 }
-    {
-        let start = self.start(rule, from);
-        start.first..start.past
+        let positions = problem.letters().len() + 1;
+        let block = self.rows.blocks[cell.rule as usize * positions + cell.from as usize];
+        block.place + u32::from(cell.to - block.first)
     }
 }

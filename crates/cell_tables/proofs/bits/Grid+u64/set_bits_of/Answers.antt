@@ -2,7 +2,7 @@ use Rattle.std.proofs.Common.{◌≡◌, ℕ, ◌+◌, ◌-◌, ◌/◌, ◌<◌
 use Rattle.std.specs.Prelude.{IsSome}
 use Rattle.std.specs.Vec.{with_items}
 use Rattle.std.proofs.lemmas.List.{with_items_is}
-use Rattle.cell_tables.specs.declared.grid.Grid.TheInside.{Inside}
+use Rattle.cell_tables.specs.GridFields.{grid_spans}
 use Rattle.cell_tables.specs.Spans.{Spans, Stands, block_at, value_at}
 use Rattle.cell_tables.specs.Bits.{AreSetToo, IsBitOf}
 use Rattle.cell_tables.specs.WordBits.{AreBitsSet, IsBitOfFar}
@@ -10,13 +10,9 @@ use Rattle.cell_tables.proofs.Values.{stands_where_some, stands_between, low_in,
 use Rattle.cell_tables.proofs.SpanBits.{block_bits_written}
 use Rattle.cell_tables.proofs.bits.Grid+u64.set_bits_of.Goals as goal
 
--- the spans, seen from within
-abbrev inner : Inside ℕ → Spans ℕ
-inner inside = record { positions = inside.positions; blocks = inside.blocks.items; values = inside.values.items }
-
 pub returns-in-Some : goal.returns-in-Some
 returns-in-Some c =
-    let spans : Spans ℕ = inner c.self.inside in
+    let spans : Spans ℕ = grid_spans c.self.inside in
     let rule = c.args.rule in
     let near = c.args.near in
     let first = c.args.first in

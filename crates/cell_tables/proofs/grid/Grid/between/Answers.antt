@@ -1,5 +1,6 @@
 use Rattle.std.proofs.Common.{◌≡◌, ◌+◌, ◌-◌, List, drop, slice_get, sym, ap, subst, ◌∙◌, arith}
 use Rattle.std.specs.Prelude.{IsSome}
+use Rattle.cell_tables.specs.GridFields.{grid_spans}
 use Rattle.cell_tables.specs.Spans.{Spans, block_at, value_at}
 use Rattle.cell_tables.proofs.Lists.{slice_get-take, slice_get-drop}
 use Rattle.cell_tables.proofs.Values.{stands_where_some, values_between}
@@ -13,7 +14,7 @@ returns-clause-values g c =
     let past = c.args.past in
     let block = c.in-Some.block in
     let start = block.place + (first - block.first) in
-    let inner : Spans g.row.V.Denot = record { positions = c.self.inside.positions; blocks = c.self.inside.blocks.items; values = c.self.inside.values.items } in
+    let inner : Spans g.row.V.Denot = grid_spans c.self.inside in
     let is : inner ≡ c.args.self.now = c.self.view_is in
     let B : Spans g.row.V.Denot → Type 0 = λ spans. block ≡ block_at spans rule near in
     let F : Spans g.row.V.Denot → Type 0 = λ spans. IsSome (value_at spans rule near first) in

@@ -1,5 +1,6 @@
 use Rattle.std.proofs.Common.{◌≡◌, ◌+◌, ◌-◌, set, sym, subst}
 use Rattle.std.specs.Prelude.{IsSome}
+use Rattle.cell_tables.specs.GridFields.{grid_spans}
 use Rattle.cell_tables.specs.Spans.{Spans, IsWritten, block_at, value_at}
 use Rattle.cell_tables.proofs.Values.{stands_where_some, written_value, with_values}
 use Rattle.cell_tables.proofs.grid.Grid.set.Goals as goal
@@ -11,7 +12,7 @@ returns-in-Some g c =
     let far = c.args.far in
     let value = c.args.value in
     let block = c.in-Some.block in
-    let inner : Spans g.row.V.Denot = record { positions = c.self.inside.positions; blocks = c.self.inside.blocks.items; values = c.self.inside.values.items } in
+    let inner : Spans g.row.V.Denot = grid_spans c.self.inside in
     let is : inner ≡ c.args.self.now = c.self.view_is in
     let B : Spans g.row.V.Denot → Type 0 = λ spans. block ≡ block_at spans rule near in
     let S : Spans g.row.V.Denot → Type 0 = λ spans. IsSome (value_at spans rule near far) in

@@ -10,7 +10,9 @@ use Rattle.cell_tables.proofs.marks.Marks.count_row.Goals as goal
 use Rattle.cell_tables.proofs.marks.Marks.count_row.Goals.{After-div_ceil-number-end}
 
 ends : (c : After-div_ceil-number-end) → AreCountedEnds c.args.self.now.problem.grammar (length c.args.self.now.problem.word) c.args.rule c.args.from c.ends-ends.result.start c.ends-ends.result.end
-ends c = c.ends-ends.ensures.ends
+ends c =
+    let E : CellMarks → Type 0 = λ marks. AreCountedEnds marks.problem.grammar (length marks.problem.word) c.args.rule c.args.from c.ends-ends.result.start c.ends-ends.result.end in
+    subst E c.self.view_is c.ends-ends.ensures.ends
 
 pub returns-then-not-has_start-clause-count : goal.returns-then-not-has_start-clause-count
 returns-then-not-has_start-clause-count c = no_cells _ (λ cell (row, r, f). c.has_start.ensures c.if-not-has_start.true cell f row)

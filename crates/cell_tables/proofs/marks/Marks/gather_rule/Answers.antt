@@ -14,10 +14,8 @@ some_set : (flag : Bool) → (flag ≡ false → ⊥) → IsTrue flag
 some_set true not_clear = refl
 some_set false not_clear = absurd (not_clear refl)
 
-ends : (c : After-ends-ends) → AreCountedEnds c.self.inside.problem.now.grammar (length c.self.inside.problem.now.word) c.args.rule c.args.from c.ends-ends.result.start c.ends-ends.result.end
-ends c =
-    let E : CellMarks → Type 0 = λ marks. AreCountedEnds marks.problem.grammar (length marks.problem.word) c.args.rule c.args.from c.ends-ends.result.start c.ends-ends.result.end in
-    subst E (sym c.self.view_is) c.ends-ends.ensures.ends
+ends : (c : After-ends-ends) → AreCountedEnds c.self.inside.layout.grammar (length c.self.inside.layout.word) c.args.rule c.args.from c.ends-ends.result.start c.ends-ends.result.end
+ends c = c.ends-ends.ensures.ends
 
 pub returns-then-not-is_in_columns-clause-same : goal.returns-then-not-is_in_columns-clause-same
 returns-then-not-is_in_columns-clause-same c = none_marked c.args.self.now _ (λ cell none. none)
@@ -38,7 +36,6 @@ invariant_of-self c =
     let first = c.ends-ends.result.start in
     let past = c.ends-ends.result.end in
     record {
-      counted = c.self.invariant.counted;
       marks = still_marks old c.gather_row-any.new.rows c.args.rule c.args.from first past c.self.invariant.marks (ends before) c.gather_row-any.ensures.set;
       each_rule = c.self.invariant.each_rule;
       each_start = c.raise.ensures.as_many ∙ c.self.invariant.each_start;

@@ -18,7 +18,6 @@ invariant_of-self c =
     let C : CellMarks → Type 0 = λ marks. IsCountedIn marks cell in
     let counted = subst C (sym c.self.view_is) c.requires in
     record {
-      counted = c.self.invariant.counted;
       marks = rows_kept old c.set_bit.new.self cell.rule cell.from (λ other. other ≡ cell.to) c.set_bit.ensures c.self.invariant.marks (λ far e. subst (λ to. IsCountedIn old (record { rule = cell.rule; from = cell.from; to = to })) (sym e) counted);
       each_rule = c.self.invariant.each_rule;
       each_start = c.raise.ensures.as_many ∙ c.self.invariant.each_start;

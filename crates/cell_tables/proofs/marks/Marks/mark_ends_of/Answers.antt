@@ -38,7 +38,6 @@ invariant_of-self c =
     let C : CellMarks → Type 0 = λ marks. IsCountedIn marks (record { rule = c.args.rule; from = c.args.from; to = far }) in
     subst C (sym c.self.view_is) (c.requires.counted far is) in
     record {
-      counted = c.self.invariant.counted;
       marks = rows_kept old c.set_bits_of.new.self c.args.rule c.args.from IsFar c.set_bits_of.ensures c.self.invariant.marks counted;
       each_rule = c.self.invariant.each_rule;
       each_start = c.raise.ensures.as_many ∙ c.self.invariant.each_start;

@@ -11,9 +11,9 @@ invariant_of-result c =
     let no_row = c.in_ok-rows.ensures.none in
     let no_column = c.in_ok-columns.ensures.none in
     record {
-      row_there = λ cell is. c.in_ok-rows.ensures.there cell.rule cell.from cell.to (subst (C cell) c.layout.view_is is);
+      row_there = λ cell is. c.in_ok-rows.ensures.there cell.rule cell.from cell.to (subst (C cell) c.problem.ensures is);
       column_there = λ cell is.
-          c.in_ok-columns.ensures.there cell.rule cell.to cell.from (subst (C cell) c.layout.view_is is);
+          c.in_ok-columns.ensures.there cell.rule cell.to cell.from (subst (C cell) c.problem.ensures is);
       together = λ cell. (
         λ set. absurd (no_row cell.rule cell.from cell.to set),
         λ set. absurd (no_column cell.rule cell.to cell.from set),
