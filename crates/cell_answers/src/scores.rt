@@ -82,9 +82,10 @@ fn numbers_between<'s, V: Copy>(
 }
 
 impl<'a> Scores<'a> {
-    /// Scores of the layout's problem that tell of no candidate anywhere. Fails for want of memory alone.
-    pub fn new(alloc: Global, layout: Layout<'a>) -> Result<Scores<'a>, AllocError>
-        ensures { IfOk result (λ scores. scores.problem ≡ layout.entry) }
+    /// Scores of the layout's problem, of which none is kept yet: what they tell of a cell before its score is kept, no
+    /// clause says. Fails for want of memory alone.
+    pub fn new(alloc: Global, layout: &Layout<'a>) -> Result<Scores<'a>, AllocError>
+        ensures { IfOk result (λ scores. scores.problem ≡ layout.now) }
     {
         let problem = layout.problem();
         problem.admissible();

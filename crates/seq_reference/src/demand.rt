@@ -65,12 +65,8 @@ fn first_marks<'a>(
     problem.admissible();
     demanded_cells_are_counted();
     let mut marks = Marks::new(alloc, layout)?;
-    let root = Cell {
-        rule: problem.grammar.axiom,
-        from: 0,
-        to: problem.word.bytes().len() as u16,
-    };
-    if !marks.counts(root) {
+    let root = problem.axiom_cell();
+    if !layout.counts(root) {
         return Ok(marks);
     }
     marks.mark(root);

@@ -102,10 +102,10 @@ pub fn filled_scores<'a>(
     alloc: Global,
     lines: &Lines<'a>,
     marks: &Marks<'a>,
-    layout: Layout<'a>,
+    layout: &Layout<'a>,
 ) -> Result<Scores<'a>, AllocError>
     requires same_problem { marks.now.problem ≡ lines.now }
-    requires same_layout { layout ≡ lines.now }
+    requires same_layout { layout.now ≡ lines.now }
     requires marked { (cell : Cell) → IsMarkedInRow marks.now cell ↔ IsDemanded lines.now cell }
     ensures problem { IfOk result (λ scores. scores.problem ≡ lines.now) }
     ensures scored { IfOk result (λ scores. (cell : Cell) → IsDemanded lines.now cell → HasEntry scores cell) }

@@ -16,7 +16,7 @@ pub fn solve<'a>(alloc: Global, problem: &'a Problem<'a>) -> Result<Solved<'a>, 
     let lines = Lines::new(alloc, problem)?;
     let layout = Layout::new(alloc, problem)?;
     let marks = demanded_marks(alloc, &lines, &layout)?;
-    let scores = filled_scores(alloc, &lines, &marks, layout)?;
+    let scores = filled_scores(alloc, &lines, &marks, &layout)?;
     let cells = marks.count();
     Ok(Solved::new(lines, marks, scores, cells))
 }
