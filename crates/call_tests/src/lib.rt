@@ -15,3 +15,5 @@ mod streams;
 mod terms;
 #[cfg(test)]
 mod texts;
+#[cfg(test)]
+mod words;

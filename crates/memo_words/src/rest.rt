@@ -25,6 +25,20 @@ impl Rest {
     ghost use Rattle.memo_words.specs.Layout.{key, record_word, arena_word};
     ghost use Rattle.memo_words.specs.Passes.{rest_words};
 
+    /// The number of positions.
+    pub fn slots(&self) -> u32
+        ensures { result ≡ self.now.slots }
+    {
+        self.slots
+    }
+
+    /// The number of records.
+    pub fn records(&self) -> u32
+        ensures { result ≡ self.now.records }
+    {
+        self.records
+    }
+
     /// The key word of a position.
     pub fn key(&self, position: u32) -> u64
         requires { position < self.now.slots }
