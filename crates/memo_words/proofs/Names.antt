@@ -36,6 +36,9 @@ module _ (plan : Plan) where
       → owns number u.owned ≡ 0
   not_others s r id v number at owner j u e other = let below = is_own s r id v number at owner in let h = r.held number below in let t = two_within (owned_of number) s.views j id u v other e at in omega arith
 
+  pub owned_once : (s : St) (r : Kept plan s) (id : ℕ) (v : View) (number : ℕ) → get_elem? s.views id ≡ some v → 0 < owns number v.owned → owns number v.owned ≡ 1
+  owned_once s r id v number at owner = let below = is_own s r id v number at owner in let h = r.held number below in let t = one_within (owned_of number) s.views id v at in omega arith
+
   pub name_put : (s : St) (r : Kept plan s) (id : ℕ) (v w : View) (q : ℕ) (cell : Cell) (answer : Answer) (o : Owned) → get_elem? s.views id ≡ some v → q < slots_of plan → name plan s.words q ≡ 0
       → IsCodeOf cell (key s.words q) → Contains v.owned o → IsAnswer plan.problem cell answer → ((part : Part) → stored part o ≡ answer_word part answer)
       → ((child : Cell) → IsDemandedChild plan.problem cell child → Contains v.known child)

@@ -23,11 +23,11 @@ use Rattle.memo_words.specs.Kept.{Kept, Fits, IsPublished, IsHeldAt, IsStored, n
 use Rattle.memo_words.specs.Steps.{KeysFit, AreKeys, StaySeen, IsNamedAnswer, KeyLoads, KeyExchanges, RecordLoads, RecordExchanges, CounterAdds, ArenaStores, ArenaLoads}
 use Rattle.memo_words.specs.Passes.{IsReady}
 use Rattle.memo_words.proofs.Lists.{at_below}
-use Rattle.memo_words.proofs.Records.{chosen, is_yes, is_no, length-dropped, owns_some, All-dropped}
+use Rattle.memo_words.proofs.Records.{chosen, is_yes, is_no, length-dropped, owns-dropped, owns_some, All-dropped}
 use Rattle.memo_words.proofs.CodesApart.{code_some, cell_is, one_cell}
 use Rattle.memo_words.proofs.Frame.{St, looked, arena_apart, arena_behind}
 use Rattle.memo_words.proofs.Keys.{keys_put}
-use Rattle.memo_words.proofs.Names.{name_put, is_own}
+use Rattle.memo_words.proofs.Names.{name_put, is_own, owned_once}
 use Rattle.memo_words.proofs.Room.{counter_up, has_room}
 use Rattle.memo_words.proofs.Stores.{stored_put, name_below}
 use Rattle.memo_words.proofs.Moves.{Rule, F, AreSeen, for_plan, one_more, more_unless_0}
@@ -185,10 +185,17 @@ module _ (plan : Plan) where
         stored = subst (All (IsStored plan ws)) (sym (is_no found 0 (dropped o.number v.owned) v.owned full)) fits.stored;
         few = let b = ap (λ (l : List Owned). length l) (is_no found 0 (dropped o.number v.owned) v.owned full) in let c = fits.few in omega arith;
       } in
+      let given_up : found ≡ 0 → owns o.number w.owned ≡ 0 = λ empty.
+      let gone = ap (owns o.number) (is_yes found 0 (dropped o.number v.owned) v.owned empty) in
+      let d = owns-dropped o.number v.owned owner in
+      let one = owned_once plan s r id v o.number at owner in omega arith in
       let T : Plan → Type 0 = λ a. (x m : ℕ) → record_place (slots_of plan) q ≡ record_place (slots_of a) x → o.number + 1 ≡ m + 1
-      → ((w, me.1) ≡ (record_exchanged a x m found v, me.1)) × (Contains v.known (cell_at v x) → 0 < found) in
-      let t : T plan = λ x m e d. let there : q ≡ x = omega arith in let number_is : o.number ≡ m = omega arith in
-      ((λ i. (record_exchanged plan (there i) (number_is i) found v, me.1)), (λ k. known_here s r v q fits lt saw (subst (λ (y : ℕ). Contains v.known (cell_at v y)) (sym there) k))) in (
+      → ((w, me.1) ≡ (record_exchanged a x m found v, me.1)) × (Contains v.known (cell_at v x) → 0 < found) × (found ≡ 0 → owns m w.owned ≡ 0) in
+      let t : T plan = λ x m e d. let there : q ≡ x = omega arith in let number_is : o.number ≡ m = omega arith in (
+        (λ i. (record_exchanged plan (there i) (number_is i) found v, me.1)),
+        (λ k. known_here s r v q fits lt saw (subst (λ (y : ℕ). Contains v.known (cell_at v y)) (sym there) k)),
+        (λ empty. subst (λ (n : ℕ). owns n w.owned ≡ 0) number_is (given_up empty)),
+      ) in (
         w,
         keeps,
         tt,

@@ -11,7 +11,7 @@ use Rattle.memo_words.specs.declared.part.Part.{Part}
 use Rattle.memo_words.specs.declared.view.Seen.{Seen}
 use Rattle.memo_words.specs.declared.view.View.{View}
 use Rattle.memo_words.specs.Layout.{Plan, slots_of, records_of, key_place, record_place, arena_place, tally}
-use Rattle.memo_words.specs.Views.{seen_at, cell_at, key_loaded, key_exchanged, record_loaded, record_exchanged, counter_added, arena_stored, arena_loaded}
+use Rattle.memo_words.specs.Views.{seen_at, owns, cell_at, key_loaded, key_exchanged, record_loaded, record_exchanged, counter_added, arena_stored, arena_loaded}
 use Rattle.memo_words.specs.CodedCells.{IsCodeOf, answer_word}
 use Rattle.memo_words.specs.Kept.{Kept}
 
@@ -85,6 +85,7 @@ RecordExchanges step before found after =
     → step.second ≡ number + 1
     → (after ≡ (record_exchanged plan position number found before.0, before.1))
     × (Contains before.0.known (cell_at before.0 position) → 0 < found)
+    × (found ≡ 0 → owns number after.0.owned ≡ 0)
 
 abbrev pub CounterAdds : Telling
 CounterAdds step before found after =

@@ -136,6 +136,7 @@ impl Words {
         ensures own { IsPassOf self.now pass.new }
         ensures view { view_of pass.new ≡ record_exchanged (plan_of self.now) position number result (view_of pass.old) }
         ensures hand { hand_of pass.new ≡ hand_after (hand_of pass.old) number result }
+        ensures given_up { result ≡ 0 → owns number (view_of pass.new).owned ≡ 0 }
         ensures known { Contains (view_of pass.old).known (cell_at (view_of pass.old) position) → 0 < result }
         ensures steps { steps_made steps.new ≡ steps_made steps.old + 1 }
     {

@@ -28,3 +28,6 @@ returns-clause-view g c = ap (λ (m : Me ℕ View). m.0) (c.compare_exchange-fou
 
 pub returns-clause-known : goal.returns-clause-known
 returns-clause-known g c = (c.compare_exchange-found.ensures.2 _ c.args.position c.args.number c.requires.own.plan (c.record_place.ensures ∙ ap (λ (s : ℕ). record_place s c.args.position) c.args.self.now.slots_are) refl).1
+
+pub returns-clause-given_up : goal.returns-clause-given_up
+returns-clause-given_up g c = (c.compare_exchange-found.ensures.2 _ c.args.position c.args.number c.requires.own.plan (c.record_place.ensures ∙ ap (λ (s : ℕ). record_place s c.args.position) c.args.self.now.slots_are) refl).2
