@@ -1,0 +1,1388 @@
+# Explains the fault of a run: what is wrong, where, and what to do. The launcher runs it behind the fault's line, as
+# `adp --explain`, with the words of the command as arguments and this in the environment: ADP_FAULT, the line; ADP_JOB,
+# the file of the job (none where it could not be read), and ADP_NAME, what the user called it; ADP_GUIDE, the file
+# docs/FAULTS.md; ADP_LONGEST, the greatest length that the job admits, where that is known; ADP_COLOUR, for a terminal.
+#
+# It needs no more than POSIX awk, and is to be run with LC_ALL=C: a letter is a byte.
+
+BEGIN {
+  fault = ENVIRON["ADP_FAULT"]
+  job = ENVIRON["ADP_JOB"]
+  name_of_job = ENVIRON["ADP_NAME"] == "-" || ENVIRON["ADP_NAME"] == "" ? "standard input" : ENVIRON["ADP_NAME"]
+  guide = ENVIRON["ADP_GUIDE"]
+  if (ENVIRON["ADP_COLOUR"] != "") { bold = "\033[1m"; red = "\033[31m"; plain = "\033[0m" }
+  MOST = "4611686018427387903"
+  MOST_HEADER = 400000
+  MOST_TOKENS = 60000
+  for (code = 1; code < 256; code++) code_of[sprintf("%c", code)] = code
+  HEX = "0123456789ABCDEF"
+  said_words = split("class sign algebra let rule grammar words", KEYWORDS, " ")
+  split("best serial", MODES, " ")
+  split("--algebra --workers --seed", OPTIONS, " ")
+  count = split(fault, part, " ")
+  if (part[1] != "fault") exit
+  if (part[2] == "text" && part[3] == "line") explain_text(part[4] + 0, part[6] + 0, part[8])
+  else if (part[2] == "grammar") explain_grammar(part[4] + 0, part[6])
+  else if (part[2] == "limit") explain_limit(part[4] + 0, part[6] + 0, part[8])
+  else if (part[2] == "usage") explain_usage()
+  else explain_run()
+  exit
+}
+
+# ---- What is written
+
+function tell(text) { print wrapped(text, "") }
+
+# A text in lines of at most 100 letters.
+function wrapped(text, indent,    words, n, i, line, out) {
+  n = split(text, words, " ")
+  line = indent
+  for (i = 1; i <= n; i++) {
+    if (line != indent && length(line) + length(words[i]) >= 100) { out = out line "\n"; line = indent }
+    line = line (line == indent ? "" : " ") words[i]
+  }
+  return out line
+}
+
+function hex(byte,    code) {
+  code = byte in code_of ? code_of[byte] : 0
+  return substr(HEX, int(code / 16) + 1, 1) substr(HEX, code % 16 + 1, 1)
+}
+
+function is_printable(byte) { return byte >= " " && byte <= "~" }
+
+function printed(text,    out, i, byte) {
+  if (text !~ /[^ -~]/) return text
+  for (i = 1; i <= length(text); i++) {
+    byte = substr(text, i, 1)
+    out = out (is_printable(byte) ? byte : byte == "\t" ? "\\t" : byte == "\r" ? "\\r" : "\\x" hex(byte))
+  }
+  return out
+}
+
+# A line of the job with its number; where a column is told, a mark below it. Long lines are cut around it.
+function show(number, text, column,    front, first, shown) {
+  first = 1
+  if (column > 70) first = column - 60
+  front = (first > 1 ? ".." : "") printed(substr(text, first, column > 0 ? column - first : 0))
+  shown = (first > 1 ? ".." : "") printed(substr(text, first, 100)) (length(text) >= first + 100 ? ".." : "")
+  printf "%s%6d | %s%s\n", plain, number, shown, plain
+  if (column > 0) printf "%6s | %s%s^%s\n", "", blanks(length(front)), red, plain
+}
+
+function blanks(count) { return sprintf("%" count "s", "") }
+
+function quoted(text) { return "`" printed(length(text) > 60 ? substr(text, 1, 60) ".." : text) "`" }
+
+function plural(count, word) { return count " " word (count == 1 ? "" : "s") }
+
+# The n-th part of a text like "first argument".
+function nth(n) { return n == 1 ? "first" : n == 2 ? "second" : n == 3 ? "third" : n == 4 ? "fourth" : n "th" }
+
+# ---- What docs/FAULTS.md says
+
+# Prints heading and prose of the section of a number below a chapter.
+function tell_section(chapter, number,    line, here, there, fenced, text) {
+  while ((getline line < guide) > 0) {
+    if (line ~ /^## /) { here = index(line, "## " chapter) == 1; there = 0 }
+    else if (line ~ /^### / && here) {
+      there = index(line, "### " number ". ") == 1
+      if (there) text = substr(line, length("### " number ". ") + 1) ". "
+    } else if (there) {
+      if (line ~ /^```/) fenced = !fenced
+      else if (!fenced && line != "") text = text " " line
+    }
+    if (there && line ~ /^### / && index(line, "### " number ". ") != 1) there = 0
+  }
+  close(guide)
+  tell_prose(text, "")
+}
+
+# Prints the mend of a fault that is none of a job, from the guide's table.
+function tell_row(line_of_fault,    line, cell) {
+  while ((getline line < guide) > 0) {
+    gsub(/\\\|/, "\001", line)
+    split(line, cell, /[|]/)
+    if (cell[2] ~ /adp/ && cell[3] == " `" line_of_fault "` ") { tell_prose(cell[4], ""); break }
+  }
+  close(guide)
+}
+
+# Prints a text of the guide, without what only a page can show: where links lead, and the names of the examples.
+function tell_prose(text, indent) {
+  if (text == "") return
+  gsub(/ \(`[a-z]+-[0-9]+(-[a-z]+)?`\)/, "", text)
+  gsub(/\]\([^)]*\)/, "", text)
+  gsub(/\[/, "", text)
+  gsub(/\001/, "|", text)
+  gsub(/[*]or/, "or", text)
+  print ""
+  print bold "docs/FAULTS.md:" plain
+  print wrapped(text, "  ")
+}
+
+# ---- Reading the job
+
+# Reads the header into `header`, up to `words_line`, and goes on to a line where that stands behind. Tells what it read
+# by `lines`, the number of lines, which counts to that line only.
+function read_job(wanted,    line, number, bytes) {
+  words_line = 0
+  while ((getline line < job) > 0) {
+    number++
+    sub(/\r$/, "", line)
+    if (number == wanted) wanted_line = line
+    if (!words_line) {
+      if (line !~ /^ *$/ && line !~ /^#/) header[number] = line
+      if (number > 1 && line ~ /^ *words *$/) words_line = number
+      bytes += length(line) + 1
+    }
+    lines = number
+    if (words_line && number >= wanted) break
+  }
+  close(job)
+  is_small = bytes <= MOST_HEADER
+}
+
+function header_end() { return words_line ? words_line : lines }
+
+# ---- Tokens
+
+# Finds the tokens of a line: `token` and where each begins, `column`, from 1 to `tokens`. Where a byte begins none, it
+# is put behind them as if it were one, and `offence` is its number. Of a very long line only the front is looked at.
+function find_tokens(text,    at, byte, rest, most) {
+  tokens = offence = 0
+  is_cut = length(text) > MOST_TOKENS
+  most = is_cut ? MOST_TOKENS : length(text)
+  for (at = 1; at <= most && !offence; at += length(rest)) {
+    while (substr(text, at, 1) == " ") at++
+    if (at > most) break
+    rest = substr(text, at, 300)
+    if (!match_token(rest) || (RLENGTH == 300 && at + 300 <= most)) {
+      rest = substr(text, at)
+      match_token(rest)
+    }
+    tokens++
+    column[tokens] = at
+    if (RLENGTH < 1) { offence = tokens; RLENGTH = 1 }
+    token[tokens] = rest = substr(rest, 1, RLENGTH)
+  }
+  column[tokens + 1] = most + 1
+  token[tokens + 1] = ""
+}
+
+function match_token(rest,    byte) {
+  byte = substr(rest, 1, 1)
+  if (byte ~ /[A-Za-z0-9_]/) return match(rest, /^[A-Za-z0-9_]+/)
+  if (byte == "\"") return match(rest, /^"([^"\\]|\\"|\\\\)*"/)
+  if (byte == ".") return match(rest, /^\.\./)
+  RLENGTH = index("=()[],|+*-", byte) > 0 ? 1 : -1
+  return RLENGTH > 0
+}
+
+# ---- Shapes
+
+# Whether a line has form. Where not, `wrong_at` is the column of what is wrong, and `wrong` says what. Where it has
+# tokens, `shape` is its keyword and `declared` the word in the place of its name.
+function has_form(number,    text) {
+  text = header[number]
+  shape = declared = wrong = ""
+  if (text ~ /[^ -~]/) {
+    match(text, /[^ -~]/)
+    wrong_at = RSTART
+    wrong = strange(text, RSTART)
+    return 0
+  }
+  find_tokens(text)
+  at = 1
+  if (parse_line() && !offence) return 1
+  if (offence && at > offence) at = offence
+  wrong_at = column[at]
+  if (is_cut && at > tokens - 2) {
+    wrong = "the line has " length(text) " letters, and what is wrong stands behind the first " MOST_TOKENS
+    return 0
+  }
+  if (at == offence && !is_told_better()) wrong = offending(text, column[offence])
+  return 0
+}
+
+# Whether what is wrong at an offending byte was told by its place.
+function is_told_better() { return wrong ~ /^(numbers are|there is no)/ || shape == "words" }
+
+# What a byte is that is not printable ASCII, in words, and what to put there.
+function strange(text, at,    byte, two, three) {
+  byte = substr(text, at, 1)
+  two = substr(text, at, 2)
+  three = substr(text, at, 3)
+  if (byte == "\t") return "a tab stands here: put spaces (in a word a tab is no letter either)"
+  if (byte == "\r") return "a carriage return stands here that is not directly before the end of its line"
+  if (two == "\302\240") return "a no-break space stands here: put a space"
+  if (three ~ /^\342\200[\230-\237]/) return "a typographic quote stands here: put \""
+  if (three ~ /^\342\200[\220-\225]/ || three == "\342\210\222") return "a long dash or minus stands here: put -"
+  if (three == "\342\200\246") return "an ellipsis of one letter stands here: put .."
+  if (three == "\303\227" || two == "\302\267" || two == "\303\227") return "a times sign stands here: put *"
+  if (three == "\357\273\277") return "a byte order mark stands here: save the file without it (UTF-8 without BOM)"
+  if (byte >= "\302" && byte <= "\364") return "a letter stands here that is not ASCII; a job has none, so write it otherwise, by one letter for each"
+  return "the byte \\x" hex(byte) " stands here, which is not printable ASCII"
+}
+
+# What an offending byte of a header line is.
+function offending(text, at,    byte, rest) {
+  byte = substr(text, at, 1)
+  rest = substr(text, at)
+  if (byte == "\"") return open_quote(text, at)
+  if (byte == "'") return "letters stand in double quotes: \"..\""
+  if (byte == ";") return "no `;` ends a line"
+  if (byte == "#") return "a comment has a line of its own, with `#` as its first byte"
+  if (byte == ":") return "a `=` stands between a name and what it means, and no `:`"
+  if (byte == ".") return "a `.` alone begins no token: numbers are whole, and a run has two dots, `..`"
+  if (byte == "/") return "a `/` begins no token: alternatives have `|` between them, and there is no division"
+  if (byte == ">" || byte == "<") return "a `" byte "` begins no token: a rule has `=` behind its name"
+  if (byte == "{" || byte == "}") return "a `" byte "` begins no token: brackets are `(` `)` and `[` `]`"
+  return "a `" byte "` begins no token"
+}
+
+# Why a quoted text does not end; `wrong_at` goes to a backslash that is in the way.
+function open_quote(text, at,    i, byte) {
+  for (i = at + 1; i <= length(text); i++) {
+    byte = substr(text, i, 1)
+    if (byte != "\\") continue
+    byte = substr(text, i + 1, 1)
+    if (byte != "\"" && byte != "\\") {
+      wrong_at = i
+      if (byte == "") return "a backslash stands at the end: write `\\\\` for a backslash, and close the text by `\"`"
+      return "a `\\` stands before `" byte "`: in a quoted text only `\\\"` and `\\\\` are written so"
+    }
+    i++
+  }
+  return "this quoted text does not end on its line: a `\"` is missing, or one is too many before it"
+}
+
+function is_word(text) { return text ~ /^[A-Za-z0-9_]/ }
+function is_name(text) { return text ~ /^[A-Za-z][A-Za-z0-9_]*$/ && length(text) <= 32 }
+function is_digits(text) { return text ~ /^[0-9]+$/ }
+
+# What stands at the parser's place, in words.
+function seen() { return at > tokens ? "the line ends here" : quoted(token[at]) " stands here" }
+
+function fails(text) { wrong = text; return 0 }
+
+function eat(mark) {
+  if (at <= tokens && token[at] == mark) { at++; return 1 }
+  return fails(seen() ", where `" mark "` should be")
+}
+
+# A word that is wanted as something.
+function eat_word(what) {
+  if (at <= tokens && is_word(token[at])) { at++; return 1 }
+  return fails(seen() ", where " what " should be")
+}
+
+function at_end(what) {
+  if (at > tokens) return 1
+  return fails(seen() ", where the line should end" what)
+}
+
+# Reads the line's tokens from the first one on: `at` is the place behind the last one that fits.
+function parse_line(    word) {
+  word = shape = token[1]
+  declared = token[2]
+  at = 2
+  if (word == "words") return at_end("")
+  if (word == "grammar") return eat_word("the rule of the whole word") && at_end(": it names one rule")
+  if (word == "class") return parse_class()
+  if (word == "sign") return parse_sign()
+  if (word == "algebra") return parse_algebra()
+  if (word == "let") return parse_let()
+  if (word == "rule") return parse_rule()
+  at = 1
+  shape = ""
+  if (word == "|") return fails("a line begins with `|`: a rule stands on one line with all its alternatives")
+  if (token[2] == "(") return fails("`let` is missing in front")
+  word = nearest(word, KEYWORDS)
+  if (word != "") return fails("a line begins with " quoted(token[1]) ": is " quoted(word) " meant?")
+  return fails("a line of the header begins with class, sign, algebra, let, rule, grammar or words")
+}
+
+function parse_class() {
+  if (!(eat_word("the name of the class") && eat("="))) return 0
+  items = 0
+  while (at <= tokens || !items) {
+    if (substr(token[at], 1, 1) != "\"" || at > tokens) {
+      return fails(seen() ", where letters in quotes should be")
+    }
+    item_at[++items] = at++
+    if (token[at] == "-") at++
+    if (!is_word(token[at])) return fails(seen() ", where the weight of the letters before it should be: each quoted text has a number behind it, as 0")
+    weight_at[items] = at++
+  }
+  return 1
+}
+
+function parse_sign() {
+  if (!(eat_word("the name of the sign") && eat("("))) return 0
+  kinds = 0
+  do {
+    if (token[at] != "score" && token[at] != "token") {
+      return fails(seen() ", where a kind should be: `token` for letters of the word, or `score` for a part with a score")
+    }
+    kind[++kinds] = token[at++]
+  } while (token[at] == "," && at++)
+  if (token[at] == "score" || token[at] == "token") return fails("a `,` is missing before " quoted(token[at]))
+  return eat(")") && at_end("")
+}
+
+function parse_algebra() {
+  if (!eat_word("the name of the algebra")) return 0
+  if (token[at] != "min" && token[at] != "max") return fails(seen() ", where `min` or `max` should be: whether the least or the greatest score is best")
+  at++
+  return at_end("")
+}
+
+function parse_let() {
+  if (!(eat_word("the name of a sign") && eat("("))) return 0
+  variables = 0
+  do {
+    if (!eat_word("the name of a variable")) return 0
+    variable[++variables] = token[at - 1]
+    variable_at[variables] = at - 1
+  } while (token[at] == "," && at++)
+  if (!(eat(")") && eat("="))) return 0
+  term_at = at
+  return parse_term()
+}
+
+# A number, a variable, or a number, `*` and a variable; then `+` or `-` and so on.
+function parse_term() {
+  if (token[at] == "-") at++
+  for (;;) {
+    if (!parse_part()) return 0
+    if (at > tokens) return 1
+    if (token[at] != "+" && token[at] != "-") return behind_part()
+    at++
+  }
+}
+
+function parse_part() {
+  if (token[at] == "(") return no_brackets()
+  if (token[at] == "+" || token[at] == "-") return fails(seen() ", where a number or a variable should be: there is one sign at a time, and no `+` in front")
+  if (!eat_word("a number or a variable")) return 0
+  if (token[at - 1] !~ /^[0-9]/ || token[at] != "*") return 1
+  at++
+  if (token[at] == "(") return no_brackets()
+  if (token[at] ~ /^[0-9]/) return fails("there is no product of numbers: write the number that it is")
+  return eat_word("a variable")
+}
+
+function no_brackets() { return fails("a term has no brackets: multiply out, as 2*x + 2*y for 2*(x + y)") }
+
+# What is wrong behind a part of a term that is followed by no `+` and no `-`.
+function behind_part(    before, behind) {
+  before = token[at - 1]
+  behind = token[at + 1]
+  if (token[at] == "*") {
+    if (before ~ /^[0-9]/ || token[at - 2] == "*") return fails("there is one factor and one variable in a product")
+    if (behind ~ /^[0-9]/) return fails("a factor stands before its variable: write " behind "*" before)
+    return fails("there is no product of two variables: terms are linear, and what a step depends on besides has to be known to its rule (docs/GUIDE.md, the product of matrices)")
+  }
+  if (token[at] == "(" && (before == "min" || before == "max")) return fails("a term has no `" before "`: give each case a sign of its own, and let the goal choose between the alternatives")
+  if (token[at] == "(") return no_brackets()
+  if (token[at] == "." && before ~ /^[0-9]/) return fails("numbers are whole: multiply all numbers of the algebra by 10, 100 or more")
+  if (token[at] == ".." && before ~ /^[0-9]/) return fails("numbers are whole, and a term has no dots")
+  if (token[at] == "/") return fails("there is no division: multiply all numbers of the algebra so that each is whole")
+  if (token[at] == "^") return fails("there is no power: write the number that it is")
+  if (is_word(token[at])) return fails("`+`, `-` or `*` is missing before " quoted(token[at]))
+  return fails(seen() ", where `+`, `-` or the end of the line should be")
+}
+
+function parse_rule() {
+  if (!eat_word("the name of the rule")) return 0
+  if (token[at] != "=" && is_word(token[at]) && token[at + 1] == "=") return fails("a name is one word: letters, digits and `_`")
+  if (!eat("=")) return 0
+  alternatives = 0
+  do {
+    if (!parse_alternative()) return 0
+  } while (token[at] == "|" && at++)
+  if (at > tokens) return 1
+  if (is_word(token[at])) return fails("a `|` is missing before " quoted(token[at]) ", or a name is in two words")
+  return fails(seen() ", where `|` or the end of the line should be")
+}
+
+function parse_alternative() {
+  if (substr(token[at], 1, 1) == "\"" || token[at] == "[") return fails("an alternative is a sign with its arguments in brackets, and no " (token[at] == "[" ? "letter" : "literal") " alone: give it a sign")
+  if (!eat_word("an alternative")) return 0
+  alternative_at[++alternatives] = at - 1
+  arguments[alternatives] = 0
+  if (token[at] != "(") {
+    if (at > tokens || token[at] == "|") return fails(quoted(token[at - 1]) " is no alternative alone: an alternative is a sign with its arguments in brackets, as " token[at - 1] "(\"\")" (is_rule_elsewhere(token[at - 1]) ? "; for the rule " token[at - 1] " take a sign with one score" : ""))
+    return eat("(")
+  }
+  at++
+  do {
+    if (!parse_argument(++arguments[alternatives])) return 0
+  } while (token[at] == "," && at++)
+  if (token[at] == "(") return fails("an argument is a rule, letters in quotes, or a class in square brackets: a nested " quoted(token[at - 1] "(..)") " needs a rule of its own")
+  if (is_word(token[at]) || token[at] == "[" || substr(token[at], 1, 1) == "\"") return fails("a `,` is missing before " quoted(token[at]))
+  return eat(")")
+}
+
+function is_rule_elsewhere(word,    number) {
+  for (number in header) if (header[number] ~ ("^ *rule +" word "[ =]")) return 1
+  return 0
+}
+
+function parse_argument(j,    i) {
+  i = alternatives
+  argument_at[i, j] = at
+  low[i, j] = high[i, j] = ""
+  if (substr(token[at], 1, 1) == "\"" && at <= tokens && at != offence) { sort[i, j] = "literal"; argument[i, j] = token[at++]; return 1 }
+  if (is_word(token[at])) { sort[i, j] = "rule"; argument[i, j] = token[at++]; return 1 }
+  if (token[at] != "[") return fails(seen() ", where an argument should be: a rule, letters in quotes, or a class in square brackets")
+  at++
+  if (token[at] ~ /^[0-9]/) return class_first()
+  if (!eat_word("the name of a class")) return 0
+  sort[i, j] = "letter"
+  argument[i, j] = token[at - 1]
+  if (token[at] == "]") { at++; return 1 }
+  sort[i, j] = "run"
+  if (token[at] == ",") return fails("no `,` stands behind the class: [" argument[i, j] " 2..5]")
+  if (!is_word(token[at])) return fails(seen() ", where `]` or the least number of letters should be")
+  low[i, j] = token[at++]
+  if (token[at] == "-") return fails("two dots stand between the bounds of a run: [" argument[i, j] " " low[i, j] "..]")
+  if (token[at] == "." || token[at] == "]" || token[at] == ",") return fails("a run has two dots: [" argument[i, j] " " low[i, j] ".." low[i, j] "] for just so many letters")
+  if (!eat("..")) return 0
+  if (is_word(token[at])) high[i, j] = token[at++]
+  return eat("]")
+}
+
+# ---- What a header declares
+
+# Parses all lines of the header, and keeps what each declares: `line_of[sort, name]`, `lacks_form[number]`, the kinds
+# of each sign, the lets of each algebra's section, and the alternatives of each rule.
+function read_header(    number, section) {
+  if (is_read) return
+  is_read = 1
+  for (number = 2; number <= header_end(); number++) {
+    if (!(number in header)) continue
+    if (!is_small && number != wanted_number) { note_lightly(number); continue }
+    if (!has_form(number)) {
+      lacks_form[number] = 1
+      match(header[number], /^ *[A-Za-z0-9_]+/)
+      continue
+    }
+    if (shape == "algebra") { section = number; sections[++sections_count] = number }
+    else if (shape == "let") note_let(number, section)
+    else if (shape == "sign") note_sign(number)
+    else if (shape == "rule") note_rule(number)
+    if (shape != "let" && !((shape, declared) in line_of)) {
+      line_of[shape, declared] = number
+      names_of[shape] = names_of[shape] " " declared
+    }
+  }
+}
+
+# What a line declares by its first two words alone, in a header that is too long to be read whole.
+function note_lightly(number,    word) {
+  split(header[number], word, /[ (=]+/)
+  if (!((word[1], word[2]) in line_of)) line_of[word[1], word[2]] = number
+}
+
+function note_let(number, section) {
+  if (!((section, declared) in let_of)) let_of[section, declared] = number
+  lets[++lets_count] = number
+  let_section[number] = section
+  let_sign[number] = declared
+}
+
+function note_sign(number,    j) {
+  if (("sign", declared) in line_of) return
+  signs[++signs_count] = declared
+  kinds_of[declared] = kinds
+  for (j = 1; j <= kinds; j++) kind_of[declared, j] = kind[j]
+}
+
+function note_rule(number,    i, j) {
+  if (("rule", declared) in line_of) return
+  rules[++rules_count] = declared
+  alternatives_of[declared] = alternatives
+  for (i = 1; i <= alternatives; i++) {
+    sign_of[declared, i] = token[alternative_at[i]]
+    arguments_of[declared, i] = arguments[i]
+    for (j = 1; j <= arguments[i]; j++) {
+      sort_of[declared, i, j] = sort[i, j]
+      argument_of[declared, i, j] = argument[i, j]
+      low_of[declared, i, j] = low[i, j]
+      high_of[declared, i, j] = high[i, j]
+    }
+  }
+}
+
+# The line of a shape that was meant to declare a name and has no form; 0 where there is none.
+function meant_line(word, name, first, last,    number) {
+  for (number = first; number <= last; number++) {
+    if (number in lacks_form && header[number] ~ ("^[ \t]*" word "[ \t]+" name "([^A-Za-z0-9_]|$)")) return number
+  }
+  return 0
+}
+
+# Shows a line without form, and what is wrong with it.
+function show_wrong(number) {
+  has_form(number)
+  show(number, header[number], wrong_at)
+  tell(sentence(wrong))
+}
+
+function sentence(text) { return toupper(substr(text, 1, 1)) substr(text, 2) (text ~ /[.?:"]$/ ? "" : ".") }
+
+# ---- Names that are alike
+
+# The name of a list that is most like a word; nothing where none is like it.
+function nearest(word, names,    i, best, least, most, found) {
+  least = length(word) < 4 ? 1 : 2
+  for (i in names) {
+    if (names[i] == word) continue
+    if (tolower(names[i]) == tolower(word)) return names[i]
+    most = distance(word, names[i])
+    if (most <= least && (most < least || best == "")) { best = names[i]; least = most }
+  }
+  return best
+}
+
+# How many letters have to be put in, left out, exchanged, or swapped with their neighbour.
+function distance(one, other,    i, j, n, m, cost, row, least) {
+  n = length(one)
+  m = length(other)
+  if (n - m > 2 || m - n > 2) return 9
+  for (j = 0; j <= m; j++) row[0, j] = j
+  for (i = 1; i <= n; i++) {
+    row[i, 0] = i
+    for (j = 1; j <= m; j++) {
+      cost = substr(one, i, 1) != substr(other, j, 1)
+      least = row[i - 1, j - 1] + cost
+      if (row[i - 1, j] + 1 < least) least = row[i - 1, j] + 1
+      if (row[i, j - 1] + 1 < least) least = row[i, j - 1] + 1
+      if (i > 1 && j > 1 && substr(one, i, 1) == substr(other, j - 1, 1) && substr(one, i - 1, 1) == substr(other, j, 1) && row[i - 2, j - 2] + 1 < least) least = row[i - 2, j - 2] + 1
+      row[i, j] = least
+    }
+  }
+  return row[n, m]
+}
+
+function like(word, sort,    list, found) {
+  split(names_of[sort], list, " ")
+  found = nearest(word, list)
+  return found == "" ? "" : ": is " quoted(found) " of line " line_of[sort, found] " meant?"
+}
+
+# ---- Faults of the text
+
+function explain_text(number, kind_number, counted) {
+  if (job == "") return
+  wanted_number = number
+  read_job(number)
+  print ""
+  print bold name_of_job ", line " number ":" plain
+  if (kind_number == 1) tell_first_line()
+  else if (kind_number == 2) tell_strange_byte(number)
+  else if (kind_number == 3) {
+    show_wrong(number)
+    if (!words_line) tell("(The job has no line `words`, behind which the words stand.)")
+  }
+  else if (kind_number == 4) tell_name(number)
+  else if (kind_number == 5) tell_number(number)
+  else if (kind_number == 6) tell_open_quote(number)
+  else if (kind_number == 10) tell_no_words(number)
+  else {
+    read_header()
+    if (number in header) has_form(number)
+    if (kind_number == 7) tell_twice(number)
+    else if (kind_number == 8) tell_letters(number)
+    else if (kind_number == 9) tell_let(number)
+    else if (kind_number == 11) tell_axiom(number)
+    else if (kind_number == 12) tell_undeclared(number)
+    else if (kind_number == 13) tell_arguments(number)
+    else if (kind_number == 14) tell_run(number)
+    else if (kind_number == 15) tell_incomplete(number)
+    else if (kind_number == 16) tell_count(number, counted)
+    else show(number, wanted_line, 0)
+  }
+  tell_section("Faults of the text", kind_number)
+}
+
+function tell_first_line() {
+  if (lines == 0) { tell("The job is empty."); return }
+  show(1, wanted_line, 1)
+  if (wanted_line ~ /^\357\273\277/) tell(sentence(strange(wanted_line, 1)))
+  else if (wanted_line ~ /^\377\376|^\376\377/ || wanted_line ~ /^a?$/ && lines > 1 && wanted_line != "") tell("The file seems to be UTF-16: save it as plain text, ASCII or UTF-8.")
+  else if (wanted_line ~ /^[ \t]*$/) tell("The first line is empty: `adp 1` has to be the very first one.")
+  else if (wanted_line ~ /^#/) tell("A comment stands first: `adp 1` has to be the very first line.")
+  else if (tolower(wanted_line) ~ /^[ \t]*adp[ \t]*1[ \t]*$/) tell("Only `adp 1` itself will do: small letters, one space, and none before or behind.")
+  else if (wanted_line ~ /^adp [0-9]+$/) tell("This program reads the format `adp 1`.")
+  else tell("A job begins with the line `adp 1`.")
+}
+
+function tell_strange_byte(number,    text) {
+  text = wanted_line
+  if (!match(text, /[^ -~]/)) { show(number, text, 0); return }
+  wrong_at = RSTART
+  show(number, text, wrong_at)
+  tell(sentence(strange(text, wrong_at)))
+  if (words_line && number > words_line) tell("This line is a word: all that stands behind the line `words` (line " words_line ") is words.")
+}
+
+# A word in the place of a name that is none.
+function tell_name(number,    i, word, place) {
+  has_form(number)
+  place = 0
+  if (declared != "" && !is_name(declared)) place = 2
+  for (i = 1; !place && i <= tokens; i++) {
+    if (is_word(token[i]) && !is_name(token[i]) && is_in_place_of_name(i)) place = i
+  }
+  if (!place) { show(number, header[number], 0); return }
+  word = token[place]
+  show(number, header[number], column[place])
+  if (length(word) > 32) tell(quoted(word) " has " length(word) " letters, and a name at most 32.")
+  else tell(quoted(word) " is no name: a name begins with a letter.")
+}
+
+function is_in_place_of_name(place,    before) {
+  before = token[place - 1]
+  if (shape == "let") return place < term_at || token[place] !~ /^[0-9]/
+  if (shape == "rule") return before != ".." && !(is_word(before) && token[place - 2] == "[")
+  return 0
+}
+
+# A number that is none, or too great.
+function tell_number(number,    i, word, place) {
+  has_form(number)
+  for (i = 1; !place && i <= tokens; i++) {
+    word = token[i]
+    if (!is_word(word) || !is_in_place_of_number(i)) continue
+    if (!is_digits(word) || is_more(word, bound_of_number(i))) place = i
+  }
+  show(number, header[number], place ? column[place] : 0)
+  word = token[place]
+  if (!place) tell("The sum of the plain numbers, or of the factors of one variable, passes " MOST ", which is 2^62 - 1.")
+  else if (is_digits(word)) tell(quoted(word) " is more than " bound_of_number(place) ".")
+  else if (word ~ /^[0-9]+[A-Za-z]/ && shape == "let") tell(quoted(word) " is neither a number nor a name: a `*` stands between a factor and its variable.")
+  else tell(quoted(word) " is no number: a number is digits alone.")
+}
+
+function is_in_place_of_number(place) {
+  if (shape == "class") return place > 3
+  if (shape == "let") return place >= term_at && token[place] ~ /^[0-9]/
+  if (shape == "rule") return token[place - 1] == ".." || (is_word(token[place - 1]) && token[place - 2] == "[")
+  return 0
+}
+
+function bound_of_number(place) { return shape == "rule" ? "1000000" : MOST }
+
+# Whether one number in digits is more than another.
+function is_more(one, other) {
+  sub(/^0+/, "", one)
+  return length(one) > length(other) || (length(one) == length(other) && ("x" one) > ("x" other))
+}
+
+function tell_open_quote(number,    place) {
+  find_tokens(header[number])
+  wrong_at = column[offence]
+  place = open_quote(header[number], wrong_at)
+  show(number, header[number], wrong_at)
+  tell(sentence(place))
+}
+
+function tell_no_words(number,    i, word, found) {
+  tell("The job has " plural(lines, "line") ", and none of them is `words`.")
+  for (i = 2; i <= lines && !found; i++) {
+    if (!(i in header)) continue
+    word = header[i]
+    gsub(/[^A-Za-z]/, "", word)
+    if (tolower(word) == "words" || tolower(word) == "word") found = i
+  }
+  if (found) {
+    show(found, header[found], 1)
+    tell("The line has to be the word `words` alone.")
+  }
+}
+
+function tell_twice(number,    i, j, first, place) {
+  place = 2
+  first = line_of[shape, declared]
+  if (shape == "let") {
+    for (i = 2; i <= variables; i++) for (j = 1; j < i; j++) if (variable[i] == variable[j]) place = variable_at[i]
+    show(number, header[number], column[place])
+    tell("The variable " quoted(token[place]) " stands twice: give each argument a name of its own.")
+    return
+  }
+  show(number, header[number], column[place])
+  if (first && first < number) {
+    tell("The " shape " " quoted(declared) " was declared before:")
+    show(first, header[first], 0)
+  }
+}
+
+# A class with a letter twice, or with none.
+function tell_letters(number,    i, j, text, letter, at_of, letters) {
+  for (i = 1; i <= items; i++) {
+    text = token[item_at[i]]
+    for (j = 2; j < length(text); j++) {
+      letter = substr(text, j, 1)
+      if (letter == "\\") letter = substr(text, ++j, 1)
+      letters++
+      if (letter in at_of) {
+        show(number, header[number], column[item_at[i]] + j - 1)
+        tell("The letter " quoted(letter) " stood before already, at column " at_of[letter] ".")
+        return
+      }
+      at_of[letter] = column[item_at[i]] + j - 1
+    }
+  }
+  show(number, header[number], 0)
+  if (!letters) tell("The class has no letter.")
+}
+
+function tell_let(number,    section, first) {
+  section = let_section[number]
+  first = let_of[section, declared]
+  show(number, header[number], 0)
+  if (!section) {
+    tell("No `algebra` line with form stands above it.")
+    section = first_like("algebra", number)
+    if (section) show_wrong(section)
+    else if (sections[1]) tell("The first one is line " sections[1] ": put this line below it.")
+  } else if (first && first < number) {
+    tell("In the algebra of line " section " the sign " quoted(declared) " has a `let` already:")
+    show(first, header[first], 0)
+    tell("A second algebra begins with an `algebra` line of its own.")
+  }
+}
+
+# The first line without form before a line that begins with a word, or with one that is like it; 0 where there is none.
+function first_like(word, last,    i, front, list) {
+  list[1] = word
+  for (i = 2; i < last; i++) {
+    if (!(i in lacks_form)) continue
+    find_tokens(header[i])
+    front = token[1]
+    if (front == word || nearest(front, list) != "") return i
+  }
+  return 0
+}
+
+function tell_axiom(number,    first, near) {
+  show(number, header[number], 0)
+  first = 0
+  for (near = 2; near < number && !first; near++) if (header[near] ~ /^ *grammar [^=]*$/ && !(near in lacks_form)) first = near
+  if (shape == "grammar" && first) {
+    tell("A job has one `grammar` line, and this is the second. The first:")
+    show(first, header[first], 0)
+    return
+  }
+  near = first_like("grammar", number)
+  if (near) {
+    tell("No line `grammar RULE` with form stands above it. This one was meant for it:")
+    show_wrong(near)
+  } else {
+    tell("No line `grammar RULE` stands above it" (rules_count ? ": perhaps `grammar " rules[1] "`, with the rule of the whole word." : "."))
+  }
+}
+
+# Says of a name that is not declared what may be meant.
+function tell_missing(sort, name, place, what,    near, other) {
+  tell(sentence(what "the " sort " " quoted(name) " is not declared" like(name, sort)))
+  near = meant_line(sort, name, 2, header_end())
+  if (near) {
+    tell("Line " near " was meant to declare it:")
+    show_wrong(near)
+    has_form(wanted_number)
+    return
+  }
+  if (sort == "rule" && ("class", name) in line_of) tell(quoted(name) " is a class: write [" name "], and give its sign a `token` there.")
+  else if (sort == "class" && ("rule", name) in line_of) tell(quoted(name) " is a rule: it stands without square brackets.")
+  else if (sort == "sign" && ("rule", name) in line_of) tell(quoted(name) " is a rule: a rule is an argument, and no alternative.")
+  else if (sort == "rule" && ("sign", name) in line_of) tell(quoted(name) " is a sign: it needs a rule of its own, as `rule r = " name "(..)`.")
+}
+
+function tell_undeclared(number,    i, j, at_token, told, names) {
+  if (shape == "grammar") {
+    show(number, header[number], column[2])
+    tell_missing("rule", declared, 2, "")
+  } else if (shape == "let") tell_undeclared_in_let(number)
+  else if (shape == "rule") {
+    for (i = 1; i <= alternatives && told < 4; i++) {
+      at_token = alternative_at[i]
+      if (!(("sign", token[at_token]) in line_of)) told += tell_undeclared_in_rule(number, "sign", token[at_token], at_token, "in alternative " i " ")
+      for (j = 1; j <= arguments[i] && told < 4; j++) {
+        if (sort[i, j] == "literal") continue
+        names = sort[i, j] == "rule" ? "rule" : "class"
+        at_token = argument_at[i, j] + (names == "class")
+        if (!((names, argument[i, j]) in line_of)) told += tell_undeclared_in_rule(number, names, argument[i, j], at_token, "in alternative " i ", " shown_alternative(i) ", ")
+      }
+    }
+  }
+}
+
+function tell_undeclared_in_rule(number, sort_of_name, name, at_token, what) {
+  if ((sort_of_name, name) in is_told) return 0
+  is_told[sort_of_name, name] = 1
+  show(number, header[number], column[at_token])
+  tell_missing(sort_of_name, name, at_token, what)
+  return 1
+}
+
+function tell_undeclared_in_let(number,    i, j, is_there, list) {
+  if (!(("sign", declared) in line_of)) {
+    show(number, header[number], column[2])
+    tell_missing("sign", declared, 2, "")
+    return
+  }
+  for (j = 1; j <= variables; j++) list[j] = variable[j]
+  for (i = term_at; i <= tokens; i++) {
+    if (token[i] !~ /^[A-Za-z_]/) continue
+    is_there = 0
+    for (j = 1; j <= variables; j++) if (variable[j] == token[i]) is_there = 1
+    if (is_there) continue
+    show(number, header[number], column[i])
+    j = nearest(token[i], list)
+    tell("The variable " quoted(token[i]) " does not stand in brackets behind " quoted(declared) (j == "" ? "." : ": is " quoted(j) " meant?"))
+    return
+  }
+}
+
+# An alternative of the line at hand, as it stands.
+function shown_alternative(i,    text, last) {
+  last = i < alternatives ? column[alternative_at[i + 1]] : length(header[wanted_number]) + 1
+  text = substr(header[wanted_number], column[alternative_at[i]], last - column[alternative_at[i]])
+  sub(/[ |]*$/, "", text)
+  return quoted(text)
+}
+
+function tell_arguments(number,    i, j, sign, wanted, told) {
+  if (shape == "let") {
+    show(number, header[number], column[3])
+    tell("The sign " quoted(declared) " has " plural(kinds_of[declared], "argument") ", and this `let` has " plural(variables, "variable") ":")
+    show(line_of["sign", declared], header[line_of["sign", declared]], 0)
+    return
+  }
+  for (i = 1; i <= alternatives && told < 4; i++) {
+    sign = token[alternative_at[i]]
+    if (!(("sign", sign) in line_of)) continue
+    wanted = kinds_of[sign]
+    if (arguments[i] != wanted) {
+      show(number, header[number], column[alternative_at[i]])
+      tell("Alternative " i ", " shown_alternative(i) ", has " plural(arguments[i], "argument") ", and its sign " wanted ":")
+      show(line_of["sign", sign], header[line_of["sign", sign]], 0)
+      told++
+      continue
+    }
+    for (j = 1; j <= wanted && told < 4; j++) {
+      if ((sort[i, j] == "rule") == (kind_of[sign, j] == "score")) continue
+      show(number, header[number], column[argument_at[i, j]])
+      tell("Alternative " i ", " shown_alternative(i) ": its " nth(j) " argument is " in_words(i, j) ", and there the sign " quoted(sign) " wants a " kind_of[sign, j] ":")
+      show(line_of["sign", sign], header[line_of["sign", sign]], 0)
+      tell(kind_of[sign, j] == "score" ? "A `score` is a part with a tree of its own: put a rule there" (sort[i, j] == "literal" ? "." : ", as `rule r = s([" argument[i, j] "])`.") : "A `token` is letters of the word: put letters in quotes, or a class in square brackets" ((("class", argument[i, j]) in line_of) ? ", as [" argument[i, j] "]." : "."))
+      told++
+    }
+  }
+}
+
+# What should stand for a run whose bounds stand before its class.
+function class_first(    bounds) {
+  for (bounds = at; token[bounds] == ".." || is_digits(token[bounds]); bounds++) continue
+  return fails("the class stands first, and its bounds behind it: [" (is_word(token[bounds]) ? token[bounds] : "letter") " " token[at] ".." (bounds == at + 3 ? token[at + 2] : "") "]")
+}
+
+function in_words(i, j) {
+  if (sort[i, j] == "rule") return "the rule " quoted(argument[i, j])
+  if (sort[i, j] == "literal") return "the literal " quoted(argument[i, j])
+  return sort[i, j] == "run" ? "a run of the class " quoted(argument[i, j]) : "a letter of the class " quoted(argument[i, j])
+}
+
+function tell_run(number,    i, j) {
+  for (i = 1; i <= alternatives; i++) for (j = 1; j <= arguments[i]; j++) {
+    if (high[i, j] == "" || high[i, j] + 0 >= low[i, j] + 0) continue
+    show(number, header[number], column[argument_at[i, j]])
+    tell("In alternative " i ", " shown_alternative(i) ", the run goes from " low[i, j] + 0 " to " high[i, j] + 0 " letters: write [" argument[i, j] " " high[i, j] + 0 ".." low[i, j] + 0 "], or [" argument[i, j] " " low[i, j] + 0 "..] for " low[i, j] + 0 " and more.")
+    return
+  }
+}
+
+function tell_count(number, counted,    what, most, mend) {
+  show(number, number in header ? header[number] : wanted_line, 0)
+  if (words_line && number > words_line) { what = "words"; most = 65536; mend = "Split them among jobs with the same header." }
+  else if (shape == "class") { what = "classes"; most = 64 }
+  else if (shape == "sign" && counted == kinds) { what = "arguments of a sign"; most = 4; mend = "Make it two signs, with a rule between them." }
+  else if (shape == "sign") { what = "signs"; most = 256 }
+  else if (shape == "algebra") { what = "algebras"; most = 16 }
+  else if (counted == alternatives && alternatives != 129) { what = "alternatives of a rule"; most = 64; mend = "Divide them between two rules, of which a sign with one score in the first names the second." }
+  else { what = "rules"; most = 128 }
+  tell("These are " counted " " what ", and there may be at most " most ". " mend)
+}
+
+# Signs without a `let`: for each the line that was meant, or what stands in its place.
+function tell_incomplete(number,    i, last, told, missing) {
+  show(number, header[number], 0)
+  if (shape != "algebra") {
+    i = first_like("algebra", number)
+    tell("No `algebra` line with form stands above it" (i ? ". This one was meant to be one:" : ", as `algebra cost min`."))
+    if (i) show_wrong(i)
+    return
+  }
+  last = section_end(number)
+  for (i = 1; i <= signs_count; i++) {
+    if ((number, signs[i]) in let_of) continue
+    missing++
+    if (told < 4) told += tell_lacking(signs[i], number, last)
+  }
+  if (missing > told) tell("And " plural(missing - told, "sign") " more.")
+}
+
+function section_end(number,    i) {
+  for (i = 1; i <= sections_count; i++) if (sections[i] > number) return sections[i] - 1
+  return header_end()
+}
+
+function tell_lacking(sign, number, last,    near, i) {
+  near = meant_line("let", sign, number + 1, last)
+  if (!near) near = misspelt_let(sign, number + 1, last)
+  if (near) {
+    tell("Here the sign " quoted(sign) " lacks its `let`. This line was meant for it:")
+    show_wrong(near)
+    return 1
+  }
+  for (i = 1; i <= lets_count && !near; i++) {
+    if (let_section[lets[i]] == number && !(("sign", let_sign[lets[i]]) in line_of) && is_like(sign, let_sign[lets[i]])) near = lets[i]
+  }
+  if (near) {
+    tell("Here the sign " quoted(sign) " lacks its `let`. This line has one for " quoted(let_sign[near]) ", which is no sign:")
+    show(near, header[near], index(header[near], let_sign[near]))
+    return 1
+  }
+  tell("Here the sign " quoted(sign) " of line " line_of["sign", sign] " lacks its `let`: no line between this one and line " last + 1 " begins with `let " sign "`.")
+  for (i = 1; i <= lets_count; i++) if (let_sign[lets[i]] == sign) {
+    tell("(Line " lets[i] " has one, but " (let_section[lets[i]] ? "it belongs to the algebra of line " let_section[lets[i]] : "it stands above all algebras") ".)")
+    break
+  }
+  return 1
+}
+
+function is_like(one, other,    list) {
+  list[1] = one
+  return nearest(other, list) != ""
+}
+
+# A line without form whose first word is like `let` and whose second one is this sign.
+function misspelt_let(sign, first, last,    i) {
+  for (i = first; i <= last; i++) {
+    if (!(i in lacks_form)) continue
+    find_tokens(header[i])
+    if (token[2] == sign && token[1] != "sign" && is_like("let", token[1])) return i
+    if (token[1] == sign && token[2] == "(") return i
+  }
+  return 0
+}
+
+# ---- Faults of the grammar
+
+function explain_grammar(kind_number, name,    number) {
+  if (job == "") return
+  read_job(1)
+  wanted_number = -1
+  read_header()
+  print ""
+  if (kind_number == 1) tell_algebras(name)
+  else if (kind_number == 2) tell_unproductive(name)
+  else if (kind_number == 3) tell_loop(name)
+  else if (kind_number == 4) tell_negative(name)
+  tell_section("Faults of the grammar", kind_number)
+}
+
+function tell_algebras(name,    list, n, i) {
+  n = split(names_of["algebra"], list, " ")
+  print bold name_of_job " has no algebra `" name "`." plain
+  tell("It has " (n == 1 ? "one:" : "these:"))
+  for (i = 1; i <= n; i++) show(line_of["algebra", list[i]], header[line_of["algebra", list[i]]], 0)
+  i = nearest(name, list)
+  if (i != "") tell("Is --algebra " i " meant?")
+}
+
+function head_of(sort, name,    number) {
+  number = line_of[sort, name]
+  print bold name_of_job ", line " number ":" plain
+  show(number, header[number], 0)
+}
+
+# The least length of each rule's trees, up to 4001: `least[rule]`; none where a rule has no tree.
+function find_least(    i, a, rule, sum, has_changed) {
+  do {
+    has_changed = 0
+    for (i = 1; i <= rules_count; i++) {
+      rule = rules[i]
+      for (a = 1; a <= alternatives_of[rule]; a++) {
+        sum = least_of_alternative(rule, a)
+        if (sum >= 0 && (!(rule in least) || sum < least[rule])) { least[rule] = sum; has_changed = 1 }
+      }
+    }
+  } while (has_changed)
+}
+
+function least_of_alternative(rule, a,    j, sum, one) {
+  for (j = 1; j <= arguments_of[rule, a]; j++) {
+    one = least_of_argument(rule, a, j)
+    if (one < 0) return -1
+    sum += one
+  }
+  return sum > 4001 ? 4001 : sum
+}
+
+function least_of_argument(rule, a, j,    which) {
+  which = sort_of[rule, a, j]
+  if (which == "literal") return letters_of(argument_of[rule, a, j])
+  if (which == "letter") return 1
+  if (which == "run") return low_of[rule, a, j] + 0
+  return argument_of[rule, a, j] in least ? least[argument_of[rule, a, j]] : -1
+}
+
+function letters_of(literal) {
+  literal = substr(literal, 2, length(literal) - 2)
+  gsub(/\\["\\]/, "x", literal)
+  return length(literal)
+}
+
+# An alternative of a rule of the grammar, in words.
+function spelled(rule, a,    j, text) {
+  for (j = 1; j <= arguments_of[rule, a]; j++) text = text (j > 1 ? ", " : "") spelled_argument(rule, a, j)
+  return quoted(sign_of[rule, a] "(" text ")")
+}
+
+function spelled_argument(rule, a, j,    which) {
+  which = sort_of[rule, a, j]
+  if (which == "letter") return "[" argument_of[rule, a, j] "]"
+  if (which == "run") return "[" argument_of[rule, a, j] " " low_of[rule, a, j] ".." high_of[rule, a, j] "]"
+  return argument_of[rule, a, j]
+}
+
+function tell_unproductive(rule,    a, j, n, told) {
+  head_of("rule", rule)
+  if (!is_small) return
+  find_least()
+  n = alternatives_of[rule]
+  for (a = 1; a <= n && a <= 6; a++) {
+    for (j = 1; j <= arguments_of[rule, a]; j++) if (least_of_argument(rule, a, j) < 0) {
+      tell("Alternative " a ", " spelled(rule, a) ", needs a tree of " (argument_of[rule, a, j] == rule ? "the rule itself." : "the rule " quoted(argument_of[rule, a, j]) ", which has none."))
+      break
+    }
+  }
+  if (n > 6) tell("And so on: none of the " n " alternatives ends.")
+}
+
+# Whether a tree of one rule can be a tree of another with nothing beside it: by the edge's alternative, else 0.
+function edge(from, to,    a, j, k, is_alone) {
+  for (a = 1; a <= alternatives_of[from]; a++) for (j = 1; j <= arguments_of[from, a]; j++) {
+    if (sort_of[from, a, j] != "rule" || argument_of[from, a, j] != to) continue
+    is_alone = 1
+    for (k = 1; k <= arguments_of[from, a]; k++) if (k != j && least_of_argument(from, a, k) != 0) is_alone = 0
+    if (is_alone) { edge_argument = j; return a }
+  }
+  return 0
+}
+
+# Tells a way from the rule back to itself, found breadth first.
+function tell_loop(rule,    queue, first, last, here, i, came, by, way, steps) {
+  head_of("rule", rule)
+  if (!is_small) return
+  find_least()
+  queue[first = last = 1] = rule
+  for (; first <= last; first++) {
+    here = queue[first]
+    for (i = 1; i <= rules_count; i++) {
+      if (rules[i] in came || !edge(here, rules[i])) continue
+      came[rules[i]] = here
+      queue[++last] = rules[i]
+    }
+    if (rule in came) break
+  }
+  if (!(rule in came)) return
+  here = rule
+  do { way[++steps] = here; here = came[here] } while (here != rule)
+  way[steps + 1] = rule
+  for (i = steps + 1; i > 1; i--) {
+    by = edge(way[i], way[i - 1])
+    tell(quoted(way[i]) " leads to " (way[i] == way[i - 1] ? "itself" : quoted(way[i - 1])) " by its alternative " by ", " spelled(way[i], by) empty_beside(way[i], by, edge_argument) ".")
+  }
+}
+
+function empty_beside(rule, a, alone,    j, text) {
+  for (j = 1; j <= arguments_of[rule, a]; j++) if (j != alone && argument_of[rule, a, j] != "\"\"") text = text (text == "" ? "" : " and ") quoted(spelled_argument(rule, a, j))
+  return text == "" ? "" : ", where " text " can be empty"
+}
+
+# The `let` of a sign under the algebra that scores, and the variable with a negative factor.
+function tell_negative(sign,    section, number, j, i, negative) {
+  section = chosen_section()
+  number = let_of[section, sign]
+  if (!number) return
+  print bold name_of_job ", line " number ":" plain
+  wanted_number = number
+  has_form(number)
+  for (j = 1; j <= variables; j++) {
+    if (kind_of[sign, j] != "score") continue
+    for (i = term_at; i <= tokens; i++) if (token[i] == variable[j] && is_negative(i)) {
+      show(number, header[number], column[i])
+      tell("The variable " quoted(variable[j]) " is a score, since the sign has `" kind_of[sign, j] "` in its " nth(j) " place, and the factors of it sum up to less than 0.")
+      return
+    }
+  }
+  show(number, header[number], 0)
+}
+
+function is_negative(i) {
+  if (token[i - 1] == "*") i -= 2
+  return token[i - 1] == "-"
+}
+
+# The line of the algebra that scores.
+function chosen_section(    i) {
+  for (i = 2; i < ARGC - 1; i++) if (ARGV[i] == "--algebra") return line_of["algebra", ARGV[i + 1]]
+  return sections[1]
+}
+
+# ---- Limits
+
+function explain_limit(number, kind_number, size,    longest) {
+  if (job == "") return
+  read_job(1)
+  wanted_number = words_line + number
+  wanted_line = ""
+  read_word(wanted_number)
+  print ""
+  print bold name_of_job ", line " wanted_number ", word " number " of " plural(length(wanted_line), "letter") ":" plain
+  show(wanted_number, wanted_line, 0)
+  longest = ENVIRON["ADP_LONGEST"]
+  if (kind_number > 1 && longest ~ /^[0-9]+$/ && longest + 0 < length(wanted_line)) tell("This job admits a word of " plural(longest, "letter") ", and none of " longest + 1 ".")
+  else if (kind_number > 1 && longest == "none") tell("This job admits no word of any length.")
+  read_header()
+  if (is_small && kind_number == 2) tell_cells(length(wanted_line))
+  else if (is_small && kind_number == 3) tell_doubling()
+  else if (is_small && kind_number == 4) tell_factors()
+  tell_section("Limits of a word", kind_number)
+}
+
+function read_word(number,    line, at_line) {
+  while ((getline line < job) > 0) if (++at_line == number) { wanted_line = line; break }
+  close(job)
+  sub(/\r$/, "", wanted_line)
+}
+
+# The greatest length of each rule's trees: `greatest[rule]`, 4001 where it is more, or has no bound.
+function find_greatest(    round, i, a, j, sum, one, rule, has_changed) {
+  for (i = 1; i <= rules_count; i++) greatest[rules[i]] = -1
+  for (round = 0; round <= rules_count + 1; round++) {
+    has_changed = 0
+    for (i = 1; i <= rules_count; i++) {
+      rule = rules[i]
+      for (a = 1; a <= alternatives_of[rule]; a++) {
+        sum = 0
+        for (j = 1; j <= arguments_of[rule, a] && sum >= 0; j++) {
+          one = greatest_of_argument(rule, a, j)
+          sum = one < 0 ? -1 : sum + one
+        }
+        if (sum > 4001) sum = 4001
+        if (sum > greatest[rule]) { greatest[rule] = round > rules_count ? 4001 : sum; has_changed = 1 }
+      }
+    }
+    if (!has_changed) return
+  }
+}
+
+function greatest_of_argument(rule, a, j,    which) {
+  which = sort_of[rule, a, j]
+  if (which == "literal") return letters_of(argument_of[rule, a, j])
+  if (which == "letter") return 1
+  if (which == "run") return high_of[rule, a, j] == "" ? 4001 : high_of[rule, a, j] + 0
+  return argument_of[rule, a, j] in greatest ? greatest[argument_of[rule, a, j]] : -1
+}
+
+# Which rules are reached, and which of them are free of the word's front or of its end: `is_free[rule, side]`.
+function find_anchors(    has_changed, i, a, j, k, rule, other, axiom) {
+  axiom = axiom_of_job()
+  is_reached[axiom] = 1
+  do {
+    has_changed = 0
+    for (i = 1; i <= rules_count; i++) {
+      rule = rules[i]
+      if (!(rule in is_reached)) continue
+      for (a = 1; a <= alternatives_of[rule]; a++) for (j = 1; j <= arguments_of[rule, a]; j++) {
+        if (sort_of[rule, a, j] != "rule") continue
+        other = argument_of[rule, a, j]
+        if (!(other in is_reached)) { is_reached[other] = 1; has_changed = 1 }
+        for (k = 1; k <= arguments_of[rule, a]; k++) {
+          if (k < j && greatest_of_argument(rule, a, k) != 0) has_changed += frees(other, "front", rule, a)
+          if (k > j && greatest_of_argument(rule, a, k) != 0) has_changed += frees(other, "end", rule, a)
+        }
+        if ((rule, "front") in is_free) has_changed += frees(other, "front", rule, a)
+        if ((rule, "end") in is_free) has_changed += frees(other, "end", rule, a)
+      }
+    }
+  } while (has_changed)
+}
+
+function frees(rule, side, by, a) {
+  if ((rule, side) in is_free) return 0
+  if (side == "end") freed_by[rule] = "in " spelled(by, a) " of the rule " quoted(by) (((by, "end") in is_free) && ends_with(by, a, rule) ? ", which does not go to the end itself" : ", where something stands behind it")
+  is_free[rule, side] = 1
+  return 1
+}
+
+function ends_with(rule, a, other,    n) {
+  n = arguments_of[rule, a]
+  return sort_of[rule, a, n] == "rule" && argument_of[rule, a, n] == other
+}
+
+function axiom_of_job(    number) {
+  for (number = 2; number <= header_end(); number++) if (number in header && header[number] ~ /^ *grammar /) {
+    find_tokens(header[number])
+    return token[2]
+  }
+}
+
+# How many cells a rule has in a word of n letters.
+function cells_of(rule, n,    l, high_length, sum) {
+  if (!(rule in least)) return 0
+  high_length = greatest[rule] < n ? greatest[rule] : n
+  for (l = least[rule]; l <= high_length; l++) {
+    if ((rule, "front") in is_free && (rule, "end") in is_free) sum += n - l + 1
+    else if ((rule, "front") in is_free || (rule, "end") in is_free) sum++
+    else sum += l == n
+  }
+  return sum + 0
+}
+
+# The rules with most cells, and what frees them.
+function tell_cells(n,    i, rule, told, most, best, cells, is_shown) {
+  find_least()
+  find_greatest()
+  find_anchors()
+  for (i = 1; i <= rules_count; i++) cells[rules[i]] = cells_of(rules[i], n)
+  tell("The rules with most cells in it:")
+  for (told = 0; told < 4; told++) {
+    most = 0
+    for (i = 1; i <= rules_count; i++) if (!(rules[i] in is_shown) && cells[rules[i]] > most) { most = cells[rules[i]]; best = rules[i] }
+    if (most <= n + 1 && told > 0 || most == 0) break
+    is_shown[best] = 1
+    tell("  " quoted(best) ", " most " cells: " (((best, "end") in is_free && (best, "front") in is_free) ? "for each pair of places, since it is named " freed_by[best] "." : "one for each place."))
+  }
+}
+
+# Alternatives that name two rules or more that can be empty.
+function tell_doubling(    i, a, j, rule, names, told) {
+  find_least()
+  for (i = 1; i <= rules_count && told < 3; i++) {
+    rule = rules[i]
+    for (a = 1; a <= alternatives_of[rule] && told < 3; a++) {
+      names = 0
+      for (j = 1; j <= arguments_of[rule, a]; j++) if (sort_of[rule, a, j] == "rule" && least_of_argument(rule, a, j) == 0) names++
+      if (names < 2) continue
+      if (!told++) tell("These alternatives name several rules that can be empty:")
+      show(line_of["rule", rule], rule " = .. " substr(spelled(rule, a), 2, length(spelled(rule, a)) - 2) " ..", 0)
+    }
+  }
+}
+
+# The `let` lines with a factor above 1 for a score; where there is none, those with the greatest numbers.
+function tell_factors(    i, j, number, sign, section, told, best, widest, width) {
+  section = chosen_section()
+  for (i = 1; i <= lets_count; i++) {
+    number = lets[i]
+    if (let_section[number] != section) continue
+    sign = let_sign[number]
+    has_form(number)
+    for (j = term_at; j <= tokens; j++) {
+      if (token[j] ~ /^[0-9]/ && length(token[j]) > width) { width = length(token[j]); widest = number }
+      if (token[j] != "*" || token[j - 1] + 0 < 2 || !is_score(sign, token[j + 1])) continue
+      if (!told++) tell("A factor above 1 for a score multiplies at each step:")
+      if (told < 5) show(number, header[number], column[j - 1])
+      break
+    }
+  }
+  if (!told && widest) {
+    tell("No factor of a score is above 1: what makes it so great is the numbers, as here, or weights of classes:")
+    show(widest, header[widest], 0)
+  }
+}
+
+function is_score(sign, name,    j) {
+  for (j = 1; j <= variables; j++) if (variable[j] == name) return kind_of[sign, j] == "score"
+  return 0
+}
+
+# ---- The command
+
+function explain_usage(    i, words, word, value, given, near) {
+  words = "adp"
+  for (i = 1; i < ARGC; i++) words = words " " ARGV[i]
+  print ""
+  print bold "The command: " printed(words) plain
+  word = ARGV[1]
+  if (ARGC == 1) tell("The first word is the mode: best or serial, as in `adp best " (name_of_job == "standard input" ? "FILE" : name_of_job) "`.")
+  else if (word != MODES[1] && word != MODES[2]) tell_mode(word)
+  else {
+    for (i = 2; i < ARGC; i += 2) if (tell_option(ARGV[i], i + 1 < ARGC, ARGV[i + 1], given)) break
+  }
+  tell_row("fault usage")
+}
+
+function tell_mode(word,    near) {
+  near = nearest(word, MODES)
+  if (near != "") tell("The mode " quoted(word) " is none: is " quoted(near) " meant?")
+  else if (word ~ /^-/) tell(quoted(word) " stands first, where the mode has to be: best or serial. Options follow it.")
+  else if (is_file(word)) tell("The mode stands before the file: adp best " printed(word))
+  else tell("The first word is the mode, best or serial, and not " quoted(word) ".")
+}
+
+function is_file(path,    line, got) {
+  got = (getline line < path)
+  close(path)
+  return got >= 0
+}
+
+# Tells what is wrong with an option and its value; 0 where nothing is.
+function tell_option(word, has_value, value, given,    near, most) {
+  if (word !~ /^--/) {
+    if (word ~ /^-[a-z]/) {
+      near = "--algebra"
+      for (most = 1; most <= 3; most++) if (index(OPTIONS[most], "-" word) == 1) near = OPTIONS[most]
+      tell(quoted(word) " is no option: options have two dashes and a whole word, as " near ".")
+    }
+    else tell(quoted(word) " is no file that is there, and no option: options begin with `--`.")
+    return 1
+  }
+  if (word ~ /=/ ) { tell(quoted(word) ": a space stands between an option and its value, and no `=`."); return 1 }
+  if (word != OPTIONS[1] && word != OPTIONS[2] && word != OPTIONS[3]) {
+    near = nearest(word, OPTIONS)
+    tell(quoted(word) " is no option" (near == "" ? ": there are --algebra, --workers and --seed." : ": is " near " meant?"))
+    return 1
+  }
+  if (word in given) { tell("The option " word " stands twice."); return 1 }
+  given[word] = 1
+  if (!has_value) { tell("The option " word " has no value behind it."); return 1 }
+  if (word == "--algebra") {
+    if (is_name(value)) return 0
+    tell(quoted(value) " is no name of an algebra: a name begins with a letter, and has at most 32 letters, digits and `_`.")
+    return 1
+  }
+  most = word == "--workers" ? "32" : "18446744073709551615"
+  if (!is_digits(value) && is_file(value)) { tell("The option " word " lacks its value: the file " quoted(value) " stands in its place."); return 1 }
+  if (!is_digits(value)) { tell("The value of " word " is digits alone, and not " quoted(value) "."); return 1 }
+  if (is_more(value, most) || (word == "--workers" && value + 0 == 0)) {
+    tell("The value of " word " lies between " (word == "--workers" ? 1 : 0) " and " most ", and is not " quoted(value) ".")
+    return 1
+  }
+  return 0
+}
+
+# Faults of reading, writing and memory.
+function explain_run() {
+  print ""
+  print bold name_of_job ":" plain
+  tell_row(fault)
+}
