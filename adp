@@ -81,12 +81,12 @@ crates() {
 # The checksum of each file that the program is proved and built from: crates.txt, and the code, the definitions and the
 # proofs of these crates. What else lies about, as an editor's files, does not count. The roots are on standard input.
 checksums() {
-  local roots
-  mapfile -t roots
+  local listed
+  mapfile -t listed
   (
     cd -- "$top" || exit
-    [ ${#roots[@]} -gt 1 ] || exit
-    find "${roots[@]}" -path 'crates/*/out' -prune -o -type f \
+    [ ${#listed[@]} -gt 1 ] || exit
+    find "${listed[@]}" -path 'crates/*/out' -prune -o -type f \
       \( -name '*.rt' -o -name '*.antt' -o -name crates.txt \) -print0 | sort -z | xargs -0 sha256sum
   )
 }
@@ -95,7 +95,7 @@ roots() {
   local names
   names=$(crates) || return
   printf 'crates.txt\n'
-  printf 'crates/%s\n' $names
+  printf 'crates/%s\n' ${names//$'\n'/ }
 }
 
 # One number for all of these files.
@@ -116,6 +116,7 @@ stamps() {
 
 # Walks over these files and folders of the checkout, and does this with each that decides which program is used.
 walk() {
+  # (they stand in one line, and no name has a space)
   local roots=$1
   shift
   cd -- "$top" && exec find . $roots -path . -prune "$@" -o -path 'crates/*/out' -prune -o "$@"
