@@ -81,12 +81,12 @@ crates() {
 # The checksum of each file that the program is proved and built from: crates.txt, and the code, the definitions and the
 # proofs of these crates. What else lies about, as an editor's files, does not count. The roots are on standard input.
 checksums() {
-  local listed
-  mapfile -t listed
+  local given
+  mapfile -t given
   (
     cd -- "$top" || exit
-    [ ${#listed[@]} -gt 1 ] || exit
-    find "${listed[@]}" -path 'crates/*/out' -prune -o -type f \
+    [ ${#given[@]} -gt 1 ] || exit
+    find "${given[@]}" -path 'crates/*/out' -prune -o -type f \
       \( -name '*.rt' -o -name '*.antt' -o -name crates.txt \) -print0 | sort -z | xargs -0 sha256sum
   )
 }
@@ -148,7 +148,7 @@ last_change() {
 # could be changed again without a trace, so nothing is left then.
 leave_stamp() {
   local path=$1 roots=$2 last=$3 stamp
-  [ -n "$last" ] && [ "${last%.*}" -lt $((EPOCHSECONDS - 1)) ] || return 0
+  [ "${last%.*}" -lt $((EPOCHSECONDS - 1)) ] || return 0
   while read -r stamp; do
     case $stamp in /*) mkdir -p -- "${stamp%/*}" 2>/dev/null ;; esac
     stamp=${stamp/#prebuilt/$top/prebuilt}
@@ -223,12 +223,14 @@ watch() {
 build() {
   local sum=$1 why=$2 log job built=$top/crates/adp/out/adp
   command -v rt >/dev/null || {
-    say "$why; so the program has to be built, and 'rt', the command of the Rattle toolchain, is not installed (README.md)"
+    say "$why; so the program has to be built, and 'rt' of the Rattle toolchain is not on the PATH (README.md)"
     return 1
   }
   say "$why"
   say "so the program is proved and built now, once: this takes 20 to 40 minutes"
-  case $why in *since\ prebuilt/adp*) say "(as it was before that change it can be run by itself: $top/prebuilt/adp)" ;; esac
+  case $why in
+    *since\ prebuilt/adp*) say "(as it was before that change it can be run by itself: $top/prebuilt/adp)" ;;
+  esac
   log=$(mktemp) || return 1
   # The build ends by a run of the program; what that run prints is of no use here. It has a process group of its own,
   # so that all of it can be ended.
@@ -252,15 +254,17 @@ build() {
 
 # Finds the program by reading all that it depends on, and builds it where that is needed: sets `program`.
 find_program() {
-  local listed='' sum='' folders='' last why path=prebuilt/adp
+  local listed='' sum='' names=() folders='' last why path=prebuilt/adp
   need awk cut find mv rm sed sha256sum sort touch uname xargs
   if [ -d "$top/crates" ]; then
-    folders=$(roots | tr '\n' ' ')
-    last=$(last_change "$folders $path prebuilt/sources" 2>/dev/null)
+    mapfile -t names < <(roots)
+    [ ${#names[@]} -gt 1 ] || fail "$top/crates.txt does not tell what the program is built from"
+    folders=${names[*]}
+    last=$(last_change "$folders $path prebuilt/sources" 2>/dev/null) || last=
     listed=$(checksums < <(roots)) && sum=$(sha256sum <<<"$listed" | cut -d ' ' -f 1)
     [ -n "$sum" ] || fail "the sources in $top/crates cannot be read"
   elif [ -f "$top/prebuilt/adp" ]; then
-    last=$(last_change "$path prebuilt/sources")
+    last=$(last_change "$path prebuilt/sources") || last=
   else
     fail "neither prebuilt/ nor crates/ stands beside $self: run it in its checkout, or install it by tools/install"
   fi
@@ -269,11 +273,13 @@ find_program() {
     path=crates/adp/out/adp
     [ -n "$sum" ] || fail "$why"
     is_built "$path" "$sum" || build "$sum" "$why" || fail "the program could not be built"
-    last=$(last_change "$folders $path ${path%/*}/sources")
+    last=$(last_change "$folders $path ${path%/*}/sources") || last=
   fi
   program=$top/$path
   folders="$folders $path ${path%/*}/sources"
-  [ "$last" = "$(last_change "$folders")" ] && leave_stamp "$path" "$folders" "$last"
+  if [ -n "$last" ] && [ "$last" = "$(last_change "$folders")" ]; then
+    leave_stamp "$path" "$folders" "$last"
+  fi
 }
 
 # ---- Runs

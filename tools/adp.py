@@ -138,8 +138,8 @@ def read_reports(text):
 
 
 def write_job(*, signs, algebras, rules, words=(), classes=None, grammar=None):
-    """The text of a job. `signs`: of each its kinds, 'token' or 'score'. `algebras`: of each 'min' or 'max', and of each
-    sign with its variables, as 'put(x, y)', its term. `rules`: of each its alternatives; the first is the whole word's,
+    """The text of a job. `signs`: of each its kinds, 'token' or 'score'. `algebras`: of each 'min' or 'max', and of
+    each sign with its variables, as 'put(x, y)', its term. `rules`: of each its alternatives; the first is the whole word's,
     unless `grammar` names another. `classes`: of each the weight of each letter, or of several letters at once."""
     lines = ["adp 1"]
     for name, weights in (classes or {}).items():

@@ -221,7 +221,8 @@ function strange(text, at,    byte, two, three) {
   if (three == "\342\200\246") return "an ellipsis of one letter stands here: put .."
   if (three == "\303\227" || two == "\302\267" || two == "\303\227") return "a times sign stands here: put *"
   if (three == "\357\273\277") return "a byte order mark stands here: save the file without it (UTF-8 without BOM)"
-  if (byte >= "\302" && byte <= "\364") return "a letter stands here that is not ASCII; a job has none, so write it otherwise, by one letter for each"
+  if (byte >= "\302" && byte <= "\364") return "a letter stands here that is not ASCII; a job has none, so write " \
+      "it otherwise, by one letter for each"
   return "the byte \\x" hex(byte) " stands here, which is not printable ASCII"
 }
 
@@ -312,7 +313,8 @@ function parse_class() {
     }
     item_at[++items] = at++
     if (token[at] == "-") at++
-    if (!is_word(token[at])) return fails(seen() ", where the weight of the letters before it should be: each quoted text has a number behind it, as 0")
+    if (!is_word(token[at])) return fails(seen() ", where the weight of the letters before it should be: each " \
+        "quoted text has a number behind it, as 0")
     weight_at[items] = at++
   }
   return 1
@@ -323,7 +325,8 @@ function parse_sign() {
   kinds = 0
   do {
     if (token[at] != "score" && token[at] != "token") {
-      return fails(seen() ", where a kind should be: `token` for letters of the word, or `score` for a part with a score")
+      return fails(seen() ", where a kind should be: `token` for letters of the word, or `score` for a part with a " \
+          "score")
     }
     kind[++kinds] = token[at++]
   } while (token[at] == "," && at++)
@@ -333,7 +336,8 @@ function parse_sign() {
 
 function parse_algebra() {
   if (!eat_word("the name of the algebra")) return 0
-  if (token[at] != "min" && token[at] != "max") return fails(seen() ", where `min` or `max` should be: whether the least or the greatest score is best")
+  if (token[at] != "min" && token[at] != "max") return fails(seen() ", where `min` or `max` should be: whether the " \
+      "least or the greatest score is best")
   at++
   return at_end("")
 }
@@ -364,7 +368,8 @@ function parse_term() {
 
 function parse_part() {
   if (token[at] == "(") return no_brackets()
-  if (token[at] == "+" || token[at] == "-") return fails(seen() ", where a number or a variable should be: there is one sign at a time, and no `+` in front")
+  if (token[at] == "+" || token[at] == "-") return fails(seen() ", where a number or a variable should be: there " \
+      "is one sign at a time, and no `+` in front")
   if (!eat_word("a number or a variable")) return 0
   if (token[at - 1] !~ /^[0-9]/ || token[at] != "*") return 1
   at++
@@ -382,11 +387,14 @@ function behind_part(    before, behind) {
   if (token[at] == "*") {
     if (before ~ /^[0-9]/ || token[at - 2] == "*") return fails("there is one factor and one variable in a product")
     if (behind ~ /^[0-9]/) return fails("a factor stands before its variable: write " behind "*" before)
-    return fails("there is no product of two variables: terms are linear, and what a step depends on besides has to be known to its rule (docs/GUIDE.md, the product of matrices)")
+    return fails("there is no product of two variables: terms are linear, and what a step depends on besides has " \
+        "to be known to its rule (docs/GUIDE.md, the product of matrices)")
   }
-  if (token[at] == "(" && (before == "min" || before == "max")) return fails("a term has no `" before "`: give each case a sign of its own, and let the goal choose between the alternatives")
+  if (token[at] == "(" && (before == "min" || before == "max")) return fails("a term has no `" before \
+      "`: give each case a sign of its own, and let the goal choose between the alternatives")
   if (token[at] == "(") return no_brackets()
-  if (token[at] == "." && before ~ /^[0-9]/) return fails("numbers are whole: multiply all numbers of the algebra by 10, 100 or more")
+  if (token[at] == "." && before ~ /^[0-9]/) return fails("numbers are whole: multiply all numbers of the algebra " \
+      "by 10, 100 or more")
   if (token[at] == ".." && before ~ /^[0-9]/) return fails("numbers are whole, and a term has no dots")
   if (token[at] == "/") return fails("there is no division: multiply all numbers of the algebra so that each is whole")
   if (token[at] == "^") return fails("there is no power: write the number that it is")
@@ -396,7 +404,8 @@ function behind_part(    before, behind) {
 
 function parse_rule() {
   if (!eat_word("the name of the rule")) return 0
-  if (token[at] != "=" && is_word(token[at]) && token[at + 1] == "=") return fails("a name is one word: letters, digits and `_`")
+  if (token[at] != "=" && is_word(token[at]) && token[at + 1] == "=") return \
+      fails("a name is one word: letters, digits and `_`")
   if (!eat("=")) return 0
   alternatives = 0
   do {
@@ -408,20 +417,26 @@ function parse_rule() {
 }
 
 function parse_alternative() {
-  if (substr(token[at], 1, 1) == "\"" || token[at] == "[") return fails("an alternative is a sign with its arguments in brackets, and no " (token[at] == "[" ? "letter" : "literal") " alone: give it a sign")
+  if (substr(token[at], 1, 1) == "\"" || token[at] == "[") return fails("an alternative is a sign with its " \
+      "arguments in brackets, and no " (token[at] == "[" ? "letter" : "literal") " alone: give it a sign")
   if (!eat_word("an alternative")) return 0
   alternative_at[++alternatives] = at - 1
   arguments[alternatives] = 0
   if (token[at] != "(") {
-    if (at > tokens || token[at] == "|") return fails(quoted(token[at - 1]) " is no alternative alone: an alternative is a sign with its arguments in brackets, as " token[at - 1] "(\"\")" (is_rule_elsewhere(token[at - 1]) ? "; for the rule " token[at - 1] " take a sign with one score" : ""))
+    if (at > tokens || token[at] == "|") return fails(quoted(token[at - 1]) \
+        " is no alternative alone: an alternative is a sign with its arguments in brackets, as " token[at - 1] \
+        "(\"\")" (is_rule_elsewhere(token[at - 1]) ? "; for the rule " token[at - 1] " take a sign with one score" : \
+        ""))
     return eat("(")
   }
   at++
   do {
     if (!parse_argument(++arguments[alternatives])) return 0
   } while (token[at] == "," && at++)
-  if (token[at] == "(") return fails("an argument is a rule, letters in quotes, or a class in square brackets: a nested " quoted(token[at - 1] "(..)") " needs a rule of its own")
-  if (is_word(token[at]) || token[at] == "[" || substr(token[at], 1, 1) == "\"") return fails("a `,` is missing before " quoted(token[at]))
+  if (token[at] == "(") return fails("an argument is a rule, letters in quotes, or a class in square brackets: a " \
+      "nested " quoted(token[at - 1] "(..)") " needs a rule of its own")
+  if (is_word(token[at]) || token[at] == "[" || substr(token[at], 1, 1) == "\"") return \
+      fails("a `,` is missing before " quoted(token[at]))
   return eat(")")
 }
 
@@ -434,9 +449,11 @@ function parse_argument(j,    i) {
   i = alternatives
   argument_at[i, j] = at
   low[i, j] = high[i, j] = ""
-  if (substr(token[at], 1, 1) == "\"" && at <= tokens && at != offence) { sort[i, j] = "literal"; argument[i, j] = token[at++]; return 1 }
+  if (substr(token[at], 1, 1) == "\"" && at <= tokens && at != offence) { sort[i, j] = "literal"; argument[i, j] = \
+      token[at++]; return 1 }
   if (is_word(token[at])) { sort[i, j] = "rule"; argument[i, j] = token[at++]; return 1 }
-  if (token[at] != "[") return fails(seen() ", where an argument should be: a rule, letters in quotes, or a class in square brackets")
+  if (token[at] != "[") return fails(seen() ", where an argument should be: a rule, letters in quotes, or a class " \
+      "in square brackets")
   at++
   if (token[at] ~ /^[0-9]/) return class_first()
   if (!eat_word("the name of a class")) return 0
@@ -448,7 +465,8 @@ function parse_argument(j,    i) {
   if (!is_word(token[at])) return fails(seen() ", where `]` or the least number of letters should be")
   low[i, j] = token[at++]
   if (token[at] == "-") return fails("two dots stand between the bounds of a run: [" argument[i, j] " " low[i, j] "..]")
-  if (token[at] == "." || token[at] == "]" || token[at] == ",") return fails("a run has two dots: [" argument[i, j] " " low[i, j] ".." low[i, j] "] for just so many letters")
+  if (token[at] == "." || token[at] == "]" || token[at] == ",") return fails("a run has two dots: [" argument[i, j] \
+      " " low[i, j] ".." low[i, j] "] for just so many letters")
   if (!eat("..")) return 0
   if (is_word(token[at])) high[i, j] = token[at++]
   return eat("]")
@@ -560,7 +578,8 @@ function distance(one, other,    i, j, n, m, cost, row, least) {
       least = row[i - 1, j - 1] + cost
       if (row[i - 1, j] + 1 < least) least = row[i - 1, j] + 1
       if (row[i, j - 1] + 1 < least) least = row[i, j - 1] + 1
-      if (i > 1 && j > 1 && substr(one, i, 1) == substr(other, j - 1, 1) && substr(one, i - 1, 1) == substr(other, j, 1) && row[i - 2, j - 2] + 1 < least) least = row[i - 2, j - 2] + 1
+      if (i > 1 && j > 1 && substr(one, i, 1) == substr(other, j - 1, 1) && substr(one, i - 1, 1) == substr(other, \
+          j, 1) && row[i - 2, j - 2] + 1 < least) least = row[i - 2, j - 2] + 1
       row[i, j] = least
     }
   }
@@ -612,10 +631,12 @@ function tell_first_line() {
   if (lines == 0) { tell("The job is empty."); return }
   show(1, wanted_line, 1)
   if (wanted_line ~ /^\357\273\277/) tell(sentence(strange(wanted_line, 1)))
-  else if (wanted_line ~ /^\377\376|^\376\377/ || wanted_line ~ /^a?$/ && lines > 1 && wanted_line != "") tell("The file seems to be UTF-16: save it as plain text, ASCII or UTF-8.")
+  else if (wanted_line ~ /^\377\376|^\376\377/ || wanted_line ~ /^a?$/ && lines > 1 && wanted_line != "") \
+      tell("The file seems to be UTF-16: save it as plain text, ASCII or UTF-8.")
   else if (wanted_line ~ /^[ \t]*$/) tell("The first line is empty: `adp 1` has to be the very first one.")
   else if (wanted_line ~ /^#/) tell("A comment stands first: `adp 1` has to be the very first line.")
-  else if (tolower(wanted_line) ~ /^[ \t]*adp[ \t]*1[ \t]*$/) tell("Only `adp 1` itself will do: small letters, one space, and none before or behind.")
+  else if (tolower(wanted_line) ~ /^[ \t]*adp[ \t]*1[ \t]*$/) tell("Only `adp 1` itself will do: small letters, " \
+      "one space, and none before or behind.")
   else if (wanted_line ~ /^adp [0-9]+$/) tell("This program reads the format `adp 1`.")
   else tell("A job begins with the line `adp 1`.")
 }
@@ -626,7 +647,8 @@ function tell_strange_byte(number,    text) {
   wrong_at = RSTART
   show(number, text, wrong_at)
   tell(sentence(strange(text, wrong_at)))
-  if (words_line && number > words_line) tell("This line is a word: all that stands behind the line `words` (line " words_line ") is words.")
+  if (words_line && number > words_line) tell("This line is a word: all that stands behind the line `words` (line " \
+      words_line ") is words.")
 }
 
 # A word in the place of a name that is none.
@@ -661,9 +683,11 @@ function tell_number(number,    i, word, place) {
   }
   show(number, header[number], place ? column[place] : 0)
   word = token[place]
-  if (!place) tell("The sum of the plain numbers, or of the factors of one variable, passes " MOST ", which is 2^62 - 1.")
+  if (!place) tell("The sum of the plain numbers, or of the factors of one variable, passes " MOST \
+      ", which is 2^62 - 1.")
   else if (is_digits(word)) tell(quoted(word) " is more than " bound_of_number(place) ".")
-  else if (word ~ /^[0-9]+[A-Za-z]/ && shape == "let") tell(quoted(word) " is neither a number nor a name: a `*` stands between a factor and its variable.")
+  else if (word ~ /^[0-9]+[A-Za-z]/ && shape == "let") tell(quoted(word) \
+      " is neither a number nor a name: a `*` stands between a factor and its variable.")
   else tell(quoted(word) " is no number: a number is digits alone.")
 }
 
@@ -771,7 +795,8 @@ function first_like(word, last,    i, front, list) {
 function tell_axiom(number,    first, near) {
   show(number, header[number], 0)
   first = 0
-  for (near = 2; near < number && !first; near++) if (header[near] ~ /^ *grammar [^=]*$/ && !(near in lacks_form)) first = near
+  for (near = 2; near < number && !first; near++) if (header[near] ~ /^ *grammar [^=]*$/ && !(near in lacks_form)) \
+      first = near
   if (shape == "grammar" && first) {
     tell("A job has one `grammar` line, and this is the second. The first:")
     show(first, header[first], 0)
@@ -782,7 +807,8 @@ function tell_axiom(number,    first, near) {
     tell("No line `grammar RULE` with form stands above it. This one was meant for it:")
     show_wrong(near)
   } else {
-    tell("No line `grammar RULE` stands above it" (rules_count ? ": perhaps `grammar " rules[1] "`, with the rule of the whole word." : "."))
+    tell("No line `grammar RULE` stands above it" (rules_count ? ": perhaps `grammar " rules[1] \
+        "`, with the rule of the whole word." : "."))
   }
 }
 
@@ -796,10 +822,14 @@ function tell_missing(sort, name, place, what,    near, other) {
     has_form(wanted_number)
     return
   }
-  if (sort == "rule" && ("class", name) in line_of) tell(quoted(name) " is a class: write [" name "], and give its sign a `token` there.")
-  else if (sort == "class" && ("rule", name) in line_of) tell(quoted(name) " is a rule: it stands without square brackets.")
-  else if (sort == "sign" && ("rule", name) in line_of) tell(quoted(name) " is a rule: a rule is an argument, and no alternative.")
-  else if (sort == "rule" && ("sign", name) in line_of) tell(quoted(name) " is a sign: it needs a rule of its own, as `rule r = " name "(..)`.")
+  if (sort == "rule" && ("class", name) in line_of) tell(quoted(name) " is a class: write [" name \
+      "], and give its sign a `token` there.")
+  else if (sort == "class" && ("rule", name) in line_of) tell(quoted(name) \
+      " is a rule: it stands without square brackets.")
+  else if (sort == "sign" && ("rule", name) in line_of) tell(quoted(name) \
+      " is a rule: a rule is an argument, and no alternative.")
+  else if (sort == "rule" && ("sign", name) in line_of) tell(quoted(name) \
+      " is a sign: it needs a rule of its own, as `rule r = " name "(..)`.")
 }
 
 function tell_undeclared(number,    i, j, at_token, told, names) {
@@ -810,12 +840,14 @@ function tell_undeclared(number,    i, j, at_token, told, names) {
   else if (shape == "rule") {
     for (i = 1; i <= alternatives && told < 4; i++) {
       at_token = alternative_at[i]
-      if (!(("sign", token[at_token]) in line_of)) told += tell_undeclared_in_rule(number, "sign", token[at_token], at_token, "in alternative " i " ")
+      if (!(("sign", token[at_token]) in line_of)) told += tell_undeclared_in_rule(number, "sign", token[at_token], \
+          at_token, "in alternative " i " ")
       for (j = 1; j <= arguments[i] && told < 4; j++) {
         if (sort[i, j] == "literal") continue
         names = sort[i, j] == "rule" ? "rule" : "class"
         at_token = argument_at[i, j] + (names == "class")
-        if (!((names, argument[i, j]) in line_of)) told += tell_undeclared_in_rule(number, names, argument[i, j], at_token, "in alternative " i ", " shown_alternative(i) ", ")
+        if (!((names, argument[i, j]) in line_of)) told += tell_undeclared_in_rule(number, names, argument[i, j], \
+            at_token, "in alternative " i ", " shown_alternative(i) ", ")
       }
     }
   }
@@ -843,7 +875,8 @@ function tell_undeclared_in_let(number,    i, j, is_there, list) {
     if (is_there) continue
     show(number, header[number], column[i])
     j = nearest(token[i], list)
-    tell("The variable " quoted(token[i]) " does not stand in brackets behind " quoted(declared) (j == "" ? "." : ": is " quoted(j) " meant?"))
+    tell("The variable " quoted(token[i]) " does not stand in brackets behind " quoted(declared) (j == "" ? "." : \
+        ": is " quoted(j) " meant?"))
     return
   }
 }
@@ -859,7 +892,8 @@ function shown_alternative(i,    text, last) {
 function tell_arguments(number,    i, j, sign, wanted, told) {
   if (shape == "let") {
     show(number, header[number], column[3])
-    tell("The sign " quoted(declared) " has " plural(kinds_of[declared], "argument") ", and this `let` has " plural(variables, "variable") ":")
+    tell("The sign " quoted(declared) " has " plural(kinds_of[declared], "argument") ", and this `let` has " \
+        plural(variables, "variable") ":")
     show(line_of["sign", declared], header[line_of["sign", declared]], 0)
     return
   }
@@ -869,7 +903,8 @@ function tell_arguments(number,    i, j, sign, wanted, told) {
     wanted = kinds_of[sign]
     if (arguments[i] != wanted) {
       show(number, header[number], column[alternative_at[i]])
-      tell("Alternative " i ", " shown_alternative(i) ", has " plural(arguments[i], "argument") ", and its sign " wanted ":")
+      tell("Alternative " i ", " shown_alternative(i) ", has " plural(arguments[i], "argument") ", and its sign " \
+          wanted ":")
       show(line_of["sign", sign], header[line_of["sign", sign]], 0)
       told++
       continue
@@ -877,9 +912,13 @@ function tell_arguments(number,    i, j, sign, wanted, told) {
     for (j = 1; j <= wanted && told < 4; j++) {
       if ((sort[i, j] == "rule") == (kind_of[sign, j] == "score")) continue
       show(number, header[number], column[argument_at[i, j]])
-      tell("Alternative " i ", " shown_alternative(i) ": its " nth(j) " argument is " in_words(i, j) ", and there the sign " quoted(sign) " wants a " kind_of[sign, j] ":")
+      tell("Alternative " i ", " shown_alternative(i) ": its " nth(j) " argument is " in_words(i, j) \
+          ", and there the sign " quoted(sign) " wants a " kind_of[sign, j] ":")
       show(line_of["sign", sign], header[line_of["sign", sign]], 0)
-      tell(kind_of[sign, j] == "score" ? "A `score` is a part with a tree of its own: put a rule there" (sort[i, j] == "literal" ? "." : ", as `rule r = s([" argument[i, j] "])`.") : "A `token` is letters of the word: put letters in quotes, or a class in square brackets" ((("class", argument[i, j]) in line_of) ? ", as [" argument[i, j] "]." : "."))
+      tell(kind_of[sign, j] == "score" ? "A `score` is a part with a tree of its own: put a rule there" (sort[i, j] \
+          == "literal" ? "." : ", as `rule r = s([" argument[i, j] "])`.") : \
+          "A `token` is letters of the word: put letters in quotes, or a class in square brackets" ((("class", \
+          argument[i, j]) in line_of) ? ", as [" argument[i, j] "]." : "."))
       told++
     }
   }
@@ -888,32 +927,39 @@ function tell_arguments(number,    i, j, sign, wanted, told) {
 # What should stand for a run whose bounds stand before its class.
 function class_first(    bounds) {
   for (bounds = at; token[bounds] == ".." || is_digits(token[bounds]); bounds++) continue
-  return fails("the class stands first, and its bounds behind it: [" (is_word(token[bounds]) ? token[bounds] : "letter") " " token[at] ".." (bounds == at + 3 ? token[at + 2] : "") "]")
+  return fails("the class stands first, and its bounds behind it: [" (is_word(token[bounds]) ? token[bounds] : \
+      "letter") " " token[at] ".." (bounds == at + 3 ? token[at + 2] : "") "]")
 }
 
 function in_words(i, j) {
   if (sort[i, j] == "rule") return "the rule " quoted(argument[i, j])
   if (sort[i, j] == "literal") return "the literal " quoted(argument[i, j])
-  return sort[i, j] == "run" ? "a run of the class " quoted(argument[i, j]) : "a letter of the class " quoted(argument[i, j])
+  return sort[i, j] == "run" ? "a run of the class " quoted(argument[i, j]) : "a letter of the class " \
+      quoted(argument[i, j])
 }
 
 function tell_run(number,    i, j) {
   for (i = 1; i <= alternatives; i++) for (j = 1; j <= arguments[i]; j++) {
     if (high[i, j] == "" || high[i, j] + 0 >= low[i, j] + 0) continue
     show(number, header[number], column[argument_at[i, j]])
-    tell("In alternative " i ", " shown_alternative(i) ", the run goes from " low[i, j] + 0 " to " high[i, j] + 0 " letters: write [" argument[i, j] " " high[i, j] + 0 ".." low[i, j] + 0 "], or [" argument[i, j] " " low[i, j] + 0 "..] for " low[i, j] + 0 " and more.")
+    tell("In alternative " i ", " shown_alternative(i) ", the run goes from " low[i, j] + 0 " to " high[i, j] + 0 \
+        " letters: write [" argument[i, j] " " high[i, j] + 0 ".." low[i, j] + 0 "], or [" argument[i, j] " " low[i, \
+        j] + 0 "..] for " low[i, j] + 0 " and more.")
     return
   }
 }
 
 function tell_count(number, counted,    what, most, mend) {
   show(number, number in header ? header[number] : wanted_line, 0)
-  if (words_line && number > words_line) { what = "words"; most = 65536; mend = "Split them among jobs with the same header." }
+  if (words_line && number > words_line) { what = "words"; most = 65536; mend = \
+      "Split them among jobs with the same header." }
   else if (shape == "class") { what = "classes"; most = 64 }
-  else if (shape == "sign" && counted == kinds) { what = "arguments of a sign"; most = 4; mend = "Make it two signs, with a rule between them." }
+  else if (shape == "sign" && counted == kinds) { what = "arguments of a sign"; most = 4; mend = \
+      "Make it two signs, with a rule between them." }
   else if (shape == "sign") { what = "signs"; most = 256 }
   else if (shape == "algebra") { what = "algebras"; most = 16 }
-  else if (counted == alternatives && alternatives != 129) { what = "alternatives of a rule"; most = 64; mend = "Divide them between two rules, of which a sign with one score in the first names the second." }
+  else if (counted == alternatives && alternatives != 129) { what = "alternatives of a rule"; most = 64; mend = \
+      "Divide them between two rules, of which a sign with one score in the first names the second." }
   else { what = "rules"; most = 128 }
   tell("These are " counted " " what ", and there may be at most " most ". " mend)
 }
@@ -923,7 +969,8 @@ function tell_incomplete(number,    i, last, told, missing) {
   show(number, header[number], 0)
   if (shape != "algebra") {
     i = first_like("algebra", number)
-    tell("No `algebra` line with form stands above it" (i ? ". This one was meant to be one:" : ", as `algebra cost min`."))
+    tell("No `algebra` line with form stands above it" (i ? ". This one was meant to be one:" : \
+        ", as `algebra cost min`."))
     if (i) show_wrong(i)
     return
   }
@@ -950,16 +997,20 @@ function tell_lacking(sign, number, last,    near, i) {
     return 1
   }
   for (i = 1; i <= lets_count && !near; i++) {
-    if (let_section[lets[i]] == number && !(("sign", let_sign[lets[i]]) in line_of) && is_like(sign, let_sign[lets[i]])) near = lets[i]
+    if (let_section[lets[i]] == number && !(("sign", let_sign[lets[i]]) in line_of) && is_like(sign, \
+        let_sign[lets[i]])) near = lets[i]
   }
   if (near) {
-    tell("Here the sign " quoted(sign) " lacks its `let`. This line has one for " quoted(let_sign[near]) ", which is no sign:")
+    tell("Here the sign " quoted(sign) " lacks its `let`. This line has one for " quoted(let_sign[near]) \
+        ", which is no sign:")
     show(near, header[near], index(header[near], let_sign[near]))
     return 1
   }
-  tell("Here the sign " quoted(sign) " of line " line_of["sign", sign] " lacks its `let`: no line between this one and line " last + 1 " begins with `let " sign "`.")
+  tell("Here the sign " quoted(sign) " of line " line_of["sign", sign] \
+      " lacks its `let`: no line between this one and line " last + 1 " begins with `let " sign "`.")
   for (i = 1; i <= lets_count; i++) if (let_sign[lets[i]] == sign) {
-    tell("(Line " lets[i] " has one, but " (let_section[lets[i]] ? "it belongs to the algebra of line " let_section[lets[i]] : "it stands above all algebras") ".)")
+    tell("(Line " lets[i] " has one, but " (let_section[lets[i]] ? "it belongs to the algebra of line " \
+        let_section[lets[i]] : "it stands above all algebras") ".)")
     break
   }
   return 1
@@ -1068,7 +1119,8 @@ function tell_unproductive(rule,    a, j, n, told) {
   n = alternatives_of[rule]
   for (a = 1; a <= n && a <= 6; a++) {
     for (j = 1; j <= arguments_of[rule, a]; j++) if (least_of_argument(rule, a, j) < 0) {
-      tell("Alternative " a ", " spelled(rule, a) ", needs a tree of " (argument_of[rule, a, j] == rule ? "the rule itself." : "the rule " quoted(argument_of[rule, a, j]) ", which has none."))
+      tell("Alternative " a ", " spelled(rule, a) ", needs a tree of " (argument_of[rule, a, j] == rule ? \
+          "the rule itself." : "the rule " quoted(argument_of[rule, a, j]) ", which has none."))
       break
     }
   }
@@ -1107,12 +1159,14 @@ function tell_loop(rule,    queue, first, last, here, i, came, by, way, steps) {
   way[steps + 1] = rule
   for (i = steps + 1; i > 1; i--) {
     by = edge(way[i], way[i - 1])
-    tell(quoted(way[i]) " leads to " (way[i] == way[i - 1] ? "itself" : quoted(way[i - 1])) " by its alternative " by ", " spelled(way[i], by) empty_beside(way[i], by, edge_argument) ".")
+    tell(quoted(way[i]) " leads to " (way[i] == way[i - 1] ? "itself" : quoted(way[i - 1])) " by its alternative " \
+        by ", " spelled(way[i], by) empty_beside(way[i], by, edge_argument) ".")
   }
 }
 
 function empty_beside(rule, a, alone,    j, text) {
-  for (j = 1; j <= arguments_of[rule, a]; j++) if (j != alone && argument_of[rule, a, j] != "\"\"") text = text (text == "" ? "" : " and ") quoted(spelled_argument(rule, a, j))
+  for (j = 1; j <= arguments_of[rule, a]; j++) if (j != alone && argument_of[rule, a, j] != "\"\"") text = text \
+      (text == "" ? "" : " and ") quoted(spelled_argument(rule, a, j))
   return text == "" ? "" : ", where " text " can be empty"
 }
 
@@ -1128,7 +1182,8 @@ function tell_negative(sign,    section, number, j, i, negative) {
     if (kind_of[sign, j] != "score") continue
     for (i = term_at; i <= tokens; i++) if (token[i] == variable[j] && is_negative(i)) {
       show(number, header[number], column[i])
-      tell("The variable " quoted(variable[j]) " is a score, since the sign has `" kind_of[sign, j] "` in its " nth(j) " place, and the factors of it sum up to less than 0.")
+      tell("The variable " quoted(variable[j]) " is a score, since the sign has `" kind_of[sign, j] "` in its " \
+          nth(j) " place, and the factors of it sum up to less than 0.")
       return
     }
   }
@@ -1158,7 +1213,8 @@ function explain_limit(number, kind_number, size,    longest) {
   print bold name_of_job ", line " wanted_number ", word " number " of " plural(length(wanted_line), "letter") ":" plain
   show(wanted_number, wanted_line, 0)
   longest = ENVIRON["ADP_LONGEST"]
-  if (kind_number > 1 && longest ~ /^[0-9]+$/ && longest + 0 < length(wanted_line)) tell("This job admits a word of " plural(longest, "letter") ", and none of " longest + 1 ".")
+  if (kind_number > 1 && longest ~ /^[0-9]+$/ && longest + 0 < length(wanted_line)) \
+      tell("This job admits a word of " plural(longest, "letter") ", and none of " longest + 1 ".")
   else if (kind_number > 1 && longest == "none") tell("This job admits no word of any length.")
   read_header()
   if (is_small && kind_number == 2) tell_cells(length(wanted_line))
@@ -1228,7 +1284,8 @@ function find_anchors(    has_changed, i, a, j, k, rule, other, axiom) {
 
 function frees(rule, side, by, a) {
   if ((rule, side) in is_free) return 0
-  if (side == "end") freed_by[rule] = "in " spelled(by, a) " of the rule " quoted(by) (((by, "end") in is_free) && ends_with(by, a, rule) ? ", which does not go to the end itself" : ", where something stands behind it")
+  if (side == "end") freed_by[rule] = "in " spelled(by, a) " of the rule " quoted(by) (((by, "end") in is_free) && \
+      ends_with(by, a, rule) ? ", which does not go to the end itself" : ", where something stands behind it")
   is_free[rule, side] = 1
   return 1
 }
@@ -1266,10 +1323,12 @@ function tell_cells(n,    i, rule, told, most, best, cells, is_shown) {
   tell("The rules with most cells in it:")
   for (told = 0; told < 4; told++) {
     most = 0
-    for (i = 1; i <= rules_count; i++) if (!(rules[i] in is_shown) && cells[rules[i]] > most) { most = cells[rules[i]]; best = rules[i] }
+    for (i = 1; i <= rules_count; i++) if (!(rules[i] in is_shown) && cells[rules[i]] > most) { most = \
+        cells[rules[i]]; best = rules[i] }
     if (most <= n + 1 && told > 0 || most == 0) break
     is_shown[best] = 1
-    tell("  " quoted(best) ", " most " cells: " (((best, "end") in is_free && (best, "front") in is_free) ? "for each pair of places, since it is named " freed_by[best] "." : "one for each place."))
+    tell("  " quoted(best) ", " most " cells: " (((best, "end") in is_free && (best, "front") in is_free) ? \
+        "for each pair of places, since it is named " freed_by[best] "." : "one for each place."))
   }
 }
 
@@ -1280,7 +1339,8 @@ function tell_doubling(    i, a, j, rule, names, told) {
     rule = rules[i]
     for (a = 1; a <= alternatives_of[rule] && told < 3; a++) {
       names = 0
-      for (j = 1; j <= arguments_of[rule, a]; j++) if (sort_of[rule, a, j] == "rule" && least_of_argument(rule, a, j) == 0) names++
+      for (j = 1; j <= arguments_of[rule, a]; j++) if (sort_of[rule, a, j] == "rule" && least_of_argument(rule, a, \
+          j) == 0) names++
       if (names < 2) continue
       if (!told++) tell("These alternatives name several rules that can be empty:")
       show(line_of["rule", rule], rule " = .. " substr(spelled(rule, a), 2, length(spelled(rule, a)) - 2) " ..", 0)
@@ -1323,7 +1383,8 @@ function explain_usage(    i, words, word, value, given, near) {
   print ""
   print bold "The command: " printed(words) plain
   word = ARGV[1]
-  if (ARGC == 1) tell("The first word is the mode: best or serial, as in `adp best " (name_of_job == "standard input" ? "FILE" : name_of_job) "`.")
+  if (ARGC == 1) tell("The first word is the mode: best or serial, as in `adp best " (name_of_job == \
+      "standard input" ? "FILE" : name_of_job) "`.")
   else if (word != MODES[1] && word != MODES[2]) tell_mode(word)
   else {
     for (i = 2; i < ARGC; i += 2) if (tell_option(ARGV[i], i + 1 < ARGC, ARGV[i + 1], given)) break
@@ -1359,7 +1420,8 @@ function tell_option(word, has_value, value, given,    near, most) {
   if (word ~ /=/ ) { tell(quoted(word) ": a space stands between an option and its value, and no `=`."); return 1 }
   if (word != OPTIONS[1] && word != OPTIONS[2] && word != OPTIONS[3]) {
     near = nearest(word, OPTIONS)
-    tell(quoted(word) " is no option" (near == "" ? ": there are --algebra, --workers and --seed." : ": is " near " meant?"))
+    tell(quoted(word) " is no option" (near == "" ? ": there are --algebra, --workers and --seed." : ": is " near \
+        " meant?"))
     return 1
   }
   if (word in given) { tell("The option " word " stands twice."); return 1 }
@@ -1367,14 +1429,17 @@ function tell_option(word, has_value, value, given,    near, most) {
   if (!has_value) { tell("The option " word " has no value behind it."); return 1 }
   if (word == "--algebra") {
     if (is_name(value)) return 0
-    tell(quoted(value) " is no name of an algebra: a name begins with a letter, and has at most 32 letters, digits and `_`.")
+    tell(quoted(value) " is no name of an algebra: a name begins with a letter, and has at most 32 letters, digits " \
+        "and `_`.")
     return 1
   }
   most = word == "--workers" ? "32" : "18446744073709551615"
-  if (!is_digits(value) && is_file(value)) { tell("The option " word " lacks its value: the file " quoted(value) " stands in its place."); return 1 }
+  if (!is_digits(value) && is_file(value)) { tell("The option " word " lacks its value: the file " quoted(value) \
+      " stands in its place."); return 1 }
   if (!is_digits(value)) { tell("The value of " word " is digits alone, and not " quoted(value) "."); return 1 }
   if (is_more(value, most) || (word == "--workers" && value + 0 == 0)) {
-    tell("The value of " word " lies between " (word == "--workers" ? 1 : 0) " and " most ", and is not " quoted(value) ".")
+    tell("The value of " word " lies between " (word == "--workers" ? 1 : 0) " and " most ", and is not " \
+        quoted(value) ".")
     return 1
   }
   return 0
