@@ -1,5 +1,5 @@
 -- A code stands for one cell.
-use Rattle.std.proofs.Common.{◌≡◌, ℕ, ◌+◌, ◌-◌, ◌*◌, ◌/◌, ◌%◌, ◌<◌, sym, ap, ◌∙◌, arith}
+use Rattle.std.proofs.Common.{◌≡◌, ℕ, ◌-◌, ◌/◌, ◌%◌, ◌<◌, sym, ◌∙◌, arith}
 use Rattle.adp_model.specs.declared.cell.Cell.{Cell}
 use Rattle.memo_words.specs.CodedCells.{IsCodeOf, cell_of}
 

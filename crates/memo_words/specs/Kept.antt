@@ -4,13 +4,10 @@ use mathlib.Core.Option.{some}
 use lib.ListN.{get_elem?}
 use Rattle.atomic_table.specs.Table.{State}
 use Rattle.adp_model.specs.declared.cell.Answer.{Answer}
-use Rattle.adp_model.specs.declared.cell.Answer.TheVariants.{NoCandidate, Best}
 use Rattle.adp_model.specs.declared.cell.Cell.{Cell}
-use Rattle.adp_model.specs.PosedProblem.{PosedProblem}
 use Rattle.adp_model.specs.Answers.{IsAnswer}
 use Rattle.adp_model.specs.Demand.{IsDemanded, IsDemandedChild}
 use Rattle.memo_words.specs.declared.part.Part.{Part}
-use Rattle.memo_words.specs.declared.part.Part.TheVariants.{Score, Choice}
 use Rattle.memo_words.specs.declared.view.Owned.{Owned}
 use Rattle.memo_words.specs.declared.view.View.{View}
 use Rattle.memo_words.specs.CodedCells.{IsCodeOf, answer_word}

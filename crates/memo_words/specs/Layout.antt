@@ -1,6 +1,6 @@
 -- What a table is made for, and where its words lie: the counter, a key word and a record word for each position, and a
 -- score word and a choice word for each record.
-use Rattle.std.specs.Prelude.{◌≡◌, ℕ, zero, suc, ◌+◌, ◌-◌, ◌*◌, ◌^◌, ◌<◌, ◌≤◌, List, IsTrue, length, slice_index}
+use Rattle.std.specs.Prelude.{ℕ, zero, suc, ◌+◌, ◌*◌, ◌^◌, ◌≤◌, List, IsTrue, length, slice_index}
 use Rattle.adp_model.specs.PosedProblem.{PosedProblem}
 use Rattle.adp_model.specs.Cells.{IsCellBound}
 use Rattle.adp_model.specs.ProblemFields.{most_letters, most_cells}

@@ -1,5 +1,5 @@
 -- What each kind of step tells its caller of the view before, the value found and the view after.
-use Rattle.std.specs.Prelude.{◌≡◌, ℕ, ◌+◌, ◌-◌, ◌<◌, ◌≤◌, List, min, Some, Contains}
+use Rattle.std.specs.Prelude.{◌≡◌, ℕ, ◌+◌, ◌<◌, ◌≤◌, List, min, Some, Contains}
 use mathlib.Core.Option.{some}
 use lib.ListN.{get_elem?}
 use Rattle.atomic_table.specs.Table.{State, Me, Step}
@@ -42,7 +42,8 @@ abbrev pub IsAnswerWord : Plan → Part → Cell → ℕ → Type 0
 IsAnswerWord plan part cell word =
     (answer : Answer) × IsAnswer plan.problem cell answer × (word ≡ answer_word part answer)
 
--- this word of the record is that of the answer of each cell that was seen at a position where the record's name was seen
+-- this word of the record is that of the answer of each cell whose key was seen at a position where the record's name
+-- was seen
 abbrev pub IsNamedAnswer : Plan → View → Part → ℕ → ℕ → Type 0
 IsNamedAnswer plan v part number word =
     (position : ℕ) (cell : Cell) → IsCodeOf cell (seen_at v.keys position) → seen_at v.names position ≡ number + 1

@@ -70,8 +70,8 @@ abbrev pub hand_of_both : Option ℕ → Option ℕ → Option ℕ
 hand_of_both None other = other
 hand_of_both (Some held) other = Some held
 
--- what every pass keeps, with the record that it has in hand: it is live; it owns the record in hand, and beside that one
--- fewer records than its weight; and the records that it owns or saw named are there
+-- what every pass keeps, with the record that it has in hand: it is live; it owns the record in hand, and beside that
+-- one fewer records than its weight; and the records that it owns or saw named are there
 abbrev pub IsSound : Option ℕ → Me ℕ View → Type 0
 IsSound hand me =
     (me.1 ≡ []) × (0 < me.0.weight)
@@ -84,7 +84,17 @@ IsSound hand me =
 
 -- make: a view that knows nothing
 abbrev pub first_view : Plan → View
-first_view plan = record { plan = Some plan; keys = []; names = []; known = []; owned = []; wins = 0; weight = 1; spare = plan.seats - 1; last = None }
+first_view plan = record {
+  plan = Some plan;
+  keys = [];
+  names = [];
+  known = [];
+  owned = [];
+  wins = 0;
+  weight = 1;
+  spare = plan.seats - 1;
+  last = None;
+}
 
 -- split: what is left of the view that is split, and the new view
 abbrev pub after_split : View → View
@@ -95,40 +105,79 @@ split_off v = record v { owned = []; wins = 0; weight = 1; spare = 0; last = Non
 
 -- join: both views in one, and what the other is left with
 abbrev pub joined : View → View → View
-joined v w = record v { keys = v.keys ++ w.keys; names = v.names ++ w.names; known = v.known ++ w.known; owned = v.owned ++ w.owned; wins = v.wins + w.wins; weight = v.weight + w.weight; spare = v.spare + w.spare }
+joined v w = record v {
+  keys = v.keys ++ w.keys;
+  names = v.names ++ w.names;
+  known = v.known ++ w.known;
+  owned = v.owned ++ w.owned;
+  wins = v.wins + w.wins;
+  weight = v.weight + w.weight;
+  spare = v.spare + w.spare;
+}
 
 abbrev pub spent : View
-spent = record { plan = None; keys = []; names = []; known = []; owned = []; wins = 0; weight = 0; spare = 0; last = None }
+spent = record {
+  plan = None;
+  keys = [];
+  names = [];
+  known = [];
+  owned = [];
+  wins = 0;
+  weight = 0;
+  spare = 0;
+  last = None;
+}
 
 -- load of a key word
 abbrev pub key_loaded : ℕ → ℕ → View → View
 key_loaded position found v =
-    record v { keys = seen_unless_0 position found v.keys; last = last_at (key_place position) found }
+    record v {
+      keys = seen_unless_0 position found v.keys;
+      last = last_at (key_place position) found;
+    }
 
 -- exchange of a key word from 0 to a code
 abbrev pub key_exchanged : ℕ → ℕ → ℕ → View → View
 key_exchanged position code found v =
-    record v { keys = seen_too position (if found == 0 then code else found) v.keys; last = last_at (key_place position) found }
+    record v {
+      keys = seen_too position (if found == 0 then code else found) v.keys;
+      last = last_at (key_place position) found;
+    }
 
 -- load of a record word
 abbrev pub record_loaded : Plan → ℕ → ℕ → View → View
 record_loaded plan position found v =
-    record v { names = seen_unless_0 position found v.names; known = (if found == 0 then v.known else cell_at v position ∷ v.known); last = last_at (record_place (slots_of plan) position) found }
+    record v {
+      names = seen_unless_0 position found v.names;
+      known = (if found == 0 then v.known else cell_at v position ∷ v.known);
+      last = last_at (record_place (slots_of plan) position) found;
+    }
 
 -- exchange of a record word from 0 to the name of a record
 abbrev pub record_exchanged : Plan → ℕ → ℕ → ℕ → View → View
 record_exchanged plan position number found v =
-    record v { known = cell_at v position ∷ v.known; owned = (if found == 0 then dropped number v.owned else v.owned); wins = (if found == 0 then v.wins + 1 else v.wins); last = last_at (record_place (slots_of plan) position) found }
+    record v {
+      known = cell_at v position ∷ v.known;
+      owned = (if found == 0 then dropped number v.owned else v.owned);
+      wins = (if found == 0 then v.wins + 1 else v.wins);
+      last = last_at (record_place (slots_of plan) position) found;
+    }
 
 -- fetch_add of the counter
 abbrev pub counter_added : ℕ → View → View
 counter_added found v =
-    record v { owned = record { number = found; score = 0; choice = 0 } ∷ v.owned; last = last_at 0 found }
+    record v {
+      owned = record { number = found; score = 0; choice = 0 } ∷ v.owned;
+      last = last_at 0 found;
+    }
 
 -- store in a word of a record
 abbrev pub arena_stored : Plan → Part → ℕ → ℕ → View → View
 arena_stored plan part number code v =
-    record v { owned = with_stored part number code v.owned; last = last_at (arena_place (slots_of plan) (records_of plan) part number) code }
+    record v {
+      owned = with_stored part number code v.owned;
+      last = last_at (arena_place (slots_of plan) (records_of plan) part number) code;
+    }
 
 -- load of a word of a record
 abbrev pub arena_loaded : Plan → Part → ℕ → ℕ → View → View

@@ -19,7 +19,12 @@ impl Model for Key {
 
     ghost Value = { Plan };
 
-    ghost view = { λ key. record { problem = record { grammar = key.grammar.value; algebra = key.algebra; word = key.word.value }; cells = key.cells; bits = key.bits; seats = key.seats } };
+    ghost view = { λ key. record {
+      problem = record { grammar = key.grammar.value; algebra = key.algebra; word = key.word.value };
+      cells = key.cells;
+      bits = key.bits;
+      seats = key.seats;
+    } };
 
     ghost invariant = { λ key. Unit {0} };
 }

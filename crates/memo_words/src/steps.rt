@@ -64,8 +64,8 @@ impl Words {
             .load::<LoadsKey>(&mut pass.seat, key_place(position))
     }
 
-    /// Puts the code of a cell in the key word of a position, where that is 0, and answers the word found. All positions
-    /// before it in the cell's probe sequence were seen with other cells' codes.
+    /// Puts the code of a cell in the key word of a position, where that is 0, and answers the word found. The cell is
+    /// demanded, and all positions before in its probe sequence were seen with other cells' codes.
     pub fn key_exchange_step<L: Ledger>(
         &self,
         pass: &mut Pass,
@@ -96,8 +96,8 @@ impl Words {
             )
     }
 
-    /// Loads the record word of a position whose key was seen. Where it isn't 0 the cell is known from then on; it isn't 0
-    /// where the cell is known already.
+    /// Loads the record word of a position whose key was seen. Where it isn't 0 the cell is known from then on, and
+    /// where the cell is known already it isn't 0.
     pub fn record_load_step<L: Ledger>(
         &self,
         pass: &mut Pass,
@@ -134,7 +134,8 @@ impl Words {
         requires inside { position < slots_of (plan_of self.now) }
         requires ready { IsReady (problem_of self.now) (view_of pass.old) position number }
         ensures own { IsPassOf self.now pass.new }
-        ensures view { view_of pass.new ≡ record_exchanged (plan_of self.now) position number result (view_of pass.old) }
+        ensures view { view_of pass.new
+            ≡ record_exchanged (plan_of self.now) position number result (view_of pass.old) }
         ensures hand { hand_of pass.new ≡ hand_after (hand_of pass.old) number result }
         ensures given_up { result ≡ 0 → owns number (view_of pass.new).owned ≡ 0 }
         ensures known { Contains (view_of pass.old).known (cell_at (view_of pass.old) position) → 0 < result }
@@ -151,8 +152,8 @@ impl Words {
         found
     }
 
-    /// Adds 1 to the counter and answers the number found, which is that of a record. The pass owns it then, has nothing
-    /// stored in it, and has it in hand.
+    /// Adds 1 to the counter and answers the number found, which is that of a record. The pass owns the record then, has
+    /// nothing stored in it, and has it in hand.
     pub fn counter_add_step<L: Ledger>(&self, pass: &mut Pass, steps: &mut Steps<L>) -> u64
         requires own { IsPassOf self.now pass.old }
         requires empty_handed { hand_of pass.old ≡ None }

@@ -4,4 +4,5 @@ use Rattle.memo_words.proofs.Lists.{at_read}
 use Rattle.memo_words.proofs.rest.Rest.score.Goals as goal
 
 pub returns : goal.returns
-returns c = sym (at_read (rest_words c.args.self.now) _ _ 0 c.word.ensures) ∙ ap (λ (i : ℕ). slice_index (rest_words c.args.self.now) i) c.arena_place.ensures
+returns c = sym (at_read (rest_words c.args.self.now) _ _ 0 c.word.ensures)
+    ∙ ap (λ (i : ℕ). slice_index (rest_words c.args.self.now) i) c.arena_place.ensures

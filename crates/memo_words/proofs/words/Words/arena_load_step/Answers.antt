@@ -1,4 +1,4 @@
-use Rattle.std.proofs.Common.{rules, ◌≡◌, ℕ, ◌<◌, ◌+◌, Some, List, refl, ap, ◌∙◌, sym, subst, arith}
+use Rattle.std.proofs.Common.{rules, ℕ, ◌<◌, ap, ◌∙◌, sym, subst, arith}
 use Rattle.atomic_table.specs.Table.{Me}
 use Rattle.memo_words.specs.declared.view.View.{View}
 use Rattle.memo_words.specs.Layout.{arena_place, records_of}
@@ -9,28 +9,49 @@ use Rattle.memo_words.proofs.Plays.{loads_arena_at}
 use Rattle.memo_words.proofs.words.Words.arena_load_step.Goals as goal
 
 pub load-requires : goal.load-requires
-load-requires g c = let named = c.requires.named in let few = c.args.pass.now.sound.5 _ named.0 c.requires.own.plan in let is = named.1 in let low : c.args.number < records_of (plan_of c.args.self.now) = omega arith in
-    let r = c.args.self.now.records_are in let ahead = arena_ahead c.args.self.now.slots c.args.self.now.records c.args.part c.args.number (omega arith) in
+load-requires g c = let named = c.requires.named in let few = c.args.pass.now.sound.5 _ named.0 c.requires.own.plan in
+    let is = named.1 in let low : c.args.number < records_of (plan_of c.args.self.now) = omega arith in
+    let r = c.args.self.now.records_are in let ahead
+    = arena_ahead c.args.self.now.slots c.args.self.now.records c.args.part c.args.number (omega arith) in
     let wide = c.args.self.now.wide in let is = c.arena_place.ensures in (
       search rules,
       omega arith,
-      loads_arena_at _ _ _ c.args.number _ c.args.part _ (c.arena_place.ensures ∙ (λ i. arena_place (c.args.self.now.slots_are i) (c.args.self.now.records_are i) c.args.part c.args.number)) c.args.pass.now.sound.1 low,
+      loads_arena_at _ _ _ c.args.number _ c.args.part _ (c.arena_place.ensures
+          ∙ (λ i. arena_place (c.args.self.now.slots_are i)
+          (c.args.self.now.records_are i) c.args.part c.args.number)) c.args.pass.now.sound.1 low,
     )
 
 pub invariant_of-pass : goal.invariant_of-pass
-invariant_of-pass g c = let named = c.requires.named in let few = c.args.pass.now.sound.5 _ named.0 c.requires.own.plan in let is = named.1 in let low : c.args.number < records_of (plan_of c.args.self.now) = omega arith in
-    let told = c.load.ensures.2 _ c.args.part c.args.number c.requires.own.plan low (c.arena_place.ensures ∙ (λ i. arena_place (c.args.self.now.slots_are i) (c.args.self.now.records_are i) c.args.part c.args.number)) in
+invariant_of-pass g c = let named = c.requires.named in
+    let few = c.args.pass.now.sound.5 _ named.0 c.requires.own.plan in let is = named.1 in
+    let low : c.args.number < records_of (plan_of c.args.self.now) = omega arith in
+    let told = c.load.ensures.2 _ c.args.part c.args.number c.requires.own.plan low (c.arena_place.ensures
+    ∙ (λ i. arena_place (c.args.self.now.slots_are i) (c.args.self.now.records_are i) c.args.part c.args.number)) in
     record { sound = subst (IsSound c.args.pass.now.hand) (sym told.0) c.args.pass.now.sound }
 
 pub returns-clause-own : goal.returns-clause-own
-returns-clause-own g c = let named = c.requires.named in let few = c.args.pass.now.sound.5 _ named.0 c.requires.own.plan in let is = named.1 in let low : c.args.number < records_of (plan_of c.args.self.now) = omega arith in
-    let told = c.load.ensures.2 _ c.args.part c.args.number c.requires.own.plan low (c.arena_place.ensures ∙ (λ i. arena_place (c.args.self.now.slots_are i) (c.args.self.now.records_are i) c.args.part c.args.number)) in
-    record { same = c.load.ensures.0 ∙ c.requires.own.same; plan = ap (λ (m : Me ℕ View). m.0.plan) told.0 ∙ c.requires.own.plan }
+returns-clause-own g c = let named = c.requires.named in
+    let few = c.args.pass.now.sound.5 _ named.0 c.requires.own.plan in let is = named.1 in
+    let low : c.args.number < records_of (plan_of c.args.self.now) = omega arith in
+    let told = c.load.ensures.2 _ c.args.part c.args.number c.requires.own.plan low (c.arena_place.ensures
+    ∙ (λ i. arena_place (c.args.self.now.slots_are i) (c.args.self.now.records_are i) c.args.part c.args.number)) in
+    record {
+      same = c.load.ensures.0 ∙ c.requires.own.same;
+      plan = ap (λ (m : Me ℕ View). m.0.plan) told.0
+          ∙ c.requires.own.plan;
+    }
 
 pub returns-clause-view : goal.returns-clause-view
-returns-clause-view g c = let named = c.requires.named in let few = c.args.pass.now.sound.5 _ named.0 c.requires.own.plan in let is = named.1 in let low : c.args.number < records_of (plan_of c.args.self.now) = omega arith in
-    ap (λ (m : Me ℕ View). m.0) (c.load.ensures.2 _ c.args.part c.args.number c.requires.own.plan low (c.arena_place.ensures ∙ (λ i. arena_place (c.args.self.now.slots_are i) (c.args.self.now.records_are i) c.args.part c.args.number))).0
+returns-clause-view g c = let named = c.requires.named in
+    let few = c.args.pass.now.sound.5 _ named.0 c.requires.own.plan in let is = named.1 in
+    let low : c.args.number < records_of (plan_of c.args.self.now) = omega arith in
+    ap (λ (m : Me ℕ View). m.0) (c.load.ensures.2 _ c.args.part c.args.number c.requires.own.plan low
+    (c.arena_place.ensures ∙ (λ i. arena_place (c.args.self.now.slots_are i)
+    (c.args.self.now.records_are i) c.args.part c.args.number))).0
 
 pub returns-clause-answer : goal.returns-clause-answer
-returns-clause-answer g c = let named = c.requires.named in let few = c.args.pass.now.sound.5 _ named.0 c.requires.own.plan in let is = named.1 in let low : c.args.number < records_of (plan_of c.args.self.now) = omega arith in
-    (c.load.ensures.2 _ c.args.part c.args.number c.requires.own.plan low (c.arena_place.ensures ∙ (λ i. arena_place (c.args.self.now.slots_are i) (c.args.self.now.records_are i) c.args.part c.args.number))).1
+returns-clause-answer g c = let named = c.requires.named in
+    let few = c.args.pass.now.sound.5 _ named.0 c.requires.own.plan in let is = named.1 in
+    let low : c.args.number < records_of (plan_of c.args.self.now) = omega arith in
+    (c.load.ensures.2 _ c.args.part c.args.number c.requires.own.plan low (c.arena_place.ensures
+    ∙ (λ i. arena_place (c.args.self.now.slots_are i) (c.args.self.now.records_are i) c.args.part c.args.number))).1

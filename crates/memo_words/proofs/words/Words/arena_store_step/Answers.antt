@@ -1,7 +1,7 @@
-use Rattle.std.proofs.Common.{rules, ◌≡◌, ℕ, ◌<◌, ◌+◌, Some, List, refl, ap, ◌∙◌, sym, subst, arith}
+use Rattle.std.proofs.Common.{rules, ℕ, ap, ◌∙◌, sym, subst, arith}
 use Rattle.atomic_table.specs.Table.{Me}
 use Rattle.memo_words.specs.declared.view.View.{View}
-use Rattle.memo_words.specs.Layout.{arena_place, records_of}
+use Rattle.memo_words.specs.Layout.{arena_place}
 use Rattle.memo_words.specs.Passes.{plan_of}
 use Rattle.memo_words.specs.Views.{IsSound}
 use Rattle.memo_words.proofs.Frame.{arena_ahead}
@@ -11,23 +11,38 @@ use Rattle.memo_words.proofs.words.Words.arena_store_step.Goals as goal
 
 pub store-requires : goal.store-requires
 store-requires g c = let low = c.args.pass.now.sound.4 _ c.args.number c.requires.own.plan c.requires.owner in
-    let r = c.args.self.now.records_are in let ahead = arena_ahead c.args.self.now.slots c.args.self.now.records c.args.part c.args.number (omega arith) in
+    let r = c.args.self.now.records_are in let ahead
+    = arena_ahead c.args.self.now.slots c.args.self.now.records c.args.part c.args.number (omega arith) in
     let wide = c.args.self.now.wide in let is = c.arena_place.ensures in (
       search rules,
       omega arith,
-      stores_arena_at _ _ _ c.args.number c.args.code _ c.args.part _ (c.arena_place.ensures ∙ (λ i. arena_place (c.args.self.now.slots_are i) (c.args.self.now.records_are i) c.args.part c.args.number)) c.args.pass.now.sound.1 c.requires.owner low,
+      stores_arena_at _ _ _ c.args.number c.args.code _ c.args.part _ (c.arena_place.ensures
+          ∙ (λ i. arena_place (c.args.self.now.slots_are i)
+          (c.args.self.now.records_are i) c.args.part c.args.number)) c.args.pass.now.sound.1 c.requires.owner low,
     )
 
 pub invariant_of-pass : goal.invariant_of-pass
 invariant_of-pass g c = let low = c.args.pass.now.sound.4 _ c.args.number c.requires.own.plan c.requires.owner in
-    let told = c.store.ensures.2 _ c.args.part c.args.number c.requires.own.plan low (c.arena_place.ensures ∙ (λ i. arena_place (c.args.self.now.slots_are i) (c.args.self.now.records_are i) c.args.part c.args.number)) in
-    record { sound = subst (IsSound c.args.pass.now.hand) (sym told) (sound_stored (plan_of c.args.self.now) c.args.pass.now.hand c.args.pass.now.seat.me c.args.part c.args.number c.args.code c.args.pass.now.sound) }
+    let told = c.store.ensures.2 _ c.args.part c.args.number c.requires.own.plan low (c.arena_place.ensures
+    ∙ (λ i. arena_place (c.args.self.now.slots_are i) (c.args.self.now.records_are i) c.args.part c.args.number)) in
+    record {
+      sound = subst (IsSound c.args.pass.now.hand) (sym told) (sound_stored
+          (plan_of c.args.self.now) c.args.pass.now.hand c.args.pass.now.seat.me c.args.part c.args.number c.args.code
+          c.args.pass.now.sound);
+    }
 
 pub returns-clause-own : goal.returns-clause-own
 returns-clause-own g c = let low = c.args.pass.now.sound.4 _ c.args.number c.requires.own.plan c.requires.owner in
-    let told = c.store.ensures.2 _ c.args.part c.args.number c.requires.own.plan low (c.arena_place.ensures ∙ (λ i. arena_place (c.args.self.now.slots_are i) (c.args.self.now.records_are i) c.args.part c.args.number)) in
-    record { same = c.store.ensures.0 ∙ c.requires.own.same; plan = ap (λ (m : Me ℕ View). m.0.plan) told ∙ c.requires.own.plan }
+    let told = c.store.ensures.2 _ c.args.part c.args.number c.requires.own.plan low (c.arena_place.ensures
+    ∙ (λ i. arena_place (c.args.self.now.slots_are i) (c.args.self.now.records_are i) c.args.part c.args.number)) in
+    record {
+      same = c.store.ensures.0 ∙ c.requires.own.same;
+      plan = ap (λ (m : Me ℕ View). m.0.plan) told
+          ∙ c.requires.own.plan;
+    }
 
 pub returns-clause-view : goal.returns-clause-view
 returns-clause-view g c = let low = c.args.pass.now.sound.4 _ c.args.number c.requires.own.plan c.requires.owner in
-    ap (λ (m : Me ℕ View). m.0) (c.store.ensures.2 _ c.args.part c.args.number c.requires.own.plan low (c.arena_place.ensures ∙ (λ i. arena_place (c.args.self.now.slots_are i) (c.args.self.now.records_are i) c.args.part c.args.number)))
+    ap (λ (m : Me ℕ View). m.0) (c.store.ensures.2 _ c.args.part c.args.number c.requires.own.plan low
+    (c.arena_place.ensures ∙ (λ i. arena_place (c.args.self.now.slots_are i)
+    (c.args.self.now.records_are i) c.args.part c.args.number)))

@@ -1,6 +1,4 @@
-use Rattle.std.proofs.Common.{rules, ◌≡◌, ℕ, Option, sym, subst, ◌∙◌, ap}
-use Rattle.atomic_table.specs.Table.{Me}
-use Rattle.memo_words.specs.declared.view.View.{View}
+use Rattle.std.proofs.Common.{rules, ℕ, Option, sym, subst, ◌∙◌}
 use Rattle.memo_words.specs.Views.{IsSound}
 use Rattle.memo_words.proofs.Moves.{joins}
 use Rattle.memo_words.proofs.Soundness.{sound_joined}
@@ -12,5 +10,9 @@ join_seat-requires c = (search rules, search rules, search rules, search rules, 
 pub invariant_of-into : goal.invariant_of-into
 invariant_of-into c =
     let into = c.args.into.now in let other = c.args.other in
-    let sound = sound_joined into.hand other.hand into.seat.me other.seat.me into.sound other.sound (c.requires.into.plan ∙ sym c.requires.other.plan) in
-    record { sound = subst (λ (h : Option ℕ). IsSound h c.join_seat.new.seat.me) (sym c.hand_of_both-into.ensures) (subst (IsSound _) (sym c.join_seat.ensures.2) sound) }
+    let sound = sound_joined into.hand other.hand into.seat.me other.seat.me into.sound other.sound
+    (c.requires.into.plan ∙ sym c.requires.other.plan) in
+    record {
+      sound = subst (λ (h : Option ℕ). IsSound h c.join_seat.new.seat.me) (sym c.hand_of_both-into.ensures)
+          (subst (IsSound _) (sym c.join_seat.ensures.2) sound);
+    }

@@ -1,9 +1,8 @@
-use Rattle.std.proofs.Common.{rules, ◌≡◌, ℕ, ◌<◌, ◌+◌, Some, List, refl, ap, ◌∙◌, sym, subst, arith}
+use Rattle.std.proofs.Common.{rules, ℕ, refl, ap, ◌∙◌, sym, subst}
 use Rattle.atomic_table.specs.Table.{Me}
 use Rattle.memo_words.specs.declared.view.View.{View}
 use Rattle.memo_words.specs.Codes.{cell_code}
 use Rattle.memo_words.specs.Views.{IsSound, key_exchanged}
-use Rattle.memo_words.specs.CodedCells.{IsCodeOf}
 use Rattle.memo_words.proofs.Plays.{puts_key_at}
 use Rattle.memo_words.proofs.words.Words.key_exchange_step.Goals as goal
 
@@ -11,8 +10,13 @@ pub compare_exchange-requires : goal.compare_exchange-requires
 compare_exchange-requires g c = let asked = c.requires in let behind = asked.behind in (
   search rules,
   search rules,
-  puts_key_at _ _ _ c.args.position _ (cell_code c.args.cell) behind.turn _ c.args.cell _ c.key_place.ensures c.cell_code.ensures asked.inside c.args.pass.now.sound.1
-      record { coded = c.demanded_cells_have_codes.ensures c.args.cell asked.demanded; same = refl } asked.demanded behind.here behind.others,
+  puts_key_at _ _ _ c.args.position _ (cell_code c.args.cell) behind.turn _ c.args.cell _ c.key_place.ensures
+      c.cell_code.ensures asked.inside c.args.pass.now.sound.1
+      record {
+        coded = c.demanded_cells_have_codes.ensures c.args.cell asked.demanded;
+        same
+            = refl;
+      } asked.demanded behind.here behind.others,
 )
 
 pub invariant_of-pass : goal.invariant_of-pass
@@ -21,11 +25,17 @@ invariant_of-pass g c = let told = c.compare_exchange.ensures.2 _ _ c.requires.o
 
 pub returns-clause-own : goal.returns-clause-own
 returns-clause-own g c = let told = c.compare_exchange.ensures.2 _ _ c.requires.own.plan c.key_place.ensures in
-    record { same = c.compare_exchange.ensures.0 ∙ c.requires.own.same; plan = ap (λ (m : Me ℕ View). m.0.plan) told.0 ∙ c.requires.own.plan }
+    record {
+      same = c.compare_exchange.ensures.0 ∙ c.requires.own.same;
+      plan = ap (λ (m : Me ℕ View). m.0.plan) told.0
+          ∙ c.requires.own.plan;
+    }
 
 pub returns-clause-view : goal.returns-clause-view
-returns-clause-view g c = ap (λ (m : Me ℕ View). m.0) (c.compare_exchange.ensures.2 _ _ c.requires.own.plan c.key_place.ensures).0
-    ∙ ap (λ (code : ℕ). key_exchanged c.args.position code c.compare_exchange.result c.args.pass.now.seat.me.0) c.cell_code.ensures
+returns-clause-view g c = ap (λ (m : Me ℕ View). m.0)
+    (c.compare_exchange.ensures.2 _ _ c.requires.own.plan c.key_place.ensures).0
+    ∙ ap (λ (code : ℕ). key_exchanged c.args.position code c.compare_exchange.result c.args.pass.now.seat.me.0)
+    c.cell_code.ensures
 
 pub returns-clause-keys : goal.returns-clause-keys
 returns-clause-keys g c = (c.compare_exchange.ensures.2 _ _ c.requires.own.plan c.key_place.ensures).1

@@ -1,4 +1,4 @@
-use Rattle.std.proofs.Common.{rules, ◌≡◌, ℕ, ◌<◌, ◌+◌, Some, List, refl, ap, ◌∙◌, sym, subst, arith}
+use Rattle.std.proofs.Common.{rules, ℕ, ap, ◌∙◌, sym, subst}
 use Rattle.atomic_table.specs.Table.{Me}
 use Rattle.memo_words.specs.declared.view.View.{View}
 use Rattle.memo_words.specs.Views.{IsSound}
@@ -6,7 +6,11 @@ use Rattle.memo_words.proofs.Plays.{loads_key_at}
 use Rattle.memo_words.proofs.words.Words.key_load_step.Goals as goal
 
 pub load-requires : goal.load-requires
-load-requires g c = (search rules, search rules, loads_key_at _ _ _ c.args.position _ _ c.key_place.ensures c.requires.inside c.args.pass.now.sound.1)
+load-requires g c = (
+  search rules,
+  search rules,
+  loads_key_at _ _ _ c.args.position _ _ c.key_place.ensures c.requires.inside c.args.pass.now.sound.1,
+)
 
 pub invariant_of-pass : goal.invariant_of-pass
 invariant_of-pass g c = let told = c.load.ensures.2 _ _ c.requires.own.plan c.key_place.ensures in
@@ -14,7 +18,11 @@ invariant_of-pass g c = let told = c.load.ensures.2 _ _ c.requires.own.plan c.ke
 
 pub returns-clause-own : goal.returns-clause-own
 returns-clause-own g c = let told = c.load.ensures.2 _ _ c.requires.own.plan c.key_place.ensures in
-    record { same = c.load.ensures.0 ∙ c.requires.own.same; plan = ap (λ (m : Me ℕ View). m.0.plan) told.0 ∙ c.requires.own.plan }
+    record {
+      same = c.load.ensures.0 ∙ c.requires.own.same;
+      plan = ap (λ (m : Me ℕ View). m.0.plan) told.0
+          ∙ c.requires.own.plan;
+    }
 
 pub returns-clause-view : goal.returns-clause-view
 returns-clause-view g c = ap (λ (m : Me ℕ View). m.0) (c.load.ensures.2 _ _ c.requires.own.plan c.key_place.ensures).0

@@ -1,5 +1,4 @@
-use Rattle.std.proofs.Common.{◌≡◌, ◌≤◌, ◌+◌, ◌*◌, ℕ, List, [], sym, ap, subst, ◌∙◌, replicate, length, arith}
-use Rattle.std.proofs.lemmas.List.{length-replicate}
+use Rattle.std.proofs.Common.{◌≡◌, ℕ, List, [], sym, ap, subst, ◌∙◌, arith}
 use Rattle.atomic_table.specs.Table.{opening}
 use Rattle.memo_words.specs.Layout.{Plan, IsPlanned, word_count, slots_of, records_of}
 use Rattle.memo_words.specs.Kept.{Kept}
@@ -13,7 +12,9 @@ of_words-requires c =
     let plan = plan_with c.problem.inside c.of.result.value c.of-2.result.value c.bits_for-bits.result c.args.seats in
     let slots = c.slots_of-slots.ensures.slots in let count = c.word_count.ensures in
     let zeros = c.in_ok-words.ensures.items_if_clones_equal (λ y same. same) in
-    subst (λ (ws : List ℕ). Kept plan (opening ws [] (first_view plan))) (sym (c.as_slice.ensures.value ∙ zeros)) (opens plan c.word_count.result [] (count ∙ ap (λ (s : ℕ). word_count s (records_of plan)) slots) c.requires.0)
+    subst (λ (ws : List ℕ). Kept plan (opening ws [] (first_view plan))) (sym (c.as_slice.ensures.value
+    ∙ zeros)) (opens plan c.word_count.result [] (count
+    ∙ ap (λ (s : ℕ). word_count s (records_of plan)) slots) c.requires.0)
 
 pub invariant_of-words : goal.invariant_of-words
 invariant_of-words c =
@@ -21,7 +22,9 @@ invariant_of-words c =
     let made = c.in_ok-table.ensures {u = tt} in
     let same : plan ≡ c.in_ok-table.table.shared.key = sym made.5 in
     let slots = c.slots_of-slots.ensures in let few = c.problem.invariant.few_cells in let seats = c.requires in
-    let planned = is_planned c.problem.inside c.of.result.value c.of-2.result.value c.bits_for-bits.result c.args.seats c.problem.invariant c.of.ensures c.of-2.ensures c.bits_for-bits.ensures.bits c.requires.0 c.requires.1 in
+    let planned = is_planned c.problem.inside c.of.result.value c.of-2.result.value c.bits_for-bits.result
+    c.args.seats c.problem.invariant c.of.ensures c.of-2.ensures c.bits_for-bits.ensures.bits c.requires.0
+    c.requires.1 in
     record {
       bits_are = ap (λ (p : Plan). p.bits) same;
       slots_are = slots.slots ∙ ap slots_of same;

@@ -1,6 +1,5 @@
 use Rattle.std.proofs.Common.{rules}
 use Rattle.memo_words.proofs.Moves.{splits}
-use Rattle.memo_words.proofs.Soundness.{sound_off}
 use Rattle.memo_words.proofs.words.Words.split.Goals as goal
 
 pub split_seat-seat-requires : goal.split_seat-seat-requires
