@@ -33,6 +33,7 @@ pub mod TurnedRanks
 pub mod RanksApart
 pub mod RisingLists
 pub mod RuleArguments
+pub mod FewArguments
 pub mod Reports
 pub mod ReportExists
 pub mod Strict

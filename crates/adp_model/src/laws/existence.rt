@@ -1,6 +1,6 @@
 //! Lists and numbers that clauses speak of exist: the demanded cells of a problem, and the arguments of their splits.
 
-ghost use Rattle.std.specs.Prelude.{ℕ, ◌≤◌, List};
+ghost use Rattle.std.specs.Prelude.{ℕ, ◌^◌, ◌≤◌, List, length};
 ghost use Rattle.adp_model.specs.declared.cell.Cell.{Cell};
 ghost use Rattle.adp_model.specs.PosedProblem.{PosedProblem};
 ghost use Rattle.adp_model.specs.Demand.{AreDemanded, IsDemandedCount};
@@ -19,4 +19,10 @@ pub fn demanded_cells_are_listed()
 pub fn rule_arguments_are_listed()
     ensures { (p : PosedProblem) → IsAdmissible p
         → (arguments : List SplitArgument) × AreRuleArguments p arguments }
+{}
+
+/// A problem has at most 2^75 rule arguments of viable splits of its demanded cells.
+pub fn rule_arguments_are_few()
+    ensures { (p : PosedProblem) → IsAdmissible p → (arguments : List SplitArgument) → AreRuleArguments p arguments
+        → length arguments ≤ 2 ^ 75 }
 {}
