@@ -18,7 +18,7 @@ mod text;
 mod visit;
 mod well_formed;
 
-pub use answers::Answers;
+pub use answers::{Answers, axiom_answer};
 pub use cell::{Answer, Cell, Choice};
 pub use fault::{GrammarFault, LimitFault, TextFault};
 pub use grammar::{Algebra, Alt, Arg, Class, Goal, Grammar, Kind, Linear, Rule, Sign};
