@@ -221,16 +221,12 @@ watch() {
 
 # Proves and builds the program from the sources of this number, and says why first.
 build() {
-  local sum=$1 why=$2 log job built=$top/crates/adp/out/adp
-  command -v rt >/dev/null || {
-    say "$why; so the program has to be built, and 'rt' of the Rattle toolchain is not on the PATH (README.md)"
-    return 1
-  }
+  local sum=$1 why=$2 before='' log job built=$top/crates/adp/out/adp
+  case $why in *since\ prebuilt/adp*) before="; as it was before that, $top/prebuilt/adp can be run by itself" ;; esac
+  command -v rt >/dev/null ||
+    fail "$why, so the program has to be built, and 'rt' of the Rattle toolchain is not on the PATH$before"
   say "$why"
-  say "so the program is proved and built now, once: this takes 20 to 40 minutes"
-  case $why in
-    *since\ prebuilt/adp*) say "(as it was before that change it can be run by itself: $top/prebuilt/adp)" ;;
-  esac
+  say "so the program is proved and built now, once: this takes 20 to 40 minutes$before"
   log=$(mktemp) || return 1
   # The build ends by a run of the program; what that run prints is of no use here. It has a process group of its own,
   # so that all of it can be ended.
@@ -252,9 +248,10 @@ build() {
   return 1
 }
 
-# Finds the program by reading all that it depends on, and builds it where that is needed: sets `program`.
+# Finds the program by reading all that it depends on: sets `program`. Where it has to be built it is, unless the
+# argument is `look`: then `why` says why.
 find_program() {
-  local listed='' sum='' names=() folders='' last why path=prebuilt/adp
+  local listed='' sum='' names=() folders='' last path=prebuilt/adp
   need awk cut find mv rm sed sha256sum sort touch uname xargs
   if [ -d "$top/crates" ]; then
     mapfile -t names < <(roots)
@@ -272,7 +269,10 @@ find_program() {
   if [ -n "$why" ]; then
     path=crates/adp/out/adp
     [ -n "$sum" ] || fail "$why"
-    is_built "$path" "$sum" || build "$sum" "$why" || fail "the program could not be built"
+    if ! is_built "$path" "$sum"; then
+      [ "${1-}" != look ] || return 1
+      build "$sum" "$why" || fail "the program could not be built"
+    fi
     last=$(last_change "$folders $path ${path%/*}/sources") || last=
   fi
   program=$top/$path
@@ -287,18 +287,20 @@ find_program() {
 # Shows how long a run takes already, from two seconds on, until it is ended. The text is no longer than the front of
 # any line that the program writes, and the cursor stands before it, so such a line covers it.
 tick() {
-  local parent=$1 start=$SECONDS never
-  trap 'printf "\r      \r" >&2; exit 0' TERM
+  local parent=$1 start=$SECONDS never is_shown=
+  trap 'if [ -n "$is_shown" ]; then printf "\r      \r" >&2; fi; exit 0' TERM
   exec {never}<> <(:)
   read -r -t 2 -u "$never"
   while kill -0 "$parent" 2>/dev/null; do
+    is_shown=1
     printf '%d s\r' $((SECONDS - start)) >&2
     read -r -t 1 -u "$never"
   done
 }
 
+# (not while a job is typed)
 begin_time() {
-  [ -t 2 ] || return 0
+  [ -t 2 ] && [ ! -t 0 ] || return 0
   tick $BASHPID </dev/null >/dev/null &
   ticker=$!
 }
@@ -417,11 +419,18 @@ sort_arguments() {
   done
 }
 
+# What stands here; nothing is built for it.
 version() {
-  local told=()
+  local told=() which
+  if find_checked || find_program look; then
+    which="program $program"
+  else
+    which="program to be built: $why"
+    program=$top/prebuilt/adp
+  fi
   mapfile -t told 2>/dev/null <"${program%/*}/sources"
-  printf 'adp: algebraic dynamic programming, with proved answers\nprogram %s\nsources %s\n%s\n' \
-    "$program" "${told[0]-}" "${told[1]-}"
+  printf '%s\n' 'adp: algebraic dynamic programming, with proved answers' "$which" "sources ${told[0]-unknown}" \
+    "${told[1]-}"
 }
 
 if [ -L "$self" ]; then
@@ -437,13 +446,13 @@ case "${1-}" in
   --source-files) need awk cut find sha256sum sort xargs; roots | checksums | cut -c 1-8,65-; exit ;;
 esac
 
-words=() files=() explains='' copy='' program='' ticker=''
+words=() files=() explains='' copy='' program='' ticker='' why=''
 need find
-find_checked || find_program
 if [ "${1-}" = --version ]; then
   version || exit 4
   exit 0
 fi
+find_checked || find_program
 sort_arguments "$@"
 if [ ${#files[@]} = 0 ]; then
   files=(-)

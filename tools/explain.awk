@@ -213,7 +213,7 @@ function strange(text, at,    byte, two, three) {
   byte = substr(text, at, 1)
   two = substr(text, at, 2)
   three = substr(text, at, 3)
-  if (byte == "\t") return "a tab stands here: put spaces (in a word a tab is no letter either)"
+  if (byte == "\t") return "a tab stands here: put spaces"
   if (byte == "\r") return "a carriage return stands here that is not directly before the end of its line"
   if (two == "\302\240") return "a no-break space stands here: put a space"
   if (three ~ /^\342\200[\230-\237]/) return "a typographic quote stands here: put \""
@@ -556,7 +556,7 @@ function sentence(text) { return toupper(substr(text, 1, 1)) substr(text, 2) (te
 # The name of a list that is most like a word; nothing where none is like it.
 function nearest(word, names,    i, best, least, most, found) {
   least = length(word) < 4 ? 1 : 2
-  for (i in names) {
+  for (i = 1; i in names; i++) {
     if (names[i] == word) continue
     if (tolower(names[i]) == tolower(word)) return names[i]
     most = distance(word, names[i])
