@@ -29,12 +29,6 @@ none_of_algebras f none none_let signs [] = refl
 none_of_algebras f none none_let signs (algebra ∷ algebras) =
     rw (none algebra, filter_map-append f (map let_declaration (zip signs algebra.terms)) (flat_map (algebra_declarations signs) algebras), none_of f let_declaration none_let (zip signs algebra.terms)) (none_of_algebras f none none_let signs algebras)
 
-pub each_of_algebras : {Y : Type 0} (f : Declaration → Option Y) (part : Algebra → Y) → ((algebra : Algebra) → f (algebra_declaration algebra) ≡ Some (part algebra)) → ((entry : Sign × Linear) → f (let_declaration entry) ≡ None)
-    → (signs : List Sign) (algebras : List Algebra) → filter_map f (flat_map (algebra_declarations signs) algebras) ≡ map part algebras
-each_of_algebras f part some none_let signs [] = refl
-each_of_algebras f part some none_let signs (algebra ∷ algebras) =
-    rw (some algebra, filter_map-append f (map let_declaration (zip signs algebra.terms)) (flat_map (algebra_declarations signs) algebras), none_of f let_declaration none_let (zip signs algebra.terms)) (ap (λ (others : List _). part algebra ∷ others) (each_of_algebras f part some none_let signs algebras))
-
 by_pieces : {Y : Type 0} (f : Declaration → Option Y) (classes signs algebras rules : List Declaration) (last end : Declaration)
     → filter_map f (classes ++ signs ++ algebras ++ rules ++ last ∷ [] ++ end ∷ [])
     ≡ filter_map f classes ++ (filter_map f signs ++ (filter_map f algebras ++ (filter_map f rules ++ filter_map f (last ∷ end ∷ []))))

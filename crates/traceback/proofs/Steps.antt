@@ -182,7 +182,3 @@ step p few bellman unique nodes cells cell score choice (inl listed) answer =
         short = listed.short;
       });
     }
-
-pub listed_whole : (p : PosedProblem) (nodes : List NodeAt) → IsListing p nodes [] → IsPreorder p nodes
-listed_whole p nodes (inl listed) = inl (listed.tree, listed.preferred, sym (listed.nodes_are ∙ ap (λ x. nodes ++ x) listed.remaining ∙ append-nil nodes))
-listed_whole p nodes (inr none) = inr (none.0, none.1)

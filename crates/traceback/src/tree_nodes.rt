@@ -1,6 +1,5 @@
-ghost use Rattle.std.specs.Prelude.{◌≡◌, ◌<◌, ◌≤◌, ◌^◌, ◌++◌, [], ℤ, length, IfOk, OnOk};
-ghost use Rattle.adp_model.specs.PosedProblem.{axiom_cell};
-ghost use Rattle.adp_model.specs.Parts.{alternatives_of, arguments_of};
+ghost use Rattle.std.specs.Prelude.{◌≡◌, ◌<◌, ◌++◌, [], ℤ, length, IfOk, OnOk};
+ghost use Rattle.adp_model.specs.Parts.{alternatives_of};
 ghost use Rattle.adp_model.specs.Splits.{IsViable, place, placed};
 ghost use Rattle.adp_model.specs.declared.cell.Answer.TheVariants.{Best};
 ghost use Rattle.adp_model.specs.Answers.{IsAnswer};
@@ -50,7 +49,7 @@ pub fn preorder<A: Answers>(
     Ok(nodes)
 }
 
-// The cell of the whole word, where a tree is derived for it.
+/// The cell of the whole word, where a tree is derived for it.
 fn first_open<A: Answers>(
     alloc: Global,
     problem: &Problem<'_>,
@@ -60,7 +59,7 @@ fn first_open<A: Answers>(
     ensures { IfOk result (λ cells. IsListing problem.now [] cells.items) }
 {
     whole_trees(problem);
-    let whole = whole_word(problem);
+    let whole = problem.axiom_cell();
     match answers.answer(whole) {
         Some(Answer::Best { .. }) => Ok(vec![in alloc; whole]?),
         Some(Answer::NoCandidate) => Ok(Vec::new(alloc)),
@@ -68,7 +67,7 @@ fn first_open<A: Answers>(
     }
 }
 
-// Trees of the whole word lie within the axiom's sizes, and have few nodes.
+/// Trees of the whole word lie within the axiom's sizes, and have few nodes.
 fn whole_trees(problem: &Problem<'_>)
     ensures { WholeTrees problem.now }
 {
@@ -77,7 +76,7 @@ fn whole_trees(problem: &Problem<'_>)
     derived_lengths_are_within_sizes();
 }
 
-// The root of the preferred tree of a demanded cell that has one.
+/// The root of the preferred tree of a demanded cell that has one.
 fn choice_at<A: Answers>(problem: &Problem<'_>, answers: &A, cell: Cell) -> Choice
     requires same { A.problem answers.now ≡ problem.now }
     requires top { IsTop problem.now cell }
@@ -85,23 +84,11 @@ fn choice_at<A: Answers>(problem: &Problem<'_>, answers: &A, cell: Cell) -> Choi
 {
     match answers.answer(cell) {
         Some(Answer::Best { choice, .. }) => choice,
-        Some(Answer::NoCandidate) => unreachable!(),
-        None => unreachable!(),
+        Some(Answer::NoCandidate) | None => unreachable!(),
     }
 }
 
-// The axiom and the whole word.
-fn whole_word(problem: &Problem<'_>) -> Cell
-    ensures { result ≡ axiom_cell problem.now }
-{
-    Cell {
-        rule: problem.grammar.axiom,
-        from: 0,
-        to: problem.word.bytes().len() as u16,
-    }
-}
-
-// Puts the cells of a split's rule arguments on the stack, the first on top.
+/// Puts the cells of a split's rule arguments on the stack, the first on top.
 fn push_children(
     open: &mut Vec<Cell>,
     problem: &Problem<'_>,
@@ -116,13 +103,13 @@ fn push_children(
     let ends = [first, second, third, cell.to];
     push_cells(
         open,
-        arguments(problem, cell.rule, choice.alt),
+        problem.arguments(cell.rule, choice.alt),
         cell.from,
         &ends,
     )
 }
 
-// Puts the cells of the rules among these arguments on the stack, the first on top. There are at most four arguments.
+/// Puts the cells of the rules among these arguments on the stack, the first on top. There are at most four arguments.
 fn push_cells(
     open: &mut Vec<Cell>,
     arguments: &[Arg],
@@ -141,7 +128,7 @@ fn push_cells(
     }
 }
 
-// Puts the argument's cell on the stack, where it is a rule.
+/// Puts the argument's cell on the stack, where it is a rule.
 fn push_cell(open: &mut Vec<Cell>, argument: &Arg, from: u16, to: u16) -> Result<(), AllocError>
     ensures { OnOk result (open.new.items ≡ open.old.items
         ++ cell_of (record { argument = argument.now; from = from; to = to })) }
@@ -151,14 +138,4 @@ fn push_cell(open: &mut Vec<Cell>, argument: &Arg, from: u16, to: u16) -> Result
         open.push(Cell { rule, from, to })?;
     }
     Ok(())
-}
-
-// The arguments of an alternative.
-fn arguments<'a>(problem: &Problem<'a>, rule: u32, alternative: u8) -> &'a [Arg]
-    requires { alternative < length (alternatives_of problem.now.grammar rule) }
-    ensures { result.now ≡ arguments_of problem.now.grammar rule alternative }
-{
-    let grammar = problem.grammar;
-    let rule = &grammar.rules.as_slice()[rule as usize];
-    rule.alts.as_slice()[alternative as usize].args.as_slice()
 }
