@@ -59,16 +59,6 @@ pub record AreGathered (old new : CellMarks) (from rules : ℕ) : Type 0 where
   pub same : AreMarkedToo old new (λ cell. ⊥)
   pub in_rows : AreInRows new (λ cell. (cell.rule < rules) × (cell.from ≡ from) × IsMarked old cell)
 
-pub none_gathered : (marks : CellMarks) (from : ℕ) → AreGathered marks marks from 0
-none_gathered marks from = record {
-  same = record {
-    problem = refl;
-    exact = λ cell. (λ marked. inl marked, λ either. ⊎_elim (λ was. was) (λ none. absurd none) either);
-    rows_stay = λ cell row. row;
-  };
-  in_rows = λ cell (low, at, marked). absurd (omega arith);
-}
-
 pub one_more_gathered : (old now new : CellMarks) (from rule : ℕ) → AreGathered old now from rule → AreMarkedToo now new (λ cell. ⊥) → AreInRows new (λ cell. (cell.rule ≡ rule) × (cell.from ≡ from) × IsMarked now cell) → AreGathered old new from (rule + 1)
 one_more_gathered old now new from rule before same here = record {
   same = record {

@@ -1,5 +1,5 @@
 -- Notes of cells: none at first, and what one more note leaves noted.
-use Rattle.std.proofs.Common.{◌≡◌, ◌↔◌, ◌⊎◌, ℕ, length, refl, sym, ap, subst, inl, inr, ⊎_elim}
+use Rattle.std.proofs.Common.{◌≡◌, ◌↔◌, ◌⊎◌, ℕ, length, sym, subst, inl, inr, ⊎_elim}
 use Rattle.adp_model.specs.declared.cell.Cell.{Cell}
 use Rattle.adp_model.specs.Cells.{IsCounted}
 use Rattle.cell_tables.specs.Spans.{Spans}

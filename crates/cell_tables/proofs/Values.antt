@@ -1,7 +1,6 @@
 -- Values of spans: which spans have one, where it stands, and what a write of one changes.
 use Rattle.std.proofs.Common.{◌≡◌, ℕ, zero, suc, ◌+◌, ◌-◌, ◌*◌, ◌<◌, ◌≤◌, ◌⊎◌, true, ◌&&◌, cond, leb, ltb, Decides, Option, Some, None, List, [], ◌∷◌, length, get_or, set, slice_get, sym, ap, refl, subst, inl, inr, ⊎_elim, ◌∙◌, arith}
 use Rattle.std.specs.Prelude.{IsSome, is_some}
-use Rattle.std.specs.List.{Contains}
 use Rattle.std.proofs.lemmas.Bool.{cases_lt, cases_eq, cases_Bool, leb-true, le-leb}
 use Rattle.std.proofs.lemmas.Bool.Decides.{Decides-and, Decides-ltb}
 use Rattle.std.proofs.lemmas.Nat.{same_from_place}
@@ -210,7 +209,3 @@ set_like old new Here There value to from set_here = record {
   there = λ at is. set_here.there at (to at is);
   others = λ at apart. set_here.others at (λ is. apart (from at is));
 }
-
-module _ {V : Type 0} (spans : Spans V) (laid : AreBlocks spans) (rule near : ℕ) (block : Block) (is_block : block ≡ block_at spans rule near) (fars : List ℕ) (shift : ℕ) (each : (far : ℕ) → Contains fars far → Stands spans rule near (far + shift)) where
-  place_moved : (far : ℕ) → Contains fars far → place_of spans rule near (far + shift) ≡ far + (block.place + shift) - block.first
-  place_moved far is = omega (arith, place_is spans laid rule near block is_block (far + shift) (each far is), low_in spans laid rule near block is_block (far + shift) (each far is))

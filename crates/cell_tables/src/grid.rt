@@ -11,8 +11,8 @@ use std::marker::Model;
 use std::sync::Arc;
 use yield_sizes::{Block, Laid};
 
-/// A value for each of some spans, by a rule, a near end and a far end of the span: those of a rule and a near end stand
-/// side by side, from the place of their block on. The blocks are shared with others that are laid out alike.
+/// A value for each of some spans, by a rule, a near end and a far end of the span: those of a rule and a near end
+/// stand side by side, from the place of their block on. The blocks are shared with others that are laid out alike.
 #[derive(Drop)]
 pub struct Grid<V> {
     /// How many near ends a rule has.

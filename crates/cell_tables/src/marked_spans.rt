@@ -140,8 +140,8 @@ impl<'a> Marks<'a> {
         any_set(&self.rows, rules, from, number)
     }
 
-    /// The bits of the 64 ends of this number: set where a span that begins from `first` on and before `past` is marked in
-    /// a row of one of the rules.
+    /// The bits of the 64 ends of this number: set where a span that begins from `first` on and before `past` is marked
+    /// in a row of one of the rules.
     fn ends_marked(&self, rules: &[u32], first: u16, past: u16, number: u16) -> u64
         ensures { (to : ℕ) → IsBitIn result number to
             ↔ ((to / 64 ≡ number) × IsEndMarked self.now rules.now first past to) }

@@ -15,8 +15,8 @@ use yield_sizes::{Layout, Side};
 
 /// A value for each counted cell of a problem, in its row and in its column: rows go by a rule and a start and have the
 /// ends side by side, columns go by a rule and an end and have the starts side by side. Takes two values for each
-/// counted cell; the blocks of its rows and columns are the layout's. Contracts see it as the problem and the values by rows and
-/// columns.
+/// counted cell; the blocks of its rows and columns are the layout's. Contracts see it as the problem and the values by
+/// rows and columns.
 #[derive(Drop)]
 pub struct Table<'a, V> {
     problem: &'a Problem<'a>,

@@ -2,7 +2,6 @@ pub mod BitPlaces
 pub mod ClassFacts
 pub mod Dividing
 pub mod ExtentPlaces
-pub mod Formed
 pub mod Fronts
 pub mod Growing
 pub mod KeptLines

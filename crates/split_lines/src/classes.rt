@@ -5,7 +5,6 @@ ghost use Rattle.adp_model.specs.Parts.{letters_of};
 ghost use Rattle.adp_model.specs.Tokens.{weight_of};
 ghost use Rattle.split_lines.specs.Classes.{IsAhead, IsBehind, AreSums, IsTable};
 
-use crate::parts::{class_letters, letters};
 use adp_model::Problem;
 use std::alloc::{AllocError, Global};
 use std::marker::Model;
@@ -110,7 +109,7 @@ impl<'a> ClassTables<'a> {
     pub fn new(alloc: Global, problem: &'a Problem<'a>) -> Result<ClassTables<'a>, AllocError>
         ensures { IfOk result (λ tables. tables ≡ problem.now) }
     {
-        let word = letters(problem);
+        let word = problem.letters();
         let classes = problem.grammar.classes.as_slice();
         let mut tables = Vec::with_capacity(alloc, classes.len())?;
         for class in classes {

@@ -11,13 +11,12 @@ ghost use Rattle.split_lines.specs.Extents.{AreOfClass, IsExtent};
 ghost use Rattle.split_lines.specs.Laid.{IsFixed};
 
 use crate::classes::ClassTables;
-use crate::parts::rule_sizes;
-use adp_model::{Arg, Problem};
+use adp_model::{Arg, MOST_LETTERS, Problem};
 use std::ops::Range;
 use yield_sizes::Matcher;
 
 /// How many letters a word may have.
-const MOST_LETTERS: u32 = 4000;
+const MOST: u32 = MOST_LETTERS as u32;
 
 /// How many letters an argument of open length may have at least and at most, as far as words have so many, and the
 /// class of its letters, where it is a run.
@@ -35,11 +34,11 @@ fn extent_between(least: u32, most: Option<u32>, class: Option<u32>) -> Extent
         → ((least ≤ len) × IfSome most (λ most. len ≤ most)) ↔ ((result.least ≤ len) × (len ≤ result.most)) }
 {
     let most = match most {
-        Some(most) => most.min(MOST_LETTERS),
-        None => MOST_LETTERS,
+        Some(most) => most.min(MOST),
+        None => MOST,
     };
     Extent {
-        least: least.min(MOST_LETTERS + 1) as u16,
+        least: least.min(MOST + 1) as u16,
         most: most as u16,
         class,
     }
@@ -53,7 +52,7 @@ pub fn extent_of(problem: &Problem<'_>, argument: &Arg) -> Extent
 {
     match argument {
         Arg::Rule(rule) => {
-            let (least, greatest) = rule_sizes(problem, *rule);
+            let (least, greatest) = problem.sizes(*rule);
             extent_between(least, greatest, None)
         }
         Arg::Run { class, low, high } => extent_between(*low, *high, Some(*class)),

@@ -13,9 +13,8 @@ ghost use Rattle.split_lines.specs.Kept.{AreInFront, AreOneLetter, AreOneOfClass
 use crate::classes::ClassTables;
 use crate::lines::KeptLine;
 use crate::matches::{covers, fixed_letters};
-use crate::parts::{arguments, goal, letters, term};
 use crate::tokens::is_fixed;
-use adp_model::laws::well_formed::arguments_are_few_and_known;
+use adp_model::laws::well_formed::terms_fit_their_alternatives;
 use adp_model::{Arg, Problem};
 use score_numbers::{are_worthless, turned, turned_factors};
 use yield_sizes::Matcher;
@@ -137,10 +136,10 @@ pub fn kept_alternative<'a>(
     ensures line { result.line ≡ line }
 {
     problem.admissible();
-    arguments_are_few_and_known();
-    let goal = goal(problem);
-    let arguments = arguments(problem, rule, alt);
-    let term = term(problem, rule, alt);
+    terms_fit_their_alternatives();
+    let goal = problem.goal();
+    let arguments = problem.arguments(rule, alt);
+    let term = problem.term(rule, alt);
     let number = front_length(arguments);
     let (front, others) = (&arguments[..number], &arguments[number..]);
     let factors = turned_factors(goal, term.factors.as_slice());
@@ -205,7 +204,7 @@ pub fn front_end(
         return None;
     }
     if let Some(letter) = alternative.first {
-        if !stands(letters(tables.problem()), from, letter) {
+        if !stands(tables.problem().letters(), from, letter) {
             return None;
         }
         if alternative.alone {

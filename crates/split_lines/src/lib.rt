@@ -8,7 +8,6 @@ mod extents;
 mod kept;
 mod lines;
 mod matches;
-mod parts;
 mod spans;
 mod tokens;
 

@@ -25,7 +25,6 @@ use crate::classes::ClassTables;
 use crate::extents::{Extent, extent_of};
 use crate::kept::{KeptAlternative, front_end, kept_alternative};
 use crate::matches::{Matches, covers, fixed_letters};
-use crate::parts::{alternatives, arguments};
 use crate::spans;
 use crate::tokens::is_fixed;
 use adp_model::laws::well_formed::arguments_are_few_and_known;
@@ -201,13 +200,11 @@ fn kept_alternatives<'a>(
         (length (alternatives_of tables.now.grammar rule)) kept.items) }
 {
     let problem = tables.problem();
-    problem.admissible();
-    arguments_are_few_and_known();
-    let count = alternatives(problem, rule).len();
+    let count = problem.alternatives(rule).len();
     let mut kept = Vec::with_capacity(alloc, count)?;
     for number in 0..count {
         let alt = number as u8;
-        let line = kept_line(alloc, tables, arguments(problem, rule, alt), middles)?;
+        let line = kept_line(alloc, tables, problem.arguments(rule, alt), middles)?;
         kept.push(kept_alternative(problem, rule, alt, line))?;
     }
     Ok(kept)
@@ -322,12 +319,7 @@ impl<'a> Lines<'a> {
     /// Where the tokens in front of an alternative end that begin at `from`, where they match there and end at `to` or
     /// before. Takes constant time, but for the letters of literals, and no memory.
     #[inline(always)]
-    pub fn front_end(
-        &self,
-        alternative: &KeptAlternative<'_>,
-        from: u16,
-        to: u16,
-    ) -> Option<u16>
+    pub fn front_end(&self, alternative: &KeptAlternative<'_>, from: u16, to: u16) -> Option<u16>
         requires front { AreInFront self.now alternative.now }
         requires span { IsSpan self.now.word from to }
         ensures { (end : ℕ) → (result ≡ Some end) ↔ ((end ≤ to) × Cover self.now alternative.now.front.now from end) }

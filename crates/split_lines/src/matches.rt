@@ -11,7 +11,6 @@ ghost use Rattle.score_numbers.specs.Limits.{AreLimited};
 ghost use Rattle.split_lines.specs.Matching.{fixed_length, HaveLetters, AreCounts, AreLimitsOf, AreMatches};
 
 use crate::classes::ClassTables;
-use crate::parts::letters;
 use crate::spans::token_end;
 use crate::tokens::fixed_length;
 use adp_model::{Arg, Problem};
@@ -45,7 +44,7 @@ pub fn fixed_letters(problem: &Problem<'_>, tokens: &[Arg]) -> usize
     if tokens.is_empty() {
         return 0;
     }
-    let most = letters(problem).len() + 1;
+    let most = problem.letters().len() + 1;
     let first = fixed_length(&tokens[0]).min(most);
     most.min(first + fixed_letters(problem, &tokens[1..]))
 }
@@ -103,7 +102,7 @@ impl Matches {
         ensures { IfOk result (AreMatches tables.now tokens.now) }
     {
         let problem = tables.problem();
-        let len = letters(problem).len();
+        let len = problem.letters().len();
         let width = fixed_letters(problem, tokens);
         let mut places = Vec::new(alloc);
         let mut before = Vec::with_capacity(alloc, len + 2)?;

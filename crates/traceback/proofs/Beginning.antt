@@ -1,21 +1,15 @@
 -- The list before its first node: the whole word's cell is on the stack where a tree is derived for it.
-use Rattle.std.proofs.Common.{◌≡◌, ℕ, suc, ◌+◌, ◌-◌, ◌<◌, ◌≤◌, ℤ, ◌⊎◌, inl, inr, Option, Some, None, IsSome, IfSome, List, [], ◌∷◌, ◌++◌, length, refl, sym, ap, ap₂, subst, ◌∙◌, arith, length-append}
-use Rattle.adp_model.specs.declared.cell.Answer.{Answer}
-use Rattle.adp_model.specs.declared.cell.Answer.TheVariants.{NoCandidate, Best}
+use Rattle.std.proofs.Common.{◌≡◌, ◌≤◌, ℤ, inl, inr, [], ◌∷◌, length, refl, sym, subst, arith, length-append}
+use Rattle.adp_model.specs.declared.cell.Answer.TheVariants.{Best}
 use Rattle.adp_model.specs.declared.cell.Cell.{Cell}
 use Rattle.adp_model.specs.declared.cell.Choice.{Choice}
 use Rattle.adp_model.specs.PosedProblem.{PosedProblem, axiom_cell}
 use Rattle.adp_model.specs.Tree.{Tree, Leaf, Node, Trees, Nil, Cons, node_count, node_counts}
-use Rattle.adp_model.specs.Derivation.{Derives}
-use Rattle.adp_model.specs.Preference.{IsPreferred}
 use Rattle.adp_model.specs.Answers.{HasNoTree, IsAnswer}
 use Rattle.adp_model.specs.Demand.{IsDemanded, Axiom}
-use Rattle.adp_model.specs.Sizes.{IsWithinSizes}
-use Rattle.adp_model.specs.Bounds.{AreNodeBounds}
-use Rattle.adp_model.specs.ProblemFields.{most_letters, most_nodes, IsAdmissible}
-use Rattle.traceback.specs.declared.tree_nodes.NodeAt.{NodeAt}
+use Rattle.adp_model.specs.ProblemFields.{most_nodes}
 use Rattle.traceback.specs.Preorder.{nodes_of, nodes_of_all}
-use Rattle.traceback.specs.Listing.{Remaining, Listed, IsListing, WholeTrees}
+use Rattle.traceback.specs.Listing.{IsListing, WholeTrees}
 
 mutual
   length-nodes_of : (tree : Tree) → length (nodes_of tree) ≡ node_count tree

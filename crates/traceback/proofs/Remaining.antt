@@ -1,18 +1,18 @@
 -- What is still to be listed while cells stand on the stack: the nodes of their preferred trees, the top's first.
-use Rattle.std.proofs.Common.{◌≡◌, ℕ, zero, suc, ◌+◌, ◌<◌, ◌≤◌, ◌⊎◌, inl, inr, List, [], ◌∷◌, ◌++◌, length, take, refl, sym, ap, ap₂, subst, ◌∙◌, arith, append_assoc, slice_index_or}
-use Rattle.std.specs.List.{AllByRecursion, Contains}
+use Rattle.std.proofs.Common.{◌≡◌, ℕ, List, [], ◌∷◌, ◌++◌, refl, sym, ap, subst, ◌∙◌, append_assoc}
+use Rattle.std.specs.List.{AllByRecursion}
 use Rattle.adp_model.specs.declared.grammar.Arg.{Arg}
-use Rattle.adp_model.specs.declared.grammar.Arg.TheVariants.{Rule, Literal, Letter, Run}
+use Rattle.adp_model.specs.declared.grammar.Arg.TheVariants.{Rule}
 use Rattle.adp_model.specs.declared.cell.Cell.{Cell}
 use Rattle.adp_model.specs.PosedProblem.{PosedProblem}
 use Rattle.adp_model.specs.Tree.{Tree, Leaf, Node, Trees, Nil, Cons, end_of, ends_of}
-use Rattle.adp_model.specs.Derivation.{Derives, DeriveArguments}
-use Rattle.adp_model.specs.Preference.{cuts_of, IsPreferred}
+use Rattle.adp_model.specs.Derivation.{DeriveArguments}
+use Rattle.adp_model.specs.Preference.{IsPreferred}
 use Rattle.adp_model.specs.Splits.{Placed, place, AtRule}
 use Rattle.adp_model.specs.Demand.{IsDemanded}
 use Rattle.adp_model.specs.Bellman.{ArePreferred}
 use Rattle.traceback.specs.declared.tree_nodes.NodeAt.{NodeAt}
-use Rattle.traceback.specs.Preorder.{nodes_of, nodes_of_all, cell_of, stacked}
+use Rattle.traceback.specs.Preorder.{nodes_of, nodes_of_all, stacked}
 use Rattle.traceback.specs.Listing.{Remaining}
 
 pub append-nil : (xs : List NodeAt) → xs ++ [] ≡ xs

@@ -1,9 +1,8 @@
 -- Cells of a split's rule arguments on the stack.
-use Rattle.std.proofs.Common.{◌≡◌, ℕ, List, [], ◌∷◌, ◌++◌, refl, sym, arith, append_assoc}
+use Rattle.std.proofs.Common.{◌≡◌, ℕ, List, [], ◌∷◌, refl}
 use Rattle.adp_model.specs.declared.grammar.Arg.{Arg}
-use Rattle.adp_model.specs.declared.cell.Cell.{Cell}
-use Rattle.adp_model.specs.Splits.{Placed, place}
-use Rattle.traceback.specs.Preorder.{cell_of, stacked}
+use Rattle.adp_model.specs.Splits.{place}
+use Rattle.traceback.specs.Preorder.{stacked}
 
 pub stacked-none : (arguments : List Arg) (from : ℕ) → stacked (place arguments from []) ≡ []
 stacked-none [] from = refl

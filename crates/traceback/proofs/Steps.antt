@@ -1,25 +1,25 @@
 -- A step of the list: a cell is taken from the stack, its node is listed, and the cells of its rule children take its place.
-use Rattle.std.proofs.Common.{◌≡◌, ℕ, zero, suc, ◌+◌, ◌-◌, ◌<◌, ◌≤◌, ℤ, ◌⊎◌, inl, inr, Option, Some, None, IsTrue, List, [], ◌∷◌, ◌++◌, length, refl, sym, ap, ap₂, subst, ◌∙◌, arith, append_assoc, slice_index_or, length-append}
-use Rattle.std.specs.List.{AllByRecursion, Contains}
+use Rattle.std.proofs.Common.{◌≡◌, ℕ, suc, ◌+◌, ◌<◌, ◌≤◌, ℤ, inl, inr, List, [], ◌∷◌, ◌++◌, length, refl, sym, ap, subst, ◌∙◌, arith, append_assoc, slice_index_or, length-append}
+use Rattle.std.specs.List.{Contains}
 use Rattle.adp_model.specs.declared.grammar.Arg.{Arg}
 use Rattle.adp_model.specs.declared.grammar.Arg.TheVariants.{Rule, Literal, Letter, Run}
-use Rattle.adp_model.specs.declared.cell.Answer.TheVariants.{NoCandidate, Best}
+use Rattle.adp_model.specs.declared.cell.Answer.TheVariants.{Best}
 use Rattle.adp_model.specs.declared.cell.Cell.{Cell}
 use Rattle.adp_model.specs.declared.cell.Choice.{Choice}
-use Rattle.adp_model.specs.PosedProblem.{PosedProblem, IsSpan, axiom_cell}
+use Rattle.adp_model.specs.PosedProblem.{PosedProblem, IsSpan}
 use Rattle.adp_model.specs.Parts.{alternatives_of, arguments_of}
-use Rattle.adp_model.specs.Tree.{Tree, Leaf, Node, Trees, Nil, Cons, end_of, ends_of, node_count}
-use Rattle.adp_model.specs.Derivation.{Derives, DeriveArguments}
+use Rattle.adp_model.specs.Tree.{Tree, Leaf, Node, Trees, Nil, Cons, end_of, ends_of}
+use Rattle.adp_model.specs.Derivation.{DeriveArguments}
 use Rattle.adp_model.specs.Preference.{cuts_of, IsPreferred}
-use Rattle.adp_model.specs.Answers.{choice_of, HasNoTree, IsAnswer}
+use Rattle.adp_model.specs.Answers.{choice_of, IsAnswer}
 use Rattle.adp_model.specs.Splits.{Placed, place, placed, IsViable, AtRule}
-use Rattle.adp_model.specs.Demand.{IsDemandedChild, IsDemanded, Child}
+use Rattle.adp_model.specs.Demand.{IsDemanded, Child}
 use Rattle.adp_model.specs.Bellman.{ArePreferred, Bellman}
 use Rattle.adp_model.specs.ProblemFields.{most_nodes}
 use Rattle.traceback.specs.declared.tree_nodes.NodeAt.{NodeAt}
-use Rattle.traceback.specs.Preorder.{nodes_of, nodes_of_all, stacked, IsPreorder}
-use Rattle.traceback.specs.Listing.{Remaining, Listed, IsListing, IsTop}
-use Rattle.traceback.proofs.Remaining.{append-nil, Popped, Remaining-append, Remaining-pop, AreDemandedAt, Remaining-children}
+use Rattle.traceback.specs.Preorder.{nodes_of, nodes_of_all, stacked}
+use Rattle.traceback.specs.Listing.{Remaining, IsListing, IsTop}
+use Rattle.traceback.proofs.Remaining.{Remaining-append, Remaining-pop, AreDemandedAt, Remaining-children}
 
 -- ---- the spans of children, by the cuts of their node
 

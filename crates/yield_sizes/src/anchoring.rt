@@ -22,7 +22,7 @@ pub enum Side {
     Right,
 }
 
-// Whether one of the arguments is this rule, and one on this side of it can be nonempty.
+/// Whether one of the arguments is this rule, and one on this side of it can be nonempty.
 fn is_named_beyond(side: Side, greatest: &[Option<u32>], rule: usize, arguments: &[Arg]) -> bool
     ensures { result ≡ is_named_beyond side greatest.now rule arguments.now }
 {
@@ -43,7 +43,7 @@ fn is_start_in(side: Side, greatest: &[Option<u32>], rule: usize, alternatives: 
     ))
 }
 
-// Whether a reached rule names this one beyond an argument that can be nonempty.
+/// Whether a reached rule names this one beyond an argument that can be nonempty.
 fn is_start(
     side: Side,
     greatest: &[Option<u32>],
@@ -79,7 +79,7 @@ fn is_reached(root: u32, paths: &[Sequence<bool>], rule: usize) -> bool
     root as usize == rule || is_related(paths, root as usize, rule)
 }
 
-// Which rules are reached from the axiom.
+/// Which rules are reached from the axiom.
 fn reached_rules(
     alloc: Global,
     root: u32,
@@ -93,7 +93,7 @@ fn reached_rules(
         .collect(alloc)
 }
 
-// Whether references lead from a start to this rule, or it is one.
+/// Whether references lead from a start to this rule, or it is one.
 fn is_free(paths: &[Sequence<bool>], starts: &[bool], rule: usize) -> bool
     ensures { result ≡ is_free paths.now starts.now rule }
 {
@@ -115,7 +115,7 @@ fn anchored(
         .collect(alloc)
 }
 
-// Which rules are anchored on this side.
+/// Which rules are anchored on this side.
 fn anchored_on(
     alloc: Global,
     side: Side,

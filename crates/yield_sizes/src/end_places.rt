@@ -7,7 +7,6 @@ ghost use Rattle.yield_sizes.specs.Placing.{AreLengths, ArePlaces};
 
 use crate::ends::argument_ends;
 use crate::matcher::Matcher;
-use crate::parts::rule_sizes;
 use adp_model::{Arg, Problem};
 use std::ops::Range;
 
@@ -18,7 +17,7 @@ fn lengths(problem: &Problem<'_>, argument: &Arg, most: usize) -> (usize, usize)
     ensures { AreLengths problem.now (argument.now ∷ []) most result.0 result.1 }
 {
     let (least, greatest) = match argument {
-        Arg::Rule(rule) => rule_sizes(problem, *rule),
+        Arg::Rule(rule) => problem.sizes(*rule),
         Arg::Literal(text) => {
             let len = text.bytes().len();
             return (len.min(most + 1), len.min(most));

@@ -6,7 +6,6 @@ ghost use Rattle.adp_model.specs.WellFormed.{IsKnown};
 ghost use Rattle.yield_sizes.specs.Placing.{AreEnds};
 
 use crate::matcher::Matcher;
-use crate::parts::{letters, rule_sizes};
 use adp_model::{Arg, Problem};
 use std::ops::Range;
 
@@ -33,7 +32,7 @@ fn rule_ends(problem: &Problem<'_>, rule: u32, from: usize, last: usize) -> Rang
     requires short { last < 2 ^ 16 }
     ensures { AreEnds problem.now (Rule rule) from last result }
 {
-    let (least, greatest) = rule_sizes(problem, rule);
+    let (least, greatest) = problem.sizes(rule);
     from + least as usize..last_end(from, last, greatest) + 1
 }
 
@@ -57,7 +56,7 @@ fn literal_ends(problem: &Problem<'_>, text: &[u8], from: usize, last: usize) ->
     requires short { last < 2 ^ 16 }
     ensures { AreEnds problem.now (Literal text.now) from last result }
 {
-    if begins_with(&letters(problem)[from..last], text) {
+    if begins_with(&problem.letters()[from..last], text) {
         from + text.len()..from + text.len() + 1
     } else {
         from..from

@@ -16,7 +16,6 @@ mod least_lengths;
 mod loops;
 mod matcher;
 mod numbering;
-mod parts;
 mod placing;
 mod productive_rules;
 mod references;

@@ -53,8 +53,7 @@ fn marked_in_each(alloc: Global, rows: &[Sequence<bool>]) -> Result<Vec<u32>, Al
     rows.iter().map(|row| marked(row.as_slice())).collect(alloc)
 }
 
-/// A rank for each rule, below the number of rules: how many rules empty-context edges lead to from there. Each
-/// edge goes to a lesser rank.
+/// A rank for each rule, below the number of rules: each empty-context edge goes to a lesser rank.
 pub fn ranks(alloc: Global, grammar: &Grammar, sizes: &Sizes) -> Result<Vec<u32>, AllocError>
     requires well_formed { IsTrue (is_well_formed grammar.now) }
     requires sizes { AreSizes grammar.now sizes.now }

@@ -7,7 +7,6 @@ ghost use Rattle.adp_model.specs.PosedProblem.{PosedProblem, IsSpan};
 ghost use Rattle.adp_model.specs.Tokens.{IsIn};
 ghost use Rattle.yield_sizes.specs.Placing.{IsClassEnd, CoverNone, IsNextPlace};
 
-use crate::parts::{class_letters, letters};
 use adp_model::Problem;
 
 /// What finds in the word of a problem where arguments match. A walk over viable splits asks it at each step.
@@ -79,6 +78,6 @@ impl<'a> Matcher for Problem<'a> {
     }
 
     fn class_end(&self, class: u32, from: usize, last: usize) -> usize {
-        from + reach(class_letters(self, class), &letters(self)[from..last])
+        from + reach(self.class_letters(class), &self.letters()[from..last])
     }
 }

@@ -8,7 +8,6 @@ ghost use Rattle.adp_model.specs.Walk.{IsFirstVisited, IsNextVisited, IsLastVisi
 
 use crate::cuts::Cuts;
 use crate::matcher::Matcher;
-use crate::parts::arguments;
 use crate::placing::{Walk, first_cuts, next_cuts};
 use adp_model::Cell;
 
@@ -30,7 +29,7 @@ pub fn first_visited<M: Matcher>(
     ensures kept { OnFalse result (cuts.new.at ≡ cuts.old.at) }
 {
     cuts.turns = turns;
-    let arguments = arguments(matcher.problem(), cell.rule, alt);
+    let arguments = matcher.problem().arguments(cell.rule, alt);
     let walk = Walk { matcher, cell, alt };
     match first_cuts(&walk, arguments, cell.from as usize, 0, *cuts) {
         Some(found) => {
@@ -52,7 +51,7 @@ pub fn next_visited<M: Matcher>(matcher: &M, cell: Cell, alt: u8, cuts: &mut Cut
     ensures last { OnFalse result (IsLastVisited (M.posed matcher.now) cell alt cuts.old.turns cuts.old.at) }
     ensures kept { OnFalse result (cuts.new.at ≡ cuts.old.at) }
 {
-    let arguments = arguments(matcher.problem(), cell.rule, alt);
+    let arguments = matcher.problem().arguments(cell.rule, alt);
     let walk = Walk { matcher, cell, alt };
     match next_cuts(&walk, arguments, cell.from as usize, 0, *cuts) {
         Some(found) => {

@@ -9,7 +9,7 @@ pub returns-in-Rule : goal.returns-in-Rule
 returns-in-Rule c =
     let E : Arg → Type 0 = λ argument. IsExtent c.args.problem.now argument c.extent_between.result in
     subst E (sym c.in-Rule.is)
-    (rule_extent c.args.problem.now c.in-Rule.rule c.rule_sizes-least.result.0 c.rule_sizes-least.result.1 c.extent_between.result c.rule_sizes-least.ensures c.extent_between.ensures.class c.extent_between.ensures.between)
+    (rule_extent c.args.problem.now c.in-Rule.rule c.sizes-least.result.0 c.sizes-least.result.1 c.extent_between.result c.sizes-least.ensures c.extent_between.ensures.class c.extent_between.ensures.between)
 
 pub returns-in-Run : goal.returns-in-Run
 returns-in-Run c =

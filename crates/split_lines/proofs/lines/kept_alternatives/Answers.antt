@@ -2,39 +2,29 @@ use Rattle.std.proofs.Common.{◌≡◌, ◌+◌, Option, List, length, sym, ap,
 use Rattle.std.specs.List.{AllByRecursion}
 use Rattle.adp_model.specs.declared.grammar.Arg.{Arg}
 use Rattle.adp_model.specs.PosedProblem.{PosedProblem}
-use Rattle.adp_model.specs.ProblemFields.{IsAdmissible}
 use Rattle.adp_model.specs.Parts.{alternatives_of, arguments_of}
 use Rattle.adp_model.specs.WellFormed.{IsKnown}
 use Rattle.split_lines.specs.declared.kept.KeptAlternative.{KeptAlternative}
 use Rattle.split_lines.specs.declared.lines.KeptLine.{KeptLine}
 use Rattle.split_lines.specs.Kept.{IsAlternative}
 use Rattle.split_lines.specs.LinesFields.{IsKeptOrNone, IsKeptOf, AreKept}
-use Rattle.split_lines.proofs.Formed.{alternatives_few}
 use Rattle.split_lines.proofs.KeptLines.{has_all-trans, alternatives_still, one_alternative_more}
 use Rattle.split_lines.proofs.lines.kept_alternatives.Goals as goal
 use Rattle.split_lines.proofs.lines.kept_alternatives.Goals.{After-alternatives-count, After-arguments}
 
-admissible : (c : After-alternatives-count) → IsAdmissible c.args.tables.now
-admissible c = let A : PosedProblem → Type 0 = IsAdmissible in subst A c.problem-problem.ensures c.admissible.ensures
-
 count_is : (c : After-alternatives-count) → length c.alternatives-count.result.now ≡ length (alternatives_of c.args.tables.now.grammar c.args.rule)
-count_is c = ap length (c.alternatives-count.ensures ∙ ap (λ (p : PosedProblem). alternatives_of p.grammar c.args.rule) c.problem-problem.ensures)
+count_is c = ap length (c.alternatives-count.ensures.alternatives ∙ ap (λ (p : PosedProblem). alternatives_of p.grammar c.args.rule) c.problem-problem.ensures)
 
 arguments_are : (c : After-arguments) → c.arguments.result.now ≡ arguments_of c.args.tables.now.grammar c.args.rule c.loop-number.number
-arguments_are c = c.arguments.ensures ∙ ap (λ (p : PosedProblem). arguments_of p.grammar c.args.rule c.loop-number.number) c.problem-problem.ensures
+arguments_are c = c.arguments.ensures.arguments ∙ ap (λ (p : PosedProblem). arguments_of p.grammar c.args.rule c.loop-number.number) c.problem-problem.ensures
 
 pub overflow_cast-alt : goal.overflow_cast-alt
-overflow_cast-alt c =
-    let at = (goal.at.overflow_cast-alt c).After-alternatives-count in
-    omega (arith, alternatives_few c.args.tables.now.grammar (admissible at).checked.well_formed c.args.rule c.requires.rule, count_is at)
+overflow_cast-alt c = omega (arith, c.alternatives-count.ensures.few)
 
 pub kept_line-requires-clause-known : goal.kept_line-requires-clause-known
 kept_line-requires-clause-known c =
-    let at = (goal.at.kept_line-requires-clause-known c).After-alternatives-count in
-    let at' = (goal.at.kept_line-requires-clause-known c).After-arguments in
-    let p = c.args.tables.now in
-    let K : List Arg → Type 0 = AllByRecursion (IsKnown p.grammar) in
-    subst K (sym (arguments_are at')) (c.arguments_are_few_and_known.ensures.known p.grammar (admissible at).checked.well_formed c.args.rule c.loop-number.number)
+    let K : PosedProblem → Type 0 = λ p. AllByRecursion (IsKnown p.grammar) c.arguments.result.now in
+    subst K c.problem-problem.ensures c.arguments.ensures.known
 
 pub loop-number-preserved : goal.loop-number-preserved
 loop-number-preserved c =

@@ -1,8 +1,7 @@
-use Rattle.std.proofs.Common.{◌≡◌, List, [], ◌∷◌, IsSome, None, refl, sym, subst}
-use Rattle.adp_model.specs.declared.cell.Answer.TheVariants.{NoCandidate, Best}
-use Rattle.adp_model.specs.declared.cell.Cell.{Cell}
+use Rattle.std.proofs.Common.{[], sym, subst}
+use Rattle.adp_model.specs.declared.cell.Answer.TheVariants.{Best}
 use Rattle.adp_model.specs.PosedProblem.{PosedProblem, axiom_cell}
-use Rattle.adp_model.specs.Answers.{HasNoTree, IsAnswer}
+use Rattle.adp_model.specs.Answers.{IsAnswer}
 use Rattle.adp_model.specs.Demand.{IsDemanded}
 use Rattle.traceback.specs.Listing.{IsListing}
 use Rattle.traceback.proofs.Beginning.{begun, begun_none, none_undemanded}

@@ -1,4 +1,4 @@
-use Rattle.std.proofs.Common.{◌≡◌, ◌∷◌, [], ◌++◌, refl, sym, subst, arith}
+use Rattle.std.proofs.Common.{subst}
 use Rattle.adp_model.specs.PosedProblem.{PosedProblem}
 use Rattle.traceback.specs.Listing.{IsListing}
 use Rattle.traceback.proofs.Steps.{top_of, step}

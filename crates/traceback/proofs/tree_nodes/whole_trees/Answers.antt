@@ -1,6 +1,6 @@
-use Rattle.std.proofs.Common.{◌≡◌, ℕ, ◌-◌, ◌≤◌, length, subst, arith}
+use Rattle.std.proofs.Common.{◌≡◌, ◌-◌, ◌≤◌, length, subst, arith}
 use Rattle.adp_model.specs.PosedProblem.{PosedProblem, axiom_cell}
-use Rattle.adp_model.specs.Tree.{Tree, node_count}
+use Rattle.adp_model.specs.Tree.{node_count}
 use Rattle.adp_model.specs.Sizes.{IsWithinSizes}
 use Rattle.adp_model.specs.ProblemFields.{most_nodes}
 use Rattle.traceback.proofs.tree_nodes.whole_trees.Goals as goal

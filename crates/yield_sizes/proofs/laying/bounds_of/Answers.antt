@@ -1,6 +1,5 @@
 use Rattle.std.proofs.Common.{◌≡◌, ◌<◌, length, sym, ap, subst, arith}
 use Rattle.adp_model.specs.PosedProblem.{PosedProblem}
-use Rattle.yield_sizes.specs.declared.cells.RuleBounds.{RuleBounds}
 use Rattle.yield_sizes.specs.CountedCells.{bounds_in}
 use Rattle.yield_sizes.specs.Layout.{AreBoundsOf}
 use Rattle.yield_sizes.proofs.Counting.{bounds_counted}

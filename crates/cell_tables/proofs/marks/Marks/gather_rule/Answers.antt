@@ -1,4 +1,4 @@
-use Rattle.std.proofs.Common.{◌≡◌, ◌<◌, ◌≤◌, Bool, true, false, IsTrue, length, refl, sym, subst, ⊎_elim, ◌∙◌}
+use Rattle.std.proofs.Common.{◌≡◌, ◌<◌, ◌≤◌, Bool, true, false, IsTrue, length, refl, subst, ⊎_elim, ◌∙◌}
 use Rattle.adp_model.specs.Cells.{AreCountedEnds}
 use Rattle.cell_tables.specs.Bits.{IsSet}
 use Rattle.cell_tables.specs.Marks.{CellMarks, AreInRows, AreMarkedToo, IsMarked}

@@ -1,4 +1,4 @@
-use Rattle.std.proofs.Common.{◌≡◌, ◌+◌, ◌*◌, ◌<◌, ◌≤◌, length, get_or, sym, ap, subst, ◌∙◌, arith}
+use Rattle.std.proofs.Common.{◌≡◌, ◌+◌, ◌*◌, ◌<◌, ◌≤◌, length, get_or, ap, subst, arith}
 use Rattle.adp_model.specs.PosedProblem.{PosedProblem}
 use Rattle.yield_sizes.specs.declared.layout.Laid.{Laid}
 use Rattle.yield_sizes.specs.declared.layout.Side.TheVariants.{Rows}

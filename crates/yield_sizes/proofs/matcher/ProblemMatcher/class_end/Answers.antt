@@ -6,4 +6,4 @@ pub returns : goal.returns
 returns c =
     let from = c.args.from in
     let last = c.args.last in
-    class_end_at c.args.self.now c.args.class from last c.reach.result (take (last - from) (drop from c.letters.result.now)) c.requires.span (ap (λ xs. take (last - from) (drop from xs)) c.letters.ensures) c.reach.ensures.within (rw c.class_letters.ensures at c.reach.ensures.reach)
+    class_end_at c.args.self.now c.args.class from last c.reach.result (take (last - from) (drop from c.letters.result.now)) c.requires.span (ap (λ xs. take (last - from) (drop from xs)) c.letters.ensures.word) c.reach.ensures.within (rw c.class_letters.ensures at c.reach.ensures.reach)
