@@ -1,0 +1,11 @@
+pub mod Places
+pub mod Seeing
+pub mod Quiet
+pub mod Looks
+pub mod KeyLooks
+pub mod NameLooks
+pub mod RecordLooks
+pub mod Publications
+pub mod Counting
+pub mod Fewness
+pub mod AnswersFit

@@ -1,0 +1,6 @@
+pub mod AnswerWords
+pub mod Probes
+pub mod Members
+pub mod Meanings
+pub mod Stepped
+pub mod Following
