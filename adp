@@ -8,7 +8,9 @@ export LC_ALL
 self=${BASH_SOURCE[0]}
 most_bytes=4194304
 
-read -r -d '' usage <<'TEXT'
+help() {
+  local usage
+  read -r -d '' usage <<'TEXT'
 adp: the best score of a word under a tree grammar, and the first tree that has it
 
 usage: adp MODE [OPTION VALUE].. [--explain] [FILE]..
@@ -41,6 +43,8 @@ How to write a job: docs/GUIDE.md, and exactly: docs/FORMAT.md. Jobs to begin wi
 Reports as JSON, trees, DOT or SVG: tools/report. A page that draws them: tools/view.html, opened in a browser.
 The longest word that a job admits: tools/longest. From Python: tools/adp.py. All of this as a page: man -l docs/adp.1
 TEXT
+  printf '%s\n' "$usage"
+}
 
 say() {
   printf 'adp: %s\n' "$1" >&2
@@ -322,8 +326,9 @@ run() {
   return $status
 }
 
-# Whether the words make a command that reads its input: one that is faulty is told without.
+# Whether the words make a command that reads its input: one that is faulty is told without, and `big` makes its own.
 takes_input() {
+  [ "${words[0]-}" != big ] || return
   "$program" ${words[@]+"${words[@]}"} </dev/null >/dev/null 2>&1
   [ $? != 2 ]
 }
@@ -373,19 +378,22 @@ longest() {
 
 # Runs the program over a file, or over standard input.
 run_file() {
+  local file
   if [ "$1" = - ]; then
     say_that_it_waits
     if [ -n "$explains" ]; then (run_and_explain -); else run; fi
   elif [ -n "$explains" ]; then
-    (run_and_explain "$1") <"$(readable "$1")"
+    readable "$1"
+    (run_and_explain "$1") <"$file"
   else
-    run <"$(readable "$1")"
+    readable "$1"
+    run <"$file"
   fi
 }
 
-# The file; where it may not be read a folder, whose reading fails just so.
+# Sets `file` to a file; where that may not be read to a folder, whose reading fails just so.
 readable() {
-  if [ -r "$1" ]; then echo "$1"; else echo /; fi
+  if [ -r "$1" ]; then file=$1; else file=/; fi
 }
 
 run_all() {
@@ -441,7 +449,7 @@ case $self in */*) top=${self%/*} ;; *) top=. ;; esac
 [ -n "$top" ] || top=/
 
 case "${1-}" in
-  -h | --help | help) printf '%s\n' "$usage" || exit 4; exit 0 ;;
+  -h | --help | help) help || exit 4; exit 0 ;;
   --sources) need awk cut find sha256sum sort xargs; sources; exit ;;
   --source-files) need awk cut find sha256sum sort xargs; roots | checksums | cut -c 1-8,65-; exit ;;
 esac
@@ -458,7 +466,10 @@ if [ ${#files[@]} = 0 ]; then
   files=(-)
 fi
 if [ ${#files[@]} = 1 ] && [ -z "$explains" ] && [ ! -t 2 ]; then
-  [ "${files[0]}" = - ] || exec <"$(readable "${files[0]}")"
+  if [ "${files[0]}" != - ]; then
+    readable "${files[0]}"
+    exec <"$file"
+  fi
   exec "$program" ${words[@]+"${words[@]}"}
 fi
 run_all "${files[@]}"
