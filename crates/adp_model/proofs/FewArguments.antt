@@ -1,12 +1,12 @@
 -- The rule arguments of a problem's viable splits are fewer than 2 ^ 75: each has a number below it, and these rise.
-use Rattle.std.proofs.Common.{◌≡◌, ℕ, zero, suc, ◌+◌, ◌-◌, ◌*◌, ◌^◌, ◌<◌, ◌≤◌, ◌⊎◌, inl, inr, List, [], ◌∷◌, ◌++◌, length, get_or, IsTrue, refl, ap, subst, arith}
+use Rattle.std.proofs.Common.{◌≡◌, ℕ, zero, suc, ◌+◌, ◌-◌, ◌*◌, ◌^◌, ◌<◌, ◌≤◌, inl, inr, List, [], ◌∷◌, ◌++◌, length, get_or, IsTrue, refl, ap, subst, arith}
 use Rattle.std.specs.List.{AllByRecursion, Contains, AllAdjacentBelow}
 use Rattle.std.proofs.lemmas.Option.{slice_get_within}
 use Rattle.std.proofs.lemmas.List.Elements.{Contains-get_or}
 use Rattle.adp_model.specs.declared.grammar.Arg.{Arg}
 use Rattle.adp_model.specs.declared.cell.Cell.{Cell}
 use Rattle.adp_model.specs.PosedProblem.{PosedProblem}
-use Rattle.adp_model.specs.Parts.{alternatives_of, arguments_of}
+use Rattle.adp_model.specs.Parts.{arguments_of}
 use Rattle.adp_model.specs.WellFormed.{is_well_formed}
 use Rattle.adp_model.specs.Preference.{LexicographicallyLess}
 use Rattle.adp_model.specs.Cells.{CellPrecedes}

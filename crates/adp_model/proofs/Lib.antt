@@ -41,3 +41,4 @@ pub mod FormedTerms
 pub mod TextTokens
 pub mod FittingTerms
 pub mod FormedNames
+pub mod PlacedChildren

@@ -2,7 +2,7 @@
 use Rattle.std.proofs.Common.{◌≡◌, ℕ, ◌-◌, ◌*◌, ◌<◌, ◌≤◌, List, [], ◌∷◌, ◌++◌, length, take, drop, refl, sym, ap, subst, ◌∙◌, arith, append_assoc, slice_index_or, length-append}
 use Rattle.std.proofs.lemmas.List.{take_all}
 use Rattle.adp_model.specs.declared.grammar.Arg.{Arg}
-use Rattle.adp_model.specs.declared.grammar.Arg.TheVariants.{Rule, Literal, Letter, Run}
+use Rattle.adp_model.specs.declared.grammar.Arg.TheVariants.{Rule}
 use Rattle.adp_model.specs.declared.cell.Cell.{Cell}
 use Rattle.adp_model.specs.PosedProblem.{PosedProblem, IsSpan, axiom_cell}
 use Rattle.adp_model.specs.Parts.{alternatives_of, arguments_of}
@@ -148,51 +148,12 @@ Waiting-children p (token ∷ arguments) from to (Cons (Leaf from' to') others) 
     (alone p (Letters from to') [] (tree_text p (Leaf from' to')) (leaf_stands p from from' to' h.0.0 h.0.1))
 Waiting-children p (token ∷ arguments) from to (Cons (Node rule alternative from' to' children) others) h = absurd h.0
 
--- ---- the spans of children, by the cuts of their node
-
-behind : (p : PosedProblem) (argument : Arg) (arguments : List Arg) (from to : ℕ) (first : Tree) (others : Trees) → DeriveArguments p (argument ∷ arguments) from to (Cons first others) → DeriveArguments p arguments (end_of first) to others
-behind p (Rule rule) arguments from to first others h = h.1
-behind p (Literal text) arguments from to first others h = h.1
-behind p (Letter class) arguments from to first others h = h.1
-behind p (Run class low high) arguments from to first others h = h.1
-
-none_behind : (p : PosedProblem) (argument : Arg) (arguments : List Arg) (from to : ℕ) → DeriveArguments p (argument ∷ arguments) from to Nil → ⊥
-none_behind p argument arguments from to h = h
-
--- the boundaries that a node's cuts and its end give are the ends of its children
-place-children : (p : PosedProblem) (arguments : List Arg) (from to : ℕ) (children : Trees) → length arguments ≤ 4 → DeriveArguments p arguments from to children → place arguments from (cuts_of to children ++ to ∷ []) ≡ place arguments from (ends_of children)
-place-children p [] from to children few h = refl
-place-children p (a ∷ []) from to Nil few h = absurd (none_behind p a [] from to h)
-place-children p (a ∷ []) from to (Cons s Nil) few h = refl
-place-children p (a ∷ []) from to (Cons s (Cons t ts)) few h = absurd (behind p a [] from to s (Cons t ts) h)
-place-children p (a ∷ b ∷ []) from to Nil few h = absurd (none_behind p a (b ∷ []) from to h)
-place-children p (a ∷ b ∷ []) from to (Cons s Nil) few h = absurd (none_behind p b [] (end_of s) to (behind p a (b ∷ []) from to s Nil h))
-place-children p (a ∷ b ∷ []) from to (Cons s (Cons t ts)) few h = refl
-place-children p (a ∷ b ∷ c ∷ []) from to Nil few h = absurd (none_behind p a (b ∷ c ∷ []) from to h)
-place-children p (a ∷ b ∷ c ∷ []) from to (Cons s Nil) few h = absurd (none_behind p b (c ∷ []) (end_of s) to (behind p a (b ∷ c ∷ []) from to s Nil h))
-place-children p (a ∷ b ∷ c ∷ []) from to (Cons s (Cons t Nil)) few h =
-    absurd (none_behind p c [] (end_of t) to (behind p b (c ∷ []) (end_of s) to t Nil (behind p a (b ∷ c ∷ []) from to s (Cons t Nil) h)))
-place-children p (a ∷ b ∷ c ∷ []) from to (Cons s (Cons t (Cons u us))) few h = refl
-place-children p (a ∷ b ∷ c ∷ d ∷ []) from to Nil few h = absurd (none_behind p a (b ∷ c ∷ d ∷ []) from to h)
-place-children p (a ∷ b ∷ c ∷ d ∷ []) from to (Cons s Nil) few h = absurd (none_behind p b (c ∷ d ∷ []) (end_of s) to (behind p a (b ∷ c ∷ d ∷ []) from to s Nil h))
-place-children p (a ∷ b ∷ c ∷ d ∷ []) from to (Cons s (Cons t Nil)) few h =
-    absurd (none_behind p c (d ∷ []) (end_of t) to (behind p b (c ∷ d ∷ []) (end_of s) to t Nil (behind p a (b ∷ c ∷ d ∷ []) from to s (Cons t Nil) h)))
-place-children p (a ∷ b ∷ c ∷ d ∷ []) from to (Cons s (Cons t (Cons u Nil))) few h =
-    let one = behind p a (b ∷ c ∷ d ∷ []) from to s (Cons t (Cons u Nil)) h in
-    let two = behind p b (c ∷ d ∷ []) (end_of s) to t (Cons u Nil) one in
-    absurd (none_behind p d [] (end_of u) to (behind p c (d ∷ []) (end_of t) to u Nil two))
-place-children p (a ∷ b ∷ c ∷ d ∷ []) from to (Cons s (Cons t (Cons u (Cons v vs)))) few h =
-    let one = behind p a (b ∷ c ∷ d ∷ []) from to s (Cons t (Cons u (Cons v vs))) h in
-    let two = behind p b (c ∷ d ∷ []) (end_of s) to t (Cons u (Cons v vs)) one in
-    let three = behind p c (d ∷ []) (end_of t) to u (Cons v vs) two in
-    last v vs (behind p d [] (end_of u) to v vs three)
-  where
-    last : (v : Tree) (vs : Trees) → DeriveArguments p [] (end_of v) to vs → place (a ∷ b ∷ c ∷ d ∷ []) from (end_of s ∷ end_of t ∷ end_of u ∷ to ∷ []) ≡ place (a ∷ b ∷ c ∷ d ∷ []) from (end_of s ∷ end_of t ∷ end_of u ∷ end_of v ∷ ends_of vs)
-    last v Nil e = ap (λ x. place (a ∷ b ∷ c ∷ d ∷ []) from (end_of s ∷ end_of t ∷ end_of u ∷ x ∷ [])) (sym e)
-    last v (Cons w ws) e = absurd e
-place-children p (a ∷ b ∷ c ∷ d ∷ e ∷ arguments) from to children few h = absurd (omega arith)
-
 -- ---- a node
+
+-- the spans that a node's cuts and its end give to its arguments are those of its children
+abbrev pub PlacesChildren : PosedProblem → Type 0
+PlacesChildren p = (rule alternative from to : ℕ) (children : Trees) → DeriveArguments p (arguments_of p.grammar rule alternative) from to children
+    → place (arguments_of p.grammar rule alternative) from (cuts_of to children ++ to ∷ []) ≡ place (arguments_of p.grammar rule alternative) from (ends_of children)
 
 -- a derived tree is a node, whose children are derived for its arguments
 pub record Opened (p : PosedProblem) (tree : Tree) : Type 0 where
@@ -220,13 +181,13 @@ opened p cell (Node rule alternative from to children) derived =
       text_is = simp append_assoc;
     }
 
-Waiting-behind : (p : PosedProblem) (few : (rule alternative : ℕ) → length (arguments_of p.grammar rule alternative) ≤ 4) (tree : Tree) (o : Opened p tree)
+Waiting-behind : (p : PosedProblem) (placed_so : PlacesChildren p) (tree : Tree) (o : Opened p tree)
     → Waiting p (pieces_behind p o.node) (nodes_of_all o.children) (children_text p o.children ++ closing_bracket ∷ [])
-Waiting-behind p few tree o =
+Waiting-behind p placed_so tree o =
     let arguments = arguments_of p.grammar o.node.cell.rule o.node.choice.alt in
     let same : placed p o.node.cell o.node.choice.alt o.node.choice.cuts ≡ place arguments o.node.cell.from (ends_of o.children) =
     ap (λ x. placed p o.node.cell o.node.choice.alt x) o.cuts_are
-    ∙ place-children p arguments o.node.cell.from o.node.cell.to o.children (few o.node.cell.rule o.node.choice.alt) o.derived in (
+    ∙ placed_so o.node.cell.rule o.node.choice.alt o.node.cell.from o.node.cell.to o.children o.derived in (
       [],
       nodes_of_all o.children,
       closing_bracket ∷ [],
@@ -246,10 +207,10 @@ pub record Taken (p : PosedProblem) (written : List ℕ) (pieces : List Piece) (
   pub in_range : node.choice.alt < length (alternatives_of p.grammar node.cell.rule)
   pub next : Unwritten p (written ++ head_text p node) (pieces ++ pieces_behind p node) others whole
 
-pub taken : (p : PosedProblem) → ((rule alternative : ℕ) → length (arguments_of p.grammar rule alternative) ≤ 4)
+pub taken : (p : PosedProblem) → PlacesChildren p
     → (written : List ℕ) (pieces : List Piece) (nodes : List NodeAt) (whole : List ℕ)
     → Unwritten p written (pieces ++ Subtree ∷ []) nodes whole → Taken p written pieces nodes whole
-taken p few written pieces nodes whole unwritten =
+taken p placed_so written pieces nodes whole unwritten =
     let popped = Waiting-pop p pieces Subtree nodes unwritten.rest unwritten.waiting in
     let tree : Tree = popped.stands.1 in
     let o : Opened p tree = opened p popped.stands.0 tree popped.stands.2 in
@@ -261,7 +222,7 @@ taken p few written pieces nodes whole unwritten =
       in_range = o.in_range;
       next = record {
         rest = tail ++ popped.after_text;
-        waiting = Waiting-append p pieces (pieces_behind p o.node) popped.after (nodes_of_all o.children) popped.after_text tail popped.others (Waiting-behind p few tree o);
+        waiting = Waiting-append p pieces (pieces_behind p o.node) popped.after (nodes_of_all o.children) popped.after_text tail popped.others (Waiting-behind p placed_so tree o);
         whole_is = unwritten.whole_is ∙ ap (λ x. written ++ x) (popped.text_is ∙ ap (λ x. x ++ popped.after_text) (popped.stands.4 ∙ o.text_is)
             ∙ append_assoc (head_text p o.node) tail popped.after_text)
             ∙ sym (append_assoc written (head_text p o.node) (tail ++ popped.after_text));
@@ -298,38 +259,38 @@ few_pieces p few node =
 
 -- ---- the code's words for the first node and the others
 
-taken_at : (p : PosedProblem) → ((rule alternative : ℕ) → length (arguments_of p.grammar rule alternative) ≤ 4)
+taken_at : (p : PosedProblem) → PlacesChildren p
     → (written : List ℕ) (pieces : List Piece) (piece : Piece) (nodes : List NodeAt) (whole : List ℕ) → piece ≡ Subtree
     → Unwritten p written (pieces ++ piece ∷ []) nodes whole → Taken p written pieces nodes whole
-taken_at p few written pieces piece nodes whole is unwritten =
-    taken p few written pieces nodes whole (subst (λ x. Unwritten p written (pieces ++ x ∷ []) nodes whole) is unwritten)
+taken_at p placed_so written pieces piece nodes whole is unwritten =
+    taken p placed_so written pieces nodes whole (subst (λ x. Unwritten p written (pieces ++ x ∷ []) nodes whole) is unwritten)
 
 waiting_at : (p : PosedProblem) (pieces : List Piece) (nodes : List NodeAt) (text : List ℕ) → Waiting p pieces nodes text → Unwritten p [] pieces nodes text
 waiting_at p pieces nodes text waiting = record { rest = text; waiting = waiting; whole_is = refl }
 
-pub some_node : (p : PosedProblem) → ((rule alternative : ℕ) → length (arguments_of p.grammar rule alternative) ≤ 4)
+pub some_node : (p : PosedProblem) → PlacesChildren p
     → (pieces : List Piece) (piece : Piece) (nodes : List NodeAt) (text : List ℕ) → piece ≡ Subtree
     → Waiting p (pieces ++ piece ∷ []) nodes text → 1 ≤ length nodes
-some_node p few pieces piece nodes text is waiting =
-    let t = taken_at p few [] pieces piece nodes text is (waiting_at p _ nodes text waiting) in
+some_node p placed_so pieces piece nodes text is waiting =
+    let t = taken_at p placed_so [] pieces piece nodes text is (waiting_at p _ nodes text waiting) in
     let e : length nodes ≡ length (t.node ∷ t.others) = ap length t.nodes_are in
     omega arith
 
-pub first_in_range : (p : PosedProblem) → ((rule alternative : ℕ) → length (arguments_of p.grammar rule alternative) ≤ 4)
+pub first_in_range : (p : PosedProblem) → PlacesChildren p
     → (pieces : List Piece) (piece : Piece) (nodes : List NodeAt) (none : NodeAt) (text : List ℕ) → piece ≡ Subtree
     → Waiting p (pieces ++ piece ∷ []) nodes text
     → (slice_index_or nodes 0 none).choice.alt < length (alternatives_of p.grammar (slice_index_or nodes 0 none).cell.rule)
-first_in_range p few pieces piece nodes none text is waiting =
-    let t = taken_at p few [] pieces piece nodes text is (waiting_at p _ nodes text waiting) in
+first_in_range p placed_so pieces piece nodes none text is waiting =
+    let t = taken_at p placed_so [] pieces piece nodes text is (waiting_at p _ nodes text waiting) in
     let e : slice_index_or nodes 0 none ≡ t.node = ap (λ x. slice_index_or x 0 none) t.nodes_are in
     subst (λ (n : NodeAt). n.choice.alt < length (alternatives_of p.grammar n.cell.rule)) (sym e) t.in_range
 
-pub first_taken : (p : PosedProblem) → ((rule alternative : ℕ) → length (arguments_of p.grammar rule alternative) ≤ 4)
+pub first_taken : (p : PosedProblem) → PlacesChildren p
     → (written : List ℕ) (pieces : List Piece) (piece : Piece) (nodes : List NodeAt) (none : NodeAt) (whole : List ℕ) → piece ≡ Subtree
     → Unwritten p written (pieces ++ piece ∷ []) nodes whole
     → Unwritten p (written ++ head_text p (slice_index_or nodes 0 none)) (pieces ++ pieces_behind p (slice_index_or nodes 0 none)) (take (length nodes - 1) (drop 1 nodes)) whole
-first_taken p few written pieces piece nodes none whole is unwritten =
-    let t = taken_at p few written pieces piece nodes whole is unwritten in
+first_taken p placed_so written pieces piece nodes none whole is unwritten =
+    let t = taken_at p placed_so written pieces piece nodes whole is unwritten in
     let first : slice_index_or nodes 0 none ≡ t.node = ap (λ x. slice_index_or x 0 none) t.nodes_are in
     let all : take (length (t.node ∷ t.others) - 1) t.others ≡ t.others = take_all (length (t.node ∷ t.others) - 1) t.others (omega arith) in
     let others : take (length nodes - 1) (drop 1 nodes) ≡ t.others = ap (λ x. take (length x - 1) (drop 1 x)) t.nodes_are ∙ all in

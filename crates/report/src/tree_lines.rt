@@ -7,6 +7,7 @@ ghost use Rattle.adp_model.specs.Splits.{place};
 ghost use Rattle.adp_model.specs.Tokens.{letters_between};
 ghost use Rattle.report.specs.Pieces.{AreBestNodes, IsBestText, Unwritten, Waiting, child_pieces, further_pieces, head_text, piece_of, pieces_behind};
 
+use adp_model::laws::derivation::children_are_placed;
 use adp_model::laws::well_formed::arguments_are_few_and_known;
 use adp_model::{Alt, Arg, Problem, push_quoted};
 use std::alloc::{AllocError, Global};
@@ -60,6 +61,7 @@ fn push_piece<'a>(
 {
     problem.admissible();
     arguments_are_few_and_known();
+    children_are_placed();
     match piece {
         Piece::Mark(byte) => {
             out.push(byte)?;

@@ -8,7 +8,7 @@ use Rattle.adp_model.specs.declared.cell.Cell.{Cell}
 use Rattle.adp_model.specs.declared.cell.Choice.{Choice}
 use Rattle.adp_model.specs.PosedProblem.{PosedProblem, IsSpan}
 use Rattle.adp_model.specs.Parts.{alternatives_of, arguments_of}
-use Rattle.adp_model.specs.Tree.{Tree, Leaf, Node, Trees, Nil, Cons, end_of, ends_of}
+use Rattle.adp_model.specs.Tree.{Tree, Leaf, Node, Trees, ends_of}
 use Rattle.adp_model.specs.Derivation.{DeriveArguments}
 use Rattle.adp_model.specs.Preference.{cuts_of, IsPreferred}
 use Rattle.adp_model.specs.Answers.{choice_of, IsAnswer}
@@ -20,50 +20,6 @@ use Rattle.traceback.specs.declared.tree_nodes.NodeAt.{NodeAt}
 use Rattle.traceback.specs.Preorder.{nodes_of, nodes_of_all, stacked}
 use Rattle.traceback.specs.Listing.{Remaining, IsListing, IsTop}
 use Rattle.traceback.proofs.Remaining.{Remaining-append, Remaining-pop, AreDemandedAt, Remaining-children}
-
--- ---- the spans of children, by the cuts of their node
-
-behind : (p : PosedProblem) (argument : Arg) (arguments : List Arg) (from to : ℕ) (first : Tree) (others : Trees) → DeriveArguments p (argument ∷ arguments) from to (Cons first others) → DeriveArguments p arguments (end_of first) to others
-behind p (Rule rule) arguments from to first others h = h.1
-behind p (Literal text) arguments from to first others h = h.1
-behind p (Letter class) arguments from to first others h = h.1
-behind p (Run class low high) arguments from to first others h = h.1
-
-none_behind : (p : PosedProblem) (argument : Arg) (arguments : List Arg) (from to : ℕ) → DeriveArguments p (argument ∷ arguments) from to Nil → ⊥
-none_behind p argument arguments from to h = h
-
--- the boundaries that a node's cuts and its end give are the ends of its children
-pub place-children : (p : PosedProblem) (arguments : List Arg) (from to : ℕ) (children : Trees) → length arguments ≤ 4 → DeriveArguments p arguments from to children → place arguments from (cuts_of to children ++ to ∷ []) ≡ place arguments from (ends_of children)
-place-children p [] from to children few h = refl
-place-children p (a ∷ []) from to Nil few h = absurd (none_behind p a [] from to h)
-place-children p (a ∷ []) from to (Cons s Nil) few h = refl
-place-children p (a ∷ []) from to (Cons s (Cons t ts)) few h = absurd (behind p a [] from to s (Cons t ts) h)
-place-children p (a ∷ b ∷ []) from to Nil few h = absurd (none_behind p a (b ∷ []) from to h)
-place-children p (a ∷ b ∷ []) from to (Cons s Nil) few h = absurd (none_behind p b [] (end_of s) to (behind p a (b ∷ []) from to s Nil h))
-place-children p (a ∷ b ∷ []) from to (Cons s (Cons t ts)) few h = refl
-place-children p (a ∷ b ∷ c ∷ []) from to Nil few h = absurd (none_behind p a (b ∷ c ∷ []) from to h)
-place-children p (a ∷ b ∷ c ∷ []) from to (Cons s Nil) few h = absurd (none_behind p b (c ∷ []) (end_of s) to (behind p a (b ∷ c ∷ []) from to s Nil h))
-place-children p (a ∷ b ∷ c ∷ []) from to (Cons s (Cons t Nil)) few h =
-    absurd (none_behind p c [] (end_of t) to (behind p b (c ∷ []) (end_of s) to t Nil (behind p a (b ∷ c ∷ []) from to s (Cons t Nil) h)))
-place-children p (a ∷ b ∷ c ∷ []) from to (Cons s (Cons t (Cons u us))) few h = refl
-place-children p (a ∷ b ∷ c ∷ d ∷ []) from to Nil few h = absurd (none_behind p a (b ∷ c ∷ d ∷ []) from to h)
-place-children p (a ∷ b ∷ c ∷ d ∷ []) from to (Cons s Nil) few h = absurd (none_behind p b (c ∷ d ∷ []) (end_of s) to (behind p a (b ∷ c ∷ d ∷ []) from to s Nil h))
-place-children p (a ∷ b ∷ c ∷ d ∷ []) from to (Cons s (Cons t Nil)) few h =
-    absurd (none_behind p c (d ∷ []) (end_of t) to (behind p b (c ∷ d ∷ []) (end_of s) to t Nil (behind p a (b ∷ c ∷ d ∷ []) from to s (Cons t Nil) h)))
-place-children p (a ∷ b ∷ c ∷ d ∷ []) from to (Cons s (Cons t (Cons u Nil))) few h =
-    let one = behind p a (b ∷ c ∷ d ∷ []) from to s (Cons t (Cons u Nil)) h in
-    let two = behind p b (c ∷ d ∷ []) (end_of s) to t (Cons u Nil) one in
-    absurd (none_behind p d [] (end_of u) to (behind p c (d ∷ []) (end_of t) to u Nil two))
-place-children p (a ∷ b ∷ c ∷ d ∷ []) from to (Cons s (Cons t (Cons u (Cons v vs)))) few h =
-    let one = behind p a (b ∷ c ∷ d ∷ []) from to s (Cons t (Cons u (Cons v vs))) h in
-    let two = behind p b (c ∷ d ∷ []) (end_of s) to t (Cons u (Cons v vs)) one in
-    let three = behind p c (d ∷ []) (end_of t) to u (Cons v vs) two in
-    last v vs (behind p d [] (end_of u) to v vs three)
-  where
-    last : (v : Tree) (vs : Trees) → DeriveArguments p [] (end_of v) to vs → place (a ∷ b ∷ c ∷ d ∷ []) from (end_of s ∷ end_of t ∷ end_of u ∷ to ∷ []) ≡ place (a ∷ b ∷ c ∷ d ∷ []) from (end_of s ∷ end_of t ∷ end_of u ∷ end_of v ∷ ends_of vs)
-    last v Nil e = ap (λ x. place (a ∷ b ∷ c ∷ d ∷ []) from (end_of s ∷ end_of t ∷ end_of u ∷ x ∷ [])) (sym e)
-    last v (Cons w ws) e = absurd e
-place-children p (a ∷ b ∷ c ∷ d ∷ e ∷ arguments) from to children few h = absurd (omega arith)
 
 -- ---- the cells of a viable split's rules are demanded
 
@@ -155,9 +111,14 @@ room_left nodes xs ys node whole e short =
     let k : length ((node ∷ xs) ++ ys) ≡ suc (length (xs ++ ys)) = omega arith in
     omega arith
 
-pub step : (p : PosedProblem) → ((rule alternative : ℕ) → length (arguments_of p.grammar rule alternative) ≤ 4) → Bellman p → ((cell : Cell) (t u : Tree) → IsPreferred p cell t → IsPreferred p cell u → t ≡ u) → (nodes : List NodeAt) (cells : List Cell) (cell : Cell) (score : ℤ) (choice : Choice) → IsListing p nodes (cells ++ cell ∷ []) → IsAnswer p cell (Best score choice) → Step p nodes cells cell choice
-step p few bellman unique nodes cells cell score choice (inr none) answer = absurd (no_cells cells cell none.2)
-step p few bellman unique nodes cells cell score choice (inl listed) answer =
+-- the spans that a node's cuts and its end give to its arguments are those of its children
+abbrev PlacesChildren : PosedProblem → Type 0
+PlacesChildren p = (rule alternative from to : ℕ) (children : Trees) → DeriveArguments p (arguments_of p.grammar rule alternative) from to children
+    → place (arguments_of p.grammar rule alternative) from (cuts_of to children ++ to ∷ []) ≡ place (arguments_of p.grammar rule alternative) from (ends_of children)
+
+pub step : (p : PosedProblem) → PlacesChildren p → Bellman p → ((cell : Cell) (t u : Tree) → IsPreferred p cell t → IsPreferred p cell u → t ≡ u) → (nodes : List NodeAt) (cells : List Cell) (cell : Cell) (score : ℤ) (choice : Choice) → IsListing p nodes (cells ++ cell ∷ []) → IsAnswer p cell (Best score choice) → Step p nodes cells cell choice
+step p places_children bellman unique nodes cells cell score choice (inr none) answer = absurd (no_cells cells cell none.2)
+step p places_children bellman unique nodes cells cell score choice (inl listed) answer =
     let popped = Remaining-pop p cells cell listed.rest listed.remaining in
     let same : answer.0 ≡ popped.tree = unique cell answer.0 popped.tree answer.1 popped.preferred in
     let n = node_told p bellman cell choice popped.tree popped.preferred (answer.3 ∙ ap choice_of same) in
@@ -165,7 +126,7 @@ step p few bellman unique nodes cells cell score choice (inl listed) answer =
     let arguments : List Arg = arguments_of p.grammar cell.rule choice.alt in
     let places : placed p cell choice.alt choice.cuts ≡ place arguments cell.from (ends_of n.children) =
     ap (λ x. place arguments cell.from (x ++ cell.to ∷ [])) n.cuts_are
-    ∙ place-children p arguments cell.from cell.to n.children (few cell.rule choice.alt) n.derived in
+    ∙ places_children cell.rule choice.alt cell.from cell.to n.children n.derived in
     let demanded = subst (AreDemandedAt p) places (demanded_children p cell choice.alt choice.cuts popped.demanded viable) in
     let below = subst (λ x. Remaining p (stacked x) (nodes_of_all n.children)) (sym places) (Remaining-children p arguments cell.from cell.to n.children n.derived n.preferred demanded) in
     let whole : nodes_of listed.tree ≡ nodes ++ ((record { cell = cell; choice = choice } ∷ nodes_of_all n.children) ++ popped.after) =

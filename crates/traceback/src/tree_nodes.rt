@@ -8,9 +8,9 @@ ghost use Rattle.traceback.specs.Listing.{IsListing, IsTop, WholeTrees};
 
 use adp_model::laws::bellman::bellman;
 use adp_model::laws::bounds::bounds_are_sound;
+use adp_model::laws::derivation::children_are_placed;
 use adp_model::laws::order::preferred_tree_is_unique;
 use adp_model::laws::sizes::derived_lengths_are_within_sizes;
-use adp_model::laws::well_formed::arguments_are_few_and_known;
 use adp_model::{Answer, Answers, Arg, Cell, Choice, Problem};
 use std::alloc::{AllocError, Global};
 
@@ -38,7 +38,7 @@ pub fn preorder<A: Answers>(
     problem.admissible();
     bellman();
     preferred_tree_is_unique();
-    arguments_are_few_and_known();
+    children_are_placed();
     let mut nodes = Vec::new(alloc);
     let mut open = first_open(alloc, problem, answers)?;
     while let Some(cell) = open.pop() {

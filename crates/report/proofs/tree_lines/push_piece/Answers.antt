@@ -18,8 +18,8 @@ letters-requires c =
 pub unreachable-requires : goal.unreachable-requires
 unreachable-requires c =
     let p : PosedProblem = c.args.problem.now in
-    let few = c.arguments_are_few_and_known.ensures.few p.grammar c.admissible.ensures.checked.well_formed in
-    let some : 1 ≤ length c.args.nodes.now = some_node p few c.args.pieces.now.items c.args.piece c.args.nodes.now c.requires.0 c.in-Subtree.is c.requires.1 in
+    let told = c.children_are_placed.ensures p c.admissible.ensures.checked.well_formed in
+    let some : 1 ≤ length c.args.nodes.now = some_node p told c.args.pieces.now.items c.args.piece c.args.nodes.now c.requires.0 c.in-Subtree.is c.requires.1 in
     let none_left = c.in-empty.len_below in
     omega arith
 
@@ -27,15 +27,15 @@ pub push_head-requires : goal.push_head-requires
 unfolding none
 push_head-requires c =
     let p : PosedProblem = c.args.problem.now in
-    let few = c.arguments_are_few_and_known.ensures.few p.grammar c.admissible.ensures.checked.well_formed in
-    first_in_range p few c.args.pieces.now.items c.args.piece c.args.nodes.now none c.requires.0 c.in-Subtree.is c.requires.1
+    let told = c.children_are_placed.ensures p c.admissible.ensures.checked.well_formed in
+    first_in_range p told c.args.pieces.now.items c.args.piece c.args.nodes.now none c.requires.0 c.in-Subtree.is c.requires.1
 
 pub push_behind-requires : goal.push_behind-requires
 unfolding none
 push_behind-requires c =
     let p : PosedProblem = c.args.problem.now in
-    let few = c.arguments_are_few_and_known.ensures.few p.grammar c.admissible.ensures.checked.well_formed in
-    first_in_range p few c.args.pieces.now.items c.args.piece c.args.nodes.now none c.requires.0 c.in-Subtree.is c.requires.1
+    let told = c.children_are_placed.ensures p c.admissible.ensures.checked.well_formed in
+    first_in_range p told c.args.pieces.now.items c.args.piece c.args.nodes.now none c.requires.0 c.in-Subtree.is c.requires.1
 
 pub returns-in_ok-push-in-Mark-clause-same : goal.returns-in_ok-push-in-Mark-clause-same
 returns-in_ok-push-in-Mark-clause-same c = λ whole unwritten.
@@ -58,12 +58,12 @@ pub returns-in_ok-push_behind-in-len1-up-clause-same :
 unfolding none
 returns-in_ok-push_behind-in-len1-up-clause-same c = λ whole unwritten.
     let p : PosedProblem = c.args.problem.now in
-    let few = c.arguments_are_few_and_known.ensures.few p.grammar c.admissible.ensures.checked.well_formed in
+    let told = c.children_are_placed.ensures p c.admissible.ensures.checked.well_formed in
     let others : List NodeAt = take (length c.args.nodes.now - 1) (drop 1 c.args.nodes.now) in
     let node : NodeAt = slice_index_or c.args.nodes.now 0 none in
     subst (λ x. Unwritten p x c.push_behind.new.pieces.items others whole) (sym c.in_ok-push_head-in-len1-up.ensures)
     (subst (λ x. Unwritten p (c.args.out.now.items ++ head_text p node) x others whole) (sym c.in_ok-push_behind-in-len1-up.ensures)
-    (first_taken p few c.args.out.now.items c.args.pieces.now.items c.args.piece c.args.nodes.now none whole c.in-Subtree.is unwritten))
+    (first_taken p told c.args.out.now.items c.args.pieces.now.items c.args.piece c.args.nodes.now none whole c.in-Subtree.is unwritten))
 
 fewer : (nodes : List NodeAt) (old new behind : ℕ) → 1 ≤ length nodes → new ≡ old + behind → behind ≤ 8
     → 8 * length (take (length nodes - 1) (drop 1 nodes)) + new ≤ 8 * length nodes + old

@@ -14,7 +14,7 @@ loop-cell-preserved g c =
     let p : PosedProblem = c.args.problem.now in
     let formed = c.admissible.ensures.checked.well_formed in
     let listing = subst (λ x. IsListing p c.loop-cell.nodes.items x) c.in-Some.ensures.items c.loop-cell.invariant in
-    let next = step p (c.arguments_are_few_and_known.ensures.few p.grammar formed) (c.bellman.ensures.admissible p c.admissible.ensures)
+    let next = step p (c.children_are_placed.ensures p formed) (c.bellman.ensures.admissible p c.admissible.ensures)
     (λ cell t u first second. c.preferred_tree_is_unique.ensures p cell t u formed first second)
     c.loop-cell.nodes.items c.pop.new.self.items c.in-Some.cell c.choice_at-choice.ensures.0 c.choice_at-choice.result listing c.choice_at-choice.ensures.1 in
     rw (c.in_ok-push.ensures.items, c.in_ok-push_children.ensures) next.listing
