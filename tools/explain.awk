@@ -14,6 +14,7 @@ BEGIN {
   MOST = "4611686018427387903"
   MOST_HEADER = 400000
   MOST_TOKENS = 60000
+  MOST_NOTED = 20000
   for (code = 1; code < 256; code++) code_of[sprintf("%c", code)] = code
   HEX = "0123456789ABCDEF"
   said_words = split("class sign algebra let rule grammar words", KEYWORDS, " ")
@@ -132,8 +133,10 @@ function read_job(wanted,    line, number, bytes) {
     sub(/\r$/, "", line)
     if (number == wanted) wanted_line = line
     if (!words_line) {
-      if (line !~ /^ *$/ && line !~ /^#/) header[number] = line
-      if (number > 1 && line ~ /^ *words *$/) words_line = number
+      if (substr(line, 1, 1) != "#" && line !~ /^ *$/) {
+        header[number] = line
+        if (number > 1 && index(line, "words") && line ~ /^ *words *$/) words_line = number
+      }
       bytes += length(line) + 1
     }
     lines = number
@@ -152,7 +155,8 @@ function header_end() { return words_line ? words_line : lines }
 function find_tokens(text,    at, byte, rest, most) {
   tokens = offence = 0
   is_cut = length(text) > MOST_TOKENS
-  most = is_cut ? MOST_TOKENS : length(text)
+  if (is_cut) text = substr(text, 1, MOST_TOKENS)
+  most = length(text)
   for (at = 1; at <= most && !offence; at += length(rest)) {
     while (substr(text, at, 1) == " ") at++
     if (at > most) break
@@ -198,7 +202,7 @@ function has_form(number,    text) {
   if (offence && at > offence) at = offence
   wrong_at = column[at]
   if (is_cut && at > tokens - 2) {
-    wrong = "the line has " length(text) " letters, and what is wrong stands behind the first " MOST_TOKENS
+    wrong = "the line has " length(header[number]) " letters, and what is wrong stands behind the first " MOST_TOKENS
     return 0
   }
   if (at == offence && !is_told_better()) wrong = offending(text, column[offence])
@@ -476,12 +480,15 @@ function parse_argument(j,    i) {
 
 # Parses all lines of the header, and keeps what each declares: `line_of[sort, name]`, `lacks_form[number]`, the kinds
 # of each sign, the lets of each algebra's section, and the alternatives of each rule.
-function read_header(    number, section) {
+function read_header(    number, section, noted) {
   if (is_read) return
   is_read = 1
   for (number = 2; number <= header_end(); number++) {
     if (!(number in header)) continue
-    if (!is_small && number != wanted_number) { note_lightly(number); continue }
+    if (!is_small && number != wanted_number) {
+      if (++noted <= MOST_NOTED) note_lightly(number)
+      continue
+    }
     if (!has_form(number)) {
       lacks_form[number] = 1
       match(header[number], /^ *[A-Za-z0-9_]+/)
