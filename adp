@@ -229,6 +229,7 @@ build() {
   case $why in *since\ prebuilt/adp*) before="; as it was before that, $top/prebuilt/adp can be run by itself" ;; esac
   command -v rt >/dev/null ||
     fail "$why, so the program has to be built, and 'rt' of the Rattle toolchain is not on the PATH$before"
+  need grep mktemp rm tail wc
   say "$why"
   say "so the program is proved and built now, once: this takes 20 to 40 minutes$before"
   log=$(mktemp) || return 1
