@@ -12,3 +12,4 @@ pub mod Moves
 pub mod Plays
 pub mod Soundness
 pub mod Planned
+pub mod Demands

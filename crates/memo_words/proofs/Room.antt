@@ -100,7 +100,7 @@ module _ (IsPlace : ℕ → ℕ → Type 0) (f : ℕ → ℕ) (slots cells : ℕ
       )))
       (λ no. (0, λ lt. absurd (no lt)))) tell apart
 
-few_owned : (views : List View) → ((j : ℕ) (u : View) → get_elem? views j ≡ some u → count_owned u ≤ u.weight)
+pub few_owned : (views : List View) → ((j : ℕ) (u : View) → get_elem? views j ≡ some u → count_owned u ≤ u.weight)
     → sum_by count_owned views ≤ sum_by share views
 few_owned [] h = omega arith
 few_owned (x ∷ xs) h = let a = sum_by-cons count_owned x xs in let b = sum_by-cons share x xs in

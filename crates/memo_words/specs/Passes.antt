@@ -56,5 +56,12 @@ pub record IsReady (p : PosedProblem) (v : View) (position number : ℕ) : Type 
   pub codes : (part : Part) → stored part owned ≡ answer_word part answer
   pub children : (child : Cell) → IsDemandedChild p cell child → Contains v.known child
 
+-- how many positions and how many records the rest has
+abbrev pub rest_slots : Rest → ℕ
+rest_slots rest = rest.slots
+
+abbrev pub rest_records : Rest → ℕ
+rest_records rest = rest.records
+
 abbrev pub rest_words : Rest → List ℕ
 rest_words rest = slots_items rest.closed.words

@@ -4,6 +4,7 @@
 mod bits;
 mod codes;
 mod homes;
+pub mod laws;
 mod part;
 mod pass;
 mod places;

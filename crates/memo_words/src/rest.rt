@@ -7,8 +7,8 @@ use crate::places::{arena_place, key_place, record_place};
 use atomic_table::Closed;
 use std::alloc::Global;
 
-/// The words, once no pass is left. Contracts see them as a list (`rest_words`), with the numbers of positions and of
-/// records.
+/// The words, once no pass is left. Contracts see them as a list (`rest_words`), with the numbers of positions
+/// (`rest_slots`) and of records (`rest_records`).
 pub struct Rest {
     pub(crate) closed: Closed<u8, Global>,
     pub(crate) slots: u32,
@@ -23,25 +23,25 @@ impl Rest {
     ghost use Rattle.std.specs.Prelude.{◌≡◌, ◌<◌};
     ghost use Rattle.memo_words.specs.declared.part.Part.TheVariants.{Score, Choice};
     ghost use Rattle.memo_words.specs.Layout.{key, record_word, arena_word};
-    ghost use Rattle.memo_words.specs.Passes.{rest_words};
+    ghost use Rattle.memo_words.specs.Passes.{rest_slots, rest_records, rest_words};
 
     /// The number of positions.
     pub fn slots(&self) -> u32
-        ensures { result ≡ self.now.slots }
+        ensures { result ≡ rest_slots self.now }
     {
         self.slots
     }
 
     /// The number of records.
     pub fn records(&self) -> u32
-        ensures { result ≡ self.now.records }
+        ensures { result ≡ rest_records self.now }
     {
         self.records
     }
 
     /// The key word of a position.
     pub fn key(&self, position: u32) -> u64
-        requires { position < self.now.slots }
+        requires { position < rest_slots self.now }
         ensures { result ≡ key (rest_words self.now) position }
     {
         self.closed.word(key_place(position))
@@ -49,16 +49,16 @@ impl Rest {
 
     /// The record word of a position.
     pub fn record_word(&self, position: u32) -> u64
-        requires { position < self.now.slots }
-        ensures { result ≡ record_word self.now.slots (rest_words self.now) position }
+        requires { position < rest_slots self.now }
+        ensures { result ≡ record_word (rest_slots self.now) (rest_words self.now) position }
     {
         self.closed.word(record_place(self.slots, position))
     }
 
     /// The score word of a record.
     pub fn score(&self, number: u32) -> u64
-        requires { number < self.now.records }
-        ensures { result ≡ arena_word self.now.slots self.now.records (rest_words self.now) Score number }
+        requires { number < rest_records self.now }
+        ensures { result ≡ arena_word (rest_slots self.now) (rest_records self.now) (rest_words self.now) Score number }
     {
         self.closed
             .word(arena_place(self.slots, self.records, Part::Score, number))
@@ -66,8 +66,8 @@ impl Rest {
 
     /// The choice word of a record.
     pub fn choice(&self, number: u32) -> u64
-        requires { number < self.now.records }
-        ensures { result ≡ arena_word self.now.slots self.now.records (rest_words self.now) Choice number }
+        requires { number < rest_records self.now }
+        ensures { result ≡ arena_word (rest_slots self.now) (rest_records self.now) (rest_words self.now) Choice number }
     {
         self.closed.word(arena_place(self.slots, self.records, Part::Choice, number))
     }

@@ -36,7 +36,7 @@ impl Words {
     ghost use Rattle.memo_words.specs.Layout.{IsPlanned, slots_of, records_of};
     ghost use Rattle.memo_words.specs.Views.{first_view, after_split, split_off, joined, hand_of_both};
     ghost use Rattle.memo_words.specs.Steps.{IsClosing};
-    ghost use Rattle.memo_words.specs.Passes.{view_of, hand_of, plan_of, problem_of, rest_words, IsPassOf};
+    ghost use Rattle.memo_words.specs.Passes.{view_of, hand_of, plan_of, problem_of, rest_slots, rest_records, rest_words, IsPassOf};
 
     /// Words that are all 0, and the first pass. It knows nothing and owns nothing; of the seats it has one, and may
     /// split off the others.
@@ -114,8 +114,8 @@ impl Words {
     pub fn close(self, pass: Pass) -> Rest
         requires own { IsPassOf self pass }
         requires whole { (view_of pass).weight + (view_of pass).spare ≡ (plan_of self).seats }
-        ensures slots { result.slots ≡ slots_of (plan_of self) }
-        ensures records { result.records ≡ records_of (plan_of self) }
+        ensures slots { rest_slots result ≡ slots_of (plan_of self) }
+        ensures records { rest_records result ≡ records_of (plan_of self) }
         ensures words { IsClosing (plan_of self) (view_of pass) (rest_words result) }
     {
         let Pass { seat, .. } = pass;
