@@ -15,5 +15,3 @@ mod streams;
 mod terms;
 #[cfg(test)]
 mod texts;
-#[cfg(test)]
-mod words;
