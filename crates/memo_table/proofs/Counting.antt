@@ -85,3 +85,36 @@ different_below g count most below apart =
     let b = tally_le (λ i. 1) (λ i. min (f i) 1) count (λ i lt. omega arith) in
     let d = tally_ones count in
     omega arith
+
+-- different positions at each of which at least 1 is counted: they are at most the sum
+pub reached_apart : (p f : ℕ → ℕ) (count slots : ℕ) → ((k : ℕ) → k < count → p k < slots)
+    → ((k : ℕ) → k < count → 1 ≤ f (p k)) → ((i j : ℕ) → i < count → j < count → p i ≡ p j → i ≡ j)
+    → count ≤ tally f slots
+reached_apart p f count slots below some apart =
+    let hit : ℕ → ℕ → ℕ = λ k i. if p k == i then 1 else 0 in
+    let row = tally_le (λ k. 1) (λ k. tally (hit k) slots) count
+    (λ k low.
+    let one = one_if (p k) (p k) refl in
+    let t = tally_at (hit k) (p k) slots (below k low) in
+    omega (arith, one, t)) in
+    let swap = tally_swap hit count slots in
+    let column = tally_le (λ i. tally (λ k. hit k i) count) f slots (λ i lt. at_most p f count i some apart) in
+    let ones = tally_ones count in
+    omega (arith, row, swap, column, ones)
+  where
+    at_most : (p f : ℕ → ℕ) (n i : ℕ) → ((k : ℕ) → k < n → 1 ≤ f (p k))
+        → ((a b : ℕ) → a < n → b < n → p a ≡ p b → a ≡ b) → tally (λ k. if p k == i then 1 else 0) n ≤ f i
+    at_most p f zero i some apart = omega arith
+    at_most p f (suc n) i some apart =
+        dite (ℕ_discrete (p n) i)
+        (λ e.
+        let y = one_if (p n) i e in
+        let z = tally_none (λ k. if p k == i then 1 else 0) n
+        (λ k lt. none_if (p k) i (λ same. let equal = apart k n (omega arith) (omega arith) (same ∙ sym e) in omega (arith, equal, lt))) in
+        let least = some n (omega arith) in
+        let at = ap f e in
+        omega (arith, y, z, least, at))
+        (λ ne.
+        let y = none_if (p n) i ne in
+        let t = at_most p f n i (λ k lt. some k (omega arith)) (λ a b alt blt. apart a b (omega arith) (omega arith)) in
+        omega (arith, y, t))

@@ -9,3 +9,7 @@ pub mod Publications
 pub mod Counting
 pub mod Fewness
 pub mod AnswersFit
+pub mod Reaching
+pub mod ClosedParts
+pub mod Filling
+pub mod Settling

@@ -4,3 +4,4 @@ pub mod Members
 pub mod Meanings
 pub mod Stepped
 pub mod Following
+pub mod ClosedTables

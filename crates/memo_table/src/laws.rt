@@ -1,6 +1,6 @@
 //! What the definitions say of a table's cells and answers.
 
-ghost use Rattle.std.specs.Prelude.{◌<◌, ◌≤◌, ℕ};
+ghost use Rattle.std.specs.Prelude.{◌≡◌, ◌<◌, ◌≤◌, ◌^◌, ℕ};
 ghost use Rattle.adp_model.specs.declared.cell.Answer.{Answer};
 ghost use Rattle.adp_model.specs.declared.cell.Cell.{Cell};
 ghost use Rattle.adp_model.specs.PosedProblem.{PosedProblem};
@@ -10,6 +10,7 @@ ghost use Rattle.adp_model.specs.Demand.{IsDemanded, IsDemandedCount};
 ghost use Rattle.memo_words.specs.declared.view.View.{View};
 ghost use Rattle.memo_words.specs.Codes.{HasCellCode};
 ghost use Rattle.memo_words.specs.Layout.{Plan, IsPlanned};
+ghost use Rattle.memo_words.specs.Probes.{probed};
 ghost use Rattle.memo_words.specs.Steps.{AreKeys};
 ghost use Rattle.memo_table.specs.Probes.{AreOthers};
 ghost use Rattle.memo_table.specs.AnswerWords.{HasAnswerWords};
@@ -57,3 +58,10 @@ pub fn other_cells_are_fewer()
     demanded_cells_are_within_the_cell_bound();
     demanded_cells_are_listed();
 }
+
+/// The search for a key comes to each position.
+#[tactic(auto, using(crate::proofs::Reaching::reached))]
+pub fn each_position_is_reached()
+    ensures { (code bits position : ℕ) → position < 2 ^ bits
+        → (turn : ℕ) × (turn < 2 ^ bits) × (probed code bits turn ≡ position) }
+{}
