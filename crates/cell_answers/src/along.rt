@@ -22,7 +22,9 @@ use crate::scores::Scores;
 use adp_model::laws::bounds::bounds_are_sound;
 use adp_model::laws::order::answer_is_unique;
 use adp_model::{Arg, Goal};
-use score_numbers::{Places, Scales, are_worthless, greater, greatest_long, greatest_medium, greatest_short};
+use score_numbers::{
+    Places, Scales, are_worthless, greater, greatest_long, greatest_medium, greatest_short,
+};
 use split_lines::{Line, Lines, fixed_length};
 
 /// The total of tokens of fixed length that match the letters from `from` to `to`.

@@ -18,8 +18,8 @@ use adp_model::laws::bounds::words_keep_their_score_bound;
 use adp_model::{Arg, Cell, Goal};
 use cell_tables::{Grid, Layout, Side, Table};
 use score_numbers::{
-    LONG_LIMIT, LONG_MARK, MEDIUM_LIMIT, MEDIUM_MARK, NO_CANDIDATE, SHORT_LIMIT, SHORT_MARK, long_entry, long_number,
-    medium_entry, medium_number, score_of, short_entry, short_number,
+    LONG_LIMIT, LONG_MARK, MEDIUM_LIMIT, MEDIUM_MARK, NO_CANDIDATE, SHORT_LIMIT, SHORT_MARK,
+    long_entry, long_number, medium_entry, medium_number, score_of, short_entry, short_number,
 };
 use std::alloc::{AllocError, Global};
 use std::marker::Model;

@@ -7,12 +7,10 @@ use crate::bounds::BoundRows;
 use crate::checked::Checked;
 use crate::cut::CUT;
 use crate::error::AdmitError;
-use adp_model::{LimitFault, Problem, Text};
+use adp_model::{LimitFault, MOST_LETTERS, Problem, Text};
 use std::alloc::Global;
 use yield_sizes::cell_bound;
 
-/// The most letters of a word.
-const MOST_LETTERS: usize = 4_000;
 /// The greatest cell bound of a word.
 const MOST_CELLS: u64 = 2_097_152;
 /// The greatest node bound of a word.
