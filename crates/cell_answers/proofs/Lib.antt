@@ -1,10 +1,9 @@
 pub mod Alternatives
 pub mod Bounding
 pub mod Dividing
-pub mod FirstCuts
 pub mod FirstEnds
 pub mod FirstFound
-pub mod FirstPlaces
+pub mod FirstGiving
 pub mod FirstTotals
 pub mod FixedTotals
 pub mod Formed
@@ -13,6 +12,8 @@ pub mod FrontScores
 pub mod Fronts
 pub mod Greatest
 pub mod KeptScores
+pub mod LaidEnds
+pub mod LaidSplits
 pub mod LineStarts
 pub mod LineTotals
 pub mod Lists

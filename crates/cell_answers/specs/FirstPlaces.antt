@@ -1,12 +1,9 @@
 -- The first place of a boundary at which something is the best.
-use Rattle.std.specs.Prelude.{◌≡◌, ℕ, ◌<◌, ◌≤◌, ℤ, Some, List, ◌∷◌, take, slice_index}
+use Rattle.std.specs.Prelude.{◌≡◌, ℕ, ◌≤◌, ℤ, Some, List, ◌∷◌}
 use Rattle.std.specs.List.{Contains}
 use Rattle.adp_model.specs.declared.grammar.Arg.{Arg}
-use Rattle.adp_model.specs.declared.cell.Cell.{Cell}
 use Rattle.adp_model.specs.PosedProblem.{PosedProblem}
-use Rattle.adp_model.specs.Splits.{IsViable}
 use Rattle.adp_model.specs.Bellman.{HasBestScore}
-use Rattle.adp_model.specs.FirstSplit.{IsScoredSplit}
 use Rattle.cell_answers.specs.Totals.{HasTotal}
 use Rattle.score_numbers.specs.Greatest.{IsGreatestOf}
 use Rattle.cell_answers.specs.Through.{HasTotalAt}
@@ -31,22 +28,3 @@ pub record IsFirstGreatest (p : PosedProblem) (arguments : List Arg) (factors : 
   pub there : HasTotalAt p (HasBestScore p) argument others factor more from place to greatest
   pub first : (other : ℕ) → HasTotalAt p (HasBestScore p) argument others factor more from other to greatest
       → place ≤ other
-
--- the first place of this boundary at which a split by the alternative has the score
-pub record IsFirstPlace (p : PosedProblem) (cell : Cell) (alternative : ℕ) (score : ℤ) (boundary place : ℕ)
-    : Type 0 where
-  pub cuts : List ℕ
-  pub scored : IsScoredSplit p (HasBestScore p) cell score (record { alt = alternative; cuts = cuts })
-  pub there : slice_index cuts boundary ≡ place
-  pub first : (others : List ℕ)
-      → IsScoredSplit p (HasBestScore p) cell score (record { alt = alternative; cuts = others })
-      → place ≤ slice_index others boundary
-
--- in viable splits by the alternative the boundaries before this one stand where they always do, and those behind it
--- where it tells
-pub record TellsCuts (p : PosedProblem) (cell : Cell) (alternative boundary : ℕ) : Type 0 where
-  pub within : boundary < 3
-  pub before : (cuts others : List ℕ) → IsViable p cell alternative cuts → IsViable p cell alternative others
-      → take boundary cuts ≡ take boundary others
-  pub all : (cuts others : List ℕ) → IsViable p cell alternative cuts → IsViable p cell alternative others
-      → slice_index cuts boundary ≡ slice_index others boundary → cuts ≡ others

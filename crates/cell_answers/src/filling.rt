@@ -1,40 +1,46 @@
-//! The best score of a cell from those of its demanded children.
+//! The best score of a cell, and the alternative that gives it, from the scores of its demanded children.
 
-ghost use Rattle.std.specs.Prelude.{◌≡◌, ℕ, ◌<◌, ◌≤◌, ◌↔◌, IsTrue, IfSome, MatchOption, List, [], ◌∷◌, length, drop};
+ghost use Rattle.std.specs.Prelude.{◌≡◌, ◌+◌, ◌<◌, ◌≤◌, IfSome, MatchOption, [], ◌∷◌, length, drop};
 ghost use Rattle.adp_model.specs.declared.cell.Answer.TheVariants.{NoCandidate};
 ghost use Rattle.adp_model.specs.declared.cell.Cell.{Cell};
-ghost use Rattle.adp_model.specs.PosedProblem.{IsSpan};
+ghost use Rattle.adp_model.specs.PosedProblem.{PosedProblem, IsSpan};
 ghost use Rattle.adp_model.specs.Parts.{alternatives_of};
 ghost use Rattle.adp_model.specs.Answers.{IsAnswer};
 ghost use Rattle.adp_model.specs.Bellman.{HasBestScore};
-ghost use Rattle.adp_model.specs.FirstSplit.{IsScoredSplit};
 ghost use Rattle.adp_model.specs.Demand.{IsDemandedChild};
 ghost use Rattle.yield_sizes.specs.Placing.{Cover};
 ghost use Rattle.split_lines.specs.Kept.{IsAlternative, factors_behind};
 ghost use Rattle.split_lines.specs.Laid.{Demands};
 ghost use Rattle.split_lines.specs.Lines.{IsLine};
+ghost use Rattle.cell_answers.specs.CellBest.{IsBestOfFirst, IsCellBest};
 ghost use Rattle.cell_answers.specs.Entries.{HasEntry};
 ghost use Rattle.cell_answers.specs.Totals.{AreLow, AreWeighted, HasTotal, HasTurnedScore};
 ghost use Rattle.score_numbers.specs.Greatest.{IsGreatestOf};
 
 use crate::along::{between_total, greatest_along};
 use crate::argument_values::{argument_value, token_value};
-use crate::parts::goal;
 use crate::scores::Scores;
 use adp_model::laws::bellman::bellman;
 use adp_model::laws::bounds::{bounds_are_sound, words_keep_their_score_bound};
 use adp_model::laws::order::answer_is_unique;
-use adp_model::laws::well_formed::arguments_are_few_and_known;
+use adp_model::laws::well_formed::{alternatives_fit, arguments_are_few_and_known};
 use adp_model::{Arg, Cell};
 use score_numbers::{greater, turned};
 use split_lines::{KeptAlternative, Line, Lines, is_fixed, line_here};
 
+/// The best score of a cell and the first alternative that gives it.
+#[derive(Clone, Copy)]
+pub struct Best {
+    pub score: i64,
+    pub alt: u8,
+}
+
 /// What the totals of an alternative's arguments are found from.
 #[derive(Clone, Copy)]
-struct Known<'s, 'a> {
-    lines: &'s Lines<'a>,
-    scores: &'s Scores<'a>,
-    line: Option<Line<'s>>,
+pub(crate) struct Known<'s, 'a> {
+    pub lines: &'s Lines<'a>,
+    pub scores: &'s Scores<'a>,
+    pub line: Option<Line<'s>>,
 }
 
 /// The total of one argument that has the letters from `from` to `to`; `None` where it can't have them, or has no value.
@@ -66,7 +72,7 @@ fn last_total(
 
 /// The greatest total of arguments that are laid from `from` to `to`. If they have a line, `ahead` of them come before
 /// it.
-fn greatest_total(
+pub(crate) fn greatest_total(
     known: &Known<'_, '_>,
     ahead: u8,
     arguments: &[Arg],
@@ -222,7 +228,59 @@ fn alternative_score(
     }
 }
 
+/// The best of what the first alternatives give a cell with what one more gives it, turned: where both are the same, the
+/// first stays.
+#[inline(always)]
+fn better(best: Option<Best>, score: Option<i64>, alt: u8) -> Option<Best>
+    ensures { (p : PosedProblem) (cell : Cell) → IsBestOfFirst p cell alt best
+        → IsGreatestOf (HasTurnedScore p cell alt) score → IsBestOfFirst p cell (alt + 1) result }
+{
+    let Some(score) = score else {
+        return best;
+    };
+    if let Some(first) = best {
+        if score <= first.score {
+            return best;
+        }
+    }
+    Some(Best { score, alt })
+}
+
+/// The best score of a cell and the first alternative that gives it, by the scores of its demanded children; `None` where
+/// it has no candidate. Takes no memory.
+pub fn cell_best(lines: &Lines<'_>, scores: &Scores<'_>, cell: Cell) -> Option<Best>
+    requires same_problem { scores.now.problem ≡ lines.now }
+    requires rule { cell.rule < length lines.now.grammar.rules }
+    requires in_word { IsSpan lines.now.word cell.from cell.to }
+    requires scored { (child : Cell) → IsDemandedChild lines.now cell child → HasEntry scores.now child }
+    ensures { MatchOption result (IsAnswer lines.now cell NoCandidate)
+        (λ best. IsCellBest lines.now cell best.score best.alt) }
+{
+    let problem = lines.problem();
+    problem.admissible();
+    bellman();
+    bounds_are_sound();
+    arguments_are_few_and_known();
+    alternatives_fit();
+    let goal = problem.goal();
+    let alternatives = lines.alternatives(cell.rule);
+    let mut best = None;
+    for number in 0..alternatives.len() {
+        let alt = number as u8;
+        let score = alternative_score(lines, scores, cell, &alternatives[number], alt);
+        best = better(best, score, alt);
+    }
+    let Some(Best { score, alt }) = best else {
+        return None;
+    };
+    Some(Best {
+        score: turned(goal, score),
+        alt,
+    })
+}
+
 /// The best score of a cell, by the scores of its demanded children; `None` where it has no candidate. Takes no memory.
+#[inline]
 pub fn cell_score(lines: &Lines<'_>, scores: &Scores<'_>, cell: Cell) -> Option<i64>
     requires same_problem { scores.now.problem ≡ lines.now }
     requires rule { cell.rule < length lines.now.grammar.rules }
@@ -230,46 +288,8 @@ pub fn cell_score(lines: &Lines<'_>, scores: &Scores<'_>, cell: Cell) -> Option<
     requires scored { (child : Cell) → IsDemandedChild lines.now cell child → HasEntry scores.now child }
     ensures { MatchOption result (IsAnswer lines.now cell NoCandidate) (HasBestScore lines.now cell) }
 {
-    let problem = lines.problem();
-    problem.admissible();
-    bellman();
-    bounds_are_sound();
-    arguments_are_few_and_known();
-    let goal = goal(problem);
-    let alternatives = lines.alternatives(cell.rule);
-    let mut greatest = None;
-    for number in 0..alternatives.len() {
-        let alternative = &alternatives[number];
-        let score = alternative_score(lines, scores, cell, alternative, number as u8);
-        greatest = greater(greatest, score);
-    }
-    let Some(total) = greatest else {
-        return None;
-    };
-    Some(turned(goal, total))
-}
-
-/// Whether a split of the cell by the alternative has the best score of the cell, at the best scores of its arguments'
-/// cells. Takes no memory.
-pub fn gives_best(lines: &Lines<'_>, scores: &Scores<'_>, cell: Cell, alt: u8, best: i64) -> bool
-    requires same_problem { scores.now.problem ≡ lines.now }
-    requires rule { cell.rule < length lines.now.grammar.rules }
-    requires in_word { IsSpan lines.now.word cell.from cell.to }
-    requires alternative { alt < length (alternatives_of lines.now.grammar cell.rule) }
-    requires scored { (child : Cell) → IsDemandedChild lines.now cell child → HasEntry scores.now child }
-    requires best { HasBestScore lines.now cell best }
-    ensures { IsTrue result ↔ ((cuts : List ℕ)
-        × IsScoredSplit lines.now (HasBestScore lines.now) cell best (record { alt = alt; cuts = cuts })) }
-{
-    let problem = lines.problem();
-    problem.admissible();
-    bellman();
-    bounds_are_sound();
-    arguments_are_few_and_known();
-    let goal = goal(problem);
-    let alternative = &lines.alternatives(cell.rule)[alt as usize];
-    match alternative_score(lines, scores, cell, alternative, alt) {
-        Some(total) => turned(goal, total) == best,
-        None => false,
+    match cell_best(lines, scores, cell) {
+        Some(best) => Some(best.score),
+        None => None,
     }
 }

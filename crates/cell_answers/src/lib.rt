@@ -3,14 +3,13 @@
 #![tactic(auto)]
 
 mod along;
+mod answer_cuts;
 mod argument_values;
 mod filling;
-mod first_places;
 mod opened;
-mod parts;
 mod scores;
 
+pub use answer_cuts::{cell_answer, first_cuts};
 pub use argument_values::argument_value;
-pub use filling::{cell_score, gives_best};
-pub use first_places::{BoundaryPlace, first_best_place};
+pub use filling::{Best, cell_best, cell_score};
 pub use scores::Scores;

@@ -13,7 +13,6 @@ ghost use Rattle.cell_answers.specs.Entries.{HasEntry};
 ghost use Rattle.cell_answers.specs.ArgumentEntries.{AreProperNumbers, entries_of};
 
 use crate::argument_values::{Entries, Numbers};
-use crate::parts::goal;
 use adp_model::laws::bounds::words_keep_their_score_bound;
 use adp_model::{Arg, Cell, Goal};
 use cell_tables::{Grid, Layout, Side, Table};
@@ -106,7 +105,7 @@ impl<'a> Scores<'a> {
             Packed::Whole(Table::new(alloc, layout, NO_CANDIDATE)?)
         };
         Ok(Scores {
-            goal: goal(problem),
+            goal: problem.goal(),
             packed,
         })
     }

@@ -1,12 +1,3 @@
-pub mod Orders
-pub mod Formed
-pub mod Cuts
-pub mod Placing
-pub mod Spans
-pub mod Firsts
-pub mod Rooted
-pub mod Falls
-pub mod Turns
+pub mod Fills
 pub mod Ranks
 pub mod Sweeps
-pub mod Fills

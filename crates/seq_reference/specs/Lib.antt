@@ -1,4 +1,3 @@
-pub mod Cuts
 pub mod Filling
 pub mod SolvedFields
 pub mod Sweeping

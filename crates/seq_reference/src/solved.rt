@@ -5,10 +5,9 @@ ghost use Rattle.adp_model.specs.Demand.{IsDemanded, IsDemandedCount};
 ghost use Rattle.cell_answers.specs.Entries.{HasEntry};
 ghost use Rattle.cell_tables.specs.Marks.{IsMarkedInRow};
 
-use crate::answering::cell_answer;
 use adp_model::laws::demand::demanded_cells_are_counted;
 use adp_model::{Answer, Answers, Cell};
-use cell_answers::Scores;
+use cell_answers::{Scores, cell_answer};
 use cell_tables::Marks;
 use split_lines::Lines;
 use std::marker::Model;
@@ -67,17 +66,17 @@ impl<'a> Solved<'a> {
 impl<'a> Answers for Solved<'a> {
     ghost problem = { λ problem. problem };
 
-    /// The answer of a demanded cell, found again among its splits, and `None` for every other cell.
+    /// The answer of a demanded cell, found again from the scores of those that it demands, and `None` for every other
+    /// cell.
     fn answer(&self, cell: Cell) -> Option<Answer>
         ensures told { IfSome result (λ answer. IsAnswer self.now cell answer) }
         ensures demanded { IsDemanded self.now cell → IsSome result }
         ensures only { IsSome result → IsDemanded self.now cell }
     {
-        let problem = self.lines.problem();
-        problem.admissible();
+        self.lines.problem().admissible();
         demanded_cells_are_counted();
         if self.marks.is_marked_in_row(cell) {
-            Some(cell_answer(problem, &self.lines, &self.scores, cell))
+            Some(cell_answer(&self.lines, &self.scores, cell))
         } else {
             None
         }

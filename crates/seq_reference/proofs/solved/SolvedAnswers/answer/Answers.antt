@@ -7,12 +7,8 @@ use Rattle.seq_reference.proofs.solved.SolvedAnswers.answer.Goals as goal
 
 pub cell_answer-requires-clause-scored : goal.cell_answer-requires-clause-scored
 cell_answer-requires-clause-scored c =
-    let S : PosedProblem → Type 0 = λ p. (child : Cell) → IsDemandedChild p c.args.cell child → HasEntry c.self.inside.scores child in
     let demanded = (c.self.invariant.marked c.args.cell).0 (c.is_marked_in_row.ensures.0 c.if-is_marked_in_row.true) in
-    subst S (sym c.problem-problem.ensures) (λ child is. c.self.invariant.scored child (Child c.args.cell child demanded is))
-
-pub cell_answer-requires-clause-entered : goal.cell_answer-requires-clause-entered
-cell_answer-requires-clause-entered c = c.self.invariant.scored c.args.cell ((c.self.invariant.marked c.args.cell).0 (c.is_marked_in_row.ensures.0 c.if-is_marked_in_row.true))
+    λ child is. c.self.invariant.scored child (Child c.args.cell child demanded is)
 
 pub returns-else-is_marked_in_row-clause-demanded : goal.returns-else-is_marked_in_row-clause-demanded
 returns-else-is_marked_in_row-clause-demanded c = λ demanded.

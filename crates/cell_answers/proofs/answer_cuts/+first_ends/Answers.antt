@@ -1,0 +1,208 @@
+use Rattle.std.proofs.Common.{◌≡◌, ◌+◌, ◌-◌, ◌<◌, ◌≤◌, ℕ, suc, ℤ, ◌+ℤ◌, ◌-ℤ◌, ◌*ℤ◌, Option, Some, None, List, [], ◌∷◌, length, get_or, take, drop, ap, FitsSigned, w64, to_z, of_z, nat_abs, sym, refl, subst, ◌∙◌, arith, rules}
+use Rattle.std.specs.Prelude.{IfSome, ◌==◌, if◌then◌else◌}
+use Rattle.std.specs.Option.{option_copied}
+use Rattle.std.proofs.lemmas.Int.{ints, to_z-of_z, fits_signed_from_abs}
+use Rattle.adp_model.specs.declared.grammar.Arg.{Arg}
+use Rattle.split_lines.specs.declared.lines.Line.{Line}
+use Rattle.split_lines.specs.Lines.{IsLine}
+use Rattle.adp_model.specs.PosedProblem.{PosedProblem}
+use Rattle.adp_model.specs.ProblemFields.{greatest_score}
+use Rattle.adp_model.specs.Splits.{AtRule, FitsSpan}
+use Rattle.adp_model.specs.FirstSplit.{IsValue}
+use Rattle.adp_model.specs.Bellman.{HasBestScore}
+use Rattle.yield_sizes.specs.Placing.{on_span}
+use Rattle.cell_answers.specs.Entries.{HasEntry}
+use Rattle.cell_answers.specs.LaidBy.{AreFirstEnds, IsFirstEnd}
+use Rattle.cell_answers.specs.Totals.{HasTotal}
+use Rattle.score_numbers.specs.Greatest.{IsGreatestOf}
+use Rattle.cell_answers.proofs.Bounding.{best_within}
+use Rattle.cell_answers.proofs.Scoring.{one_score}
+use Rattle.cell_answers.proofs.LineStarts.{line_now}
+use Rattle.cell_answers.proofs.FirstEnds.{AreLaid, AreSound, first_low, first_known_entry, rest_laid, parts_low}
+use Rattle.cell_answers.proofs.Totalling.{values_cover}
+use Rattle.cell_answers.proofs.Dividing.{cover_forward}
+use Rattle.cell_answers.proofs.OneEnds.{empty_without}
+use Rattle.cell_answers.proofs.LaidEnds.{IsFirstEndOf, all_there, end_of_first, first_more, front_same, none_here, rest_greatest}
+use Rattle.cell_answers.proofs.answer_cuts.+first_ends.Goals as goal
+use Rattle.cell_answers.proofs.answer_cuts.+first_ends.Goals.{After-answer_is_unique, Joined-line_here, After-rest-1, in-Some, in-None}
+
+pub returns-in_default : goal.returns-in_default
+returns-in_default t c room l m =
+    let none : length c.args.arguments.now ≡ 0 = omega (arith, c.requires.weighted.factors_each, c.in_default.ensures'.cases) in
+    none_here c.args.known.now.lines.now c.args.arguments.now c.args.factors.now c.args.from c.args.to c.args.total room none c.requires.greatest.0
+
+pub returns-in_default-2 : goal.returns-in_default-2
+returns-in_default-2 t c room l m =
+    none_here c.args.known.now.lines.now c.args.arguments.now c.args.factors.now c.args.from c.args.to c.args.total room c.in_default.ensures.cases c.requires.greatest.0
+
+-- the arguments, from the first one on
+laid : (t : ℕ) (c : After-answer_is_unique t) → AreLaid c.args.known.now.lines.now c.args.known.now.scores.now (c.in-Some-Some.argument.now ∷ c.in-Some-Some.others.now) (c.in-Some-Some.factor.now ∷ c.in-Some-Some.more.now) c.args.from c.args.to
+laid t c =
+    let p = c.args.known.now.lines.now in
+    let table = c.args.known.now.scores.now in
+    let A : List Arg → Type 0 = λ arguments. AreLaid p table arguments (c.in-Some-Some.factor.now ∷ c.in-Some-Some.more.now) c.args.from c.args.to in
+    let F : List ℤ → Type 0 = λ factors. AreLaid p table c.args.arguments.now factors c.args.from c.args.to in
+    subst A c.in-Some-Some.ensures.cases.0 (subst F c.in-Some-Some.ensures'.cases.0
+    (record { weighted = c.requires.weighted; span = c.requires.span; scored = c.requires.scored; low = c.requires.low }))
+
+greatest : (t : ℕ) (c : After-answer_is_unique t) → IsGreatestOf (HasTotal c.args.known.now.lines.now (HasBestScore c.args.known.now.lines.now) (c.in-Some-Some.argument.now ∷ c.in-Some-Some.others.now) (c.in-Some-Some.factor.now ∷ c.in-Some-Some.more.now) c.args.from c.args.to) (Some c.args.total)
+greatest t c =
+    let p = c.args.known.now.lines.now in
+    let A : List Arg → Type 0 = λ arguments. IsGreatestOf (HasTotal p (HasBestScore p) arguments (c.in-Some-Some.factor.now ∷ c.in-Some-Some.more.now) c.args.from c.args.to) (Some c.args.total) in
+    let F : List ℤ → Type 0 = λ factors. IsGreatestOf (HasTotal p (HasBestScore p) c.args.arguments.now factors c.args.from c.args.to) (Some c.args.total) in
+    subst A c.in-Some-Some.ensures.cases.0 (subst F c.in-Some-Some.ensures'.cases.0 c.requires.greatest)
+
+sound : (t : ℕ) (c : After-answer_is_unique t) → AreSound c.args.known.now.lines.now
+sound t c =
+    let p = c.args.known.now.lines.now in
+    let same : c.problem.result.now ≡ p = c.problem.ensures in
+    let S : PosedProblem → Type 0 = AreSound in
+    subst S same (record {
+      within = best_within c.problem.result.now c.admissible.ensures (c.bounds_are_sound.ensures.score c.problem.result.now);
+      one = one_score c.problem.result.now (λ at a b. c.answer_is_unique.ensures c.problem.result.now at a b c.admissible.ensures.checked.well_formed);
+    })
+
+-- the first end that was found
+first_end : (t : ℕ) (c : Joined-line_here t) → IsFirstEndOf c.args.known.now.lines.now c.in-Some-Some.argument.now c.in-Some-Some.others.now c.in-Some-Some.factor.now c.in-Some-Some.more.now c.args.from c.args.to c.args.total c.match-line_here.end
+first_end t c =
+    let p = c.args.known.now.lines.now in
+    let E : ℕ → Type 0 = λ end. IsFirstEnd p c.args.arguments.now c.args.factors.now c.args.from c.args.to c.args.total end in
+    let fits : FitsSigned w64 c.args.total = search rules in
+    let found : E c.match-line_here.end = elim c.match-line_here.branch [
+      | in-Some w ↦ let along : E w.end_along-end.result = simp to_z-of_z at w.end_along-end.ensures in subst E (sym w.end-is) along
+      | in-None w ↦ let among : E w.end_among-end.result = simp to_z-of_z at w.end_among-end.ensures in subst E (sym w.end-is) among
+    ] in
+    end_of_first p c.args.arguments.now c.args.factors.now c.in-Some-Some.argument.now c.in-Some-Some.others.now c.in-Some-Some.factor.now c.in-Some-Some.more.now c.args.from c.args.to c.args.total c.match-line_here.end c.in-Some-Some.ensures.cases.0 c.in-Some-Some.ensures'.cases.0 found
+
+fits_end : (t : ℕ) (c : Joined-line_here t) → FitsSpan c.args.known.now.lines.now (on_span c.in-Some-Some.argument.now c.args.from c.match-line_here.end)
+fits_end t c = (first_end t c).there.fits
+
+pub argument_value-requires-clause-low : goal.argument_value-requires-clause-low
+argument_value-requires-clause-low t c =
+    let begun = (goal.at.argument_value-requires-clause-low t c).After-answer_is_unique in
+    first_low c.args.known.now.lines.now c.args.known.now.scores.now c.in-Some-Some.argument.now c.in-Some-Some.others.now c.in-Some-Some.factor.now c.in-Some-Some.more.now c.args.from c.args.to (laid t begun) c.match-line_here.end (fits_end t c)
+
+pub argument_value-requires-clause-fits : goal.argument_value-requires-clause-fits
+argument_value-requires-clause-fits t c = fits_end t c
+
+-- the first argument's cell has its entry
+entry : (t : ℕ) (c : After-answer_is_unique t) (end : ℕ) → IsFirstEndOf c.args.known.now.lines.now c.in-Some-Some.argument.now c.in-Some-Some.others.now c.in-Some-Some.factor.now c.in-Some-Some.more.now c.args.from c.args.to c.args.total end → AtRule (HasEntry c.args.known.now.scores.now) (on_span c.in-Some-Some.argument.now c.args.from end)
+entry t c end it =
+    first_known_entry c.args.known.now.lines.now c.args.known.now.scores.now c.in-Some-Some.argument.now c.in-Some-Some.others.now c.in-Some-Some.factor.now c.in-Some-Some.more.now c.args.from c.args.to (laid t c) end it.there.fits
+    (values_cover c.args.known.now.lines.now (HasBestScore c.args.known.now.lines.now) c.in-Some-Some.others.now end c.args.to it.there.have_others.0 it.there.have_others.1)
+
+pub unreachable-requires : goal.unreachable-requires
+unreachable-requires t c =
+    let begun = (goal.at.unreachable-requires t c).After-answer_is_unique in
+    let joined = (goal.at.unreachable-requires t c).Joined-line_here in
+    let it = first_end t joined in
+    c.in_default-argument_value.ensures (entry t begun c.match-line_here.end it) it.there.value it.there.is_value
+
+-- what is left for the others
+record IsLeft (t : ℕ) (c : After-answer_is_unique t) (end : ℕ) (value : ℤ) : Type 0 where
+  is_value : IsValue c.args.known.now.lines.now (HasBestScore c.args.known.now.lines.now) (on_span c.in-Some-Some.argument.now c.args.from end) value
+  product_fits : FitsSigned w64 (c.in-Some-Some.factor.now *ℤ value)
+  rest_fits : FitsSigned w64 (c.args.total -ℤ (c.in-Some-Some.factor.now *ℤ value))
+  is_rest : IsGreatestOf (HasTotal c.args.known.now.lines.now (HasBestScore c.args.known.now.lines.now) c.in-Some-Some.others.now c.in-Some-Some.more.now end c.args.to) (Some (c.args.total -ℤ (c.in-Some-Some.factor.now *ℤ value)))
+
+fits_below : (z : ℤ) → nat_abs z ≤ greatest_score → FitsSigned w64 z
+fits_below z below = fits_signed_from_abs w64 z (omega arith)
+
+total_parts : (total product : ℤ) → total ≡ (product +ℤ (total -ℤ product))
+total_parts total product = omega (arith, ints)
+
+left : (t : ℕ) (c : After-answer_is_unique t) (end : ℕ) → IsFirstEndOf c.args.known.now.lines.now c.in-Some-Some.argument.now c.in-Some-Some.others.now c.in-Some-Some.factor.now c.in-Some-Some.more.now c.args.from c.args.to c.args.total end → (value : ℤ) → (AtRule (HasEntry c.args.known.now.scores.now) (on_span c.in-Some-Some.argument.now c.args.from end) → IsValue c.args.known.now.lines.now (HasBestScore c.args.known.now.lines.now) (on_span c.in-Some-Some.argument.now c.args.from end) value) → IsLeft t c end value
+left t c end it value told =
+    let p = c.args.known.now.lines.now in
+    let table = c.args.known.now.scores.now in
+    let product = c.in-Some-Some.factor.now *ℤ value in
+    let rest = c.args.total -ℤ product in
+    let is_value = told (entry t c end it) in
+    let greatest_rest = rest_greatest p (sound t c) c.in-Some-Some.argument.now c.in-Some-Some.others.now c.in-Some-Some.factor.now c.in-Some-Some.more.now c.args.from c.args.to c.args.total end it.there value rest is_value (total_parts c.args.total product) (greatest t c) in
+    let low = parts_low p table c.in-Some-Some.argument.now c.in-Some-Some.others.now c.in-Some-Some.factor.now c.in-Some-Some.more.now c.args.from c.args.to (laid t c) end it.there.fits (sound t c) value told rest greatest_rest.0 in
+    record { is_value = is_value; product_fits = fits_below product low.0; rest_fits = fits_below rest low.1; is_rest = greatest_rest }
+
+-- the rest, as its bits are read
+wrapped : (total factor value : ℤ) → FitsSigned w64 total → FitsSigned w64 factor → FitsSigned w64 value → FitsSigned w64 (factor *ℤ value) → FitsSigned w64 (total -ℤ (factor *ℤ value))
+    → to_z w64 (of_z w64 (to_z w64 (of_z w64 total) -ℤ to_z w64 (of_z w64 (to_z w64 (of_z w64 factor) *ℤ to_z w64 (of_z w64 value))))) ≡ (total -ℤ (factor *ℤ value))
+wrapped total factor value fits_total fits_factor fits_value fits_product fits_rest =
+    ap (λ a. to_z w64 (of_z w64 (a -ℤ to_z w64 (of_z w64 (to_z w64 (of_z w64 factor) *ℤ to_z w64 (of_z w64 value)))))) (to_z-of_z w64 total fits_total)
+    ∙ ap (λ a. to_z w64 (of_z w64 (total -ℤ to_z w64 (of_z w64 (a *ℤ to_z w64 (of_z w64 value)))))) (to_z-of_z w64 factor fits_factor)
+    ∙ ap (λ a. to_z w64 (of_z w64 (total -ℤ to_z w64 (of_z w64 (factor *ℤ a))))) (to_z-of_z w64 value fits_value)
+    ∙ ap (λ a. to_z w64 (of_z w64 (total -ℤ a))) (to_z-of_z w64 (factor *ℤ value) fits_product)
+    ∙ to_z-of_z w64 (total -ℤ (factor *ℤ value)) fits_rest
+
+pub overflow_mul-rest : goal.overflow_mul-rest
+overflow_mul-rest t c =
+    let begun = (goal.at.overflow_mul-rest t c).After-answer_is_unique in
+    let joined = (goal.at.overflow_mul-rest t c).Joined-line_here in
+    let value = c.in-Some-argument_value.value in
+    let it = left t begun c.match-line_here.end (first_end t joined) value (λ entry. c.in-Some-argument_value.ensures entry) in
+    let fits_factor : FitsSigned w64 c.in-Some-Some.factor.now = search rules in
+    let fits_value : FitsSigned w64 value = search rules in
+    simp to_z-of_z it.product_fits
+
+pub overflow_sub-rest : goal.overflow_sub-rest
+overflow_sub-rest t c =
+    let begun = (goal.at.overflow_sub-rest t c).After-answer_is_unique in
+    let joined = (goal.at.overflow_sub-rest t c).Joined-line_here in
+    let value = c.in-Some-argument_value.value in
+    let it = left t begun c.match-line_here.end (first_end t joined) value (λ entry. c.in-Some-argument_value.ensures entry) in
+    let fits_total : FitsSigned w64 c.args.total = search rules in
+    let fits_factor : FitsSigned w64 c.in-Some-Some.factor.now = search rules in
+    let fits_value : FitsSigned w64 value = search rules in
+    let fits_product : FitsSigned w64 (c.in-Some-Some.factor.now *ℤ value) = it.product_fits in
+    simp to_z-of_z it.rest_fits
+
+pub first_ends-requires : goal.first_ends-requires
+first_ends-requires t c =
+    let begun = (goal.at.first_ends-requires t c).After-answer_is_unique in
+    let joined = (goal.at.first_ends-requires t c).Joined-line_here in
+    let p = c.args.known.now.lines.now in
+    let end = c.match-line_here.end in
+    let value = c.in-Some-argument_value.value in
+    let first = first_end t joined in
+    let it = left t begun end first value (λ entry. c.in-Some-argument_value.ensures entry) in
+    let fits_total : FitsSigned w64 c.args.total = search rules in
+    let fits_factor : FitsSigned w64 c.in-Some-Some.factor.now = search rules in
+    let fits_value : FitsSigned w64 value = search rules in
+    let G : ℤ → Type 0 = λ rest. IsGreatestOf (HasTotal p (HasBestScore p) c.in-Some-Some.others.now c.in-Some-Some.more.now end c.args.to) (Some rest) in
+    let is_rest = subst G (sym (wrapped c.args.total c.in-Some-Some.factor.now value fits_total fits_factor fits_value it.product_fits it.rest_fits)) it.is_rest in
+    let cover = values_cover p (HasBestScore p) c.in-Some-Some.others.now end c.args.to first.there.have_others.0 first.there.have_others.1 in
+    let within : end ≤ c.args.to = cover_forward p c.in-Some-Some.others.now end c.args.to cover in
+    let rest = rest_laid p c.args.known.now.scores.now c.in-Some-Some.argument.now c.in-Some-Some.others.now c.in-Some-Some.factor.now c.in-Some-Some.more.now c.args.from c.args.to (laid t begun) end first.there.fits within in
+    let fewer = c.in-Some-Some.ensures.cases.1 in
+    let same : drop 1 c.args.arguments.now ≡ c.in-Some-Some.others.now = ap (drop 1) c.in-Some-Some.ensures.cases.0 in
+    let L : List Arg → Type 0 = λ them. IfSome c.line_left-later.result.0 (λ it. IsLine p (drop c.line_left-later.result.1 them) it) in
+    let line = subst L same (c.line_left-later.ensures p c.args.arguments.now c.requires.line) in
+    (search rules, (c.requires.same_problem, (line, (rest.weighted, (rest.span, (rest.scored, (rest.low, is_rest)))))))
+
+pub returns : goal.returns
+returns t c room l m =
+    let begun = (goal.at.returns t c).After-answer_is_unique in
+    let joined = (goal.at.returns t c).Joined-line_here in
+    let p = c.args.known.now.lines.now in
+    let end = c.match-line_here.end in
+    let value = c.in-Some-argument_value.value in
+    let first = first_end t joined in
+    let it = left t begun end first value (λ entry. c.in-Some-argument_value.ensures entry) in
+    let fits_total : FitsSigned w64 c.args.total = search rules in
+    let fits_factor : FitsSigned w64 c.in-Some-Some.factor.now = search rules in
+    let fits_value : FitsSigned w64 value = search rules in
+    let product = c.in-Some-Some.factor.now *ℤ value in
+    let fewer : room - 1 ≤ 3 = omega arith in
+    let long : length c.in-Some-Some.others.now ≤ room - 1 = omega (arith, ap length c.in-Some-Some.ensures.cases.0) in
+    let next : room ≡ suc (room - 1) = omega (arith, ap length c.in-Some-Some.ensures.cases.0) in
+    let L : ℤ → List ℕ → Type 0 = λ rest ends. AreFirstEnds p c.in-Some-Some.others.now c.in-Some-Some.more.now end c.args.to rest ends in
+    let later = subst (λ rest. L rest (take (room - 1) c.first_ends.result)) (wrapped c.args.total c.in-Some-Some.factor.now value fits_total fits_factor fits_value it.product_fits it.rest_fits)
+    (c.first_ends.ensures (room - 1) long (omega arith)) in
+    let four : length c.first_ends.result ≡ 4 = search rules in
+    let read = subst (L (c.args.total -ℤ product)) (sym (front_same c.first_ends.result (room - 1) four fewer)) later in
+    let found = first_more p (sound t begun) c.in-Some-Some.argument.now c.in-Some-Some.others.now c.in-Some-Some.factor.now c.in-Some-Some.more.now c.args.from c.args.to c.args.total end first.there value (c.args.total -ℤ product) it.is_value (total_parts c.args.total product) first.first
+    (take (room - 1) (get_or c.first_ends.result 0 0 ∷ get_or c.first_ends.result 1 0 ∷ get_or c.first_ends.result 2 0 ∷ [])) read in
+    let ends = end ∷ get_or c.first_ends.result 0 0 ∷ get_or c.first_ends.result 1 0 ∷ get_or c.first_ends.result 2 0 ∷ [] in
+    let A : List Arg → List ℤ → List ℕ → Type 0 = λ arguments factors ends. AreFirstEnds p arguments factors c.args.from c.args.to c.args.total ends in
+    let all = c.in-Some-Some.argument.now ∷ c.in-Some-Some.others.now in
+    subst (λ factors. A c.args.arguments.now factors (take room ends)) (sym c.in-Some-Some.ensures'.cases.0)
+    (subst (λ arguments. A arguments (c.in-Some-Some.factor.now ∷ c.in-Some-Some.more.now) (take room ends)) (sym c.in-Some-Some.ensures.cases.0)
+    (subst (λ n. A all (c.in-Some-Some.factor.now ∷ c.in-Some-Some.more.now) (take n ends)) (sym next) found))

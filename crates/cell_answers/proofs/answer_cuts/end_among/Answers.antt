@@ -1,0 +1,233 @@
+use Rattle.std.proofs.Common.{◌≡◌, ◌+◌, ◌<◌, ◌≤◌, ℕ, ℤ, ◌+ℤ◌, ◌*ℤ◌, Option, Some, None, List, [], ◌∷◌, length, drop, ap, FitsSigned, w64, to_z, of_z, nat_abs, nat_eq, sym, refl, subst, ◌∙◌, arith, rules}
+use Rattle.std.specs.Prelude.{IfSome}
+use Rattle.std.proofs.lemmas.Int.{to_z-of_z, fits_signed_from_abs}
+use Rattle.std.proofs.lemmas.Bool.{eqb-true, eq-eqb}
+use Rattle.adp_model.specs.declared.grammar.Arg.{Arg}
+use Rattle.split_lines.specs.declared.lines.Line.{Line}
+use Rattle.split_lines.specs.Lines.{IsLine}
+use Rattle.adp_model.specs.PosedProblem.{PosedProblem}
+use Rattle.adp_model.specs.ProblemFields.{greatest_score}
+use Rattle.adp_model.specs.Splits.{FitsSpan}
+use Rattle.adp_model.specs.Bellman.{HasBestScore}
+use Rattle.yield_sizes.specs.Placing.{on_span, ArePlaces}
+use Rattle.cell_answers.specs.LaidBy.{IsFirstEnd}
+use Rattle.cell_answers.specs.Totals.{HasTotal}
+use Rattle.score_numbers.specs.Greatest.{IsGreatestOf}
+use Rattle.cell_answers.proofs.Bounding.{best_within}
+use Rattle.cell_answers.proofs.Scoring.{one_score}
+use Rattle.cell_answers.proofs.FirstEnds.{AreLaid, AreSound, first_low, rest_laid, parts_low}
+use Rattle.cell_answers.proofs.LaidEnds.{HasTotalNowhere, none_valued, none_totalled, none_so_great, found_here, none_at_first, not_all_tried}
+use Rattle.cell_answers.proofs.answer_cuts.end_among.Goals as goal
+use Rattle.cell_answers.proofs.answer_cuts.end_among.Goals.{After-answer_is_unique, After-places-places}
+
+-- the arguments, from the first one on
+laid : (c : After-answer_is_unique) → AreLaid c.args.behind.now.lines.now c.args.behind.now.scores.now (c.in-Some-Some.argument.now ∷ c.in-Some-Some.others.now) (c.in-Some-Some.factor.now ∷ c.in-Some-Some.more.now) c.args.from c.args.to
+laid c =
+    let p = c.args.behind.now.lines.now in
+    let table = c.args.behind.now.scores.now in
+    let A : List Arg → Type 0 = λ arguments. AreLaid p table arguments (c.in-Some-Some.factor.now ∷ c.in-Some-Some.more.now) c.args.from c.args.to in
+    let F : List ℤ → Type 0 = λ factors. AreLaid p table c.args.arguments.now factors c.args.from c.args.to in
+    subst A c.in-Some-Some.ensures.cases.0 (subst F c.in-Some-Some.ensures'.cases.0
+    (record { weighted = c.requires.weighted; span = c.requires.span; scored = c.requires.scored; low = c.requires.low }))
+
+greatest : (c : After-answer_is_unique) → IsGreatestOf (HasTotal c.args.behind.now.lines.now (HasBestScore c.args.behind.now.lines.now) (c.in-Some-Some.argument.now ∷ c.in-Some-Some.others.now) (c.in-Some-Some.factor.now ∷ c.in-Some-Some.more.now) c.args.from c.args.to) (Some c.args.total)
+greatest c =
+    let p = c.args.behind.now.lines.now in
+    let A : List Arg → Type 0 = λ arguments. IsGreatestOf (HasTotal p (HasBestScore p) arguments (c.in-Some-Some.factor.now ∷ c.in-Some-Some.more.now) c.args.from c.args.to) (Some c.args.total) in
+    let F : List ℤ → Type 0 = λ factors. IsGreatestOf (HasTotal p (HasBestScore p) c.args.arguments.now factors c.args.from c.args.to) (Some c.args.total) in
+    subst A c.in-Some-Some.ensures.cases.0 (subst F c.in-Some-Some.ensures'.cases.0 c.requires.greatest)
+
+sound : (c : After-answer_is_unique) → AreSound c.args.behind.now.lines.now
+sound c =
+    let p = c.args.behind.now.lines.now in
+    let same : c.problem.result.now ≡ p = c.problem.ensures in
+    let S : PosedProblem → Type 0 = AreSound in
+    subst S same (record {
+      within = best_within c.problem.result.now c.admissible.ensures (c.bounds_are_sound.ensures.score c.problem.result.now);
+      one = one_score c.problem.result.now (λ at a b. c.answer_is_unique.ensures c.problem.result.now at a b c.admissible.ensures.checked.well_formed);
+    })
+
+places : (c : After-places-places) → ArePlaces c.args.behind.now.lines.now c.in-Some-Some.argument.now c.in-Some-Some.others.now c.args.from c.args.to c.places-places.result
+places c = c.places-places.ensures c.in-Some-Some.argument.now c.in-Some-Some.others.now c.in-Some-Some.ensures.cases.0
+
+fits : (c : After-places-places) (end : ℕ) → c.places-places.result.start ≤ end → end < c.places-places.result.end → FitsSpan c.args.behind.now.lines.now (on_span c.in-Some-Some.argument.now c.args.from end)
+fits c end l m = (places c).fit end l m
+
+-- what a goal has of the total: its bits, read back
+total_is : (c : After-answer_is_unique) → to_z w64 (of_z w64 c.args.total) ≡ c.args.total
+total_is c = let fits : FitsSigned w64 c.args.total = search rules in to_z-of_z w64 c.args.total fits
+
+abbrev Nowhere : (c : After-answer_is_unique) → ℕ → ℤ → Type 0
+Nowhere c bound total = HasTotalNowhere c.args.behind.now.lines.now c.in-Some-Some.argument.now c.in-Some-Some.others.now c.in-Some-Some.factor.now c.in-Some-Some.more.now c.args.from c.args.to total bound
+
+pub loop-end-init : goal.loop-end-init
+loop-end-init c =
+    let at = (goal.at.loop-end-init c).After-places-places in
+    let begun = (goal.at.loop-end-init c).After-answer_is_unique in
+    subst (Nowhere begun c.places-places.result.start) (sym (total_is begun))
+    (none_at_first c.args.behind.now.lines.now c.args.behind.now.scores.now (sound begun) c.in-Some-Some.argument.now c.in-Some-Some.others.now c.in-Some-Some.factor.now c.in-Some-Some.more.now c.args.from c.args.to c.args.total (laid begun) (greatest begun) c.places-places.result (places at))
+
+pub argument_value-requires-clause-fits : goal.argument_value-requires-clause-fits
+argument_value-requires-clause-fits c = fits (goal.at.argument_value-requires-clause-fits c).After-places-places c.loop-end.end c.loop-end.auto.end c.loop-end-test.true
+
+pub argument_value-requires-clause-low : goal.argument_value-requires-clause-low
+argument_value-requires-clause-low c =
+    let at = (goal.at.argument_value-requires-clause-low c).After-places-places in
+    let begun = (goal.at.argument_value-requires-clause-low c).After-answer_is_unique in
+    first_low c.args.behind.now.lines.now c.args.behind.now.scores.now c.in-Some-Some.argument.now c.in-Some-Some.others.now c.in-Some-Some.factor.now c.in-Some-Some.more.now c.args.from c.args.to (laid begun) c.loop-end.end (fits at c.loop-end.end c.loop-end.auto.end c.loop-end-test.true)
+
+-- the invariant, with the total itself
+before : (c : After-answer_is_unique) (bound : ℕ) → Nowhere c bound (to_z w64 (of_z w64 c.args.total)) → Nowhere c bound c.args.total
+before c bound it = subst (Nowhere c bound) (total_is c) it
+
+after : (c : After-answer_is_unique) (bound : ℕ) → Nowhere c bound c.args.total → Nowhere c bound (to_z w64 (of_z w64 c.args.total))
+after c bound it = subst (Nowhere c bound) (sym (total_is c)) it
+
+pub loop-end-preserved-in_default-argument_value : goal.loop-end-preserved-in_default-argument_value
+loop-end-preserved-in_default-argument_value c =
+    let at = (goal.at.loop-end-preserved-in_default-argument_value c).After-places-places in
+    let begun = (goal.at.loop-end-preserved-in_default-argument_value c).After-answer_is_unique in
+    let end = c.loop-end.end in
+    after begun (end + 1)
+    (none_valued c.args.behind.now.lines.now c.args.behind.now.scores.now (sound begun) c.in-Some-Some.argument.now c.in-Some-Some.others.now c.in-Some-Some.factor.now c.in-Some-Some.more.now c.args.from c.args.to c.args.total (laid begun) (greatest begun) end (before begun end c.loop-end.invariant)
+    (fits at end c.loop-end.auto.end c.loop-end-test.true) (λ entry. c.in_default-argument_value.ensures entry))
+
+pub loop-end-preserved-in_default-greatest_total : goal.loop-end-preserved-in_default-greatest_total
+loop-end-preserved-in_default-greatest_total c =
+    let at = (goal.at.loop-end-preserved-in_default-greatest_total c).After-places-places in
+    let begun = (goal.at.loop-end-preserved-in_default-greatest_total c).After-answer_is_unique in
+    let end = c.loop-end.end in
+    after begun (end + 1)
+    (none_totalled c.args.behind.now.lines.now c.args.behind.now.scores.now (sound begun) c.in-Some-Some.argument.now c.in-Some-Some.others.now c.in-Some-Some.factor.now c.in-Some-Some.more.now c.args.from c.args.to c.args.total (laid begun) (greatest begun) end (before begun end c.loop-end.invariant)
+    (fits at end c.loop-end.auto.end c.loop-end-test.true) c.in_default-greatest_total.ensures)
+
+-- the arguments behind an end
+rest : (c : After-answer_is_unique) (end : ℕ) → FitsSpan c.args.behind.now.lines.now (on_span c.in-Some-Some.argument.now c.args.from end) → end ≤ c.args.to → AreLaid c.args.behind.now.lines.now c.args.behind.now.scores.now c.in-Some-Some.others.now c.in-Some-Some.more.now end c.args.to
+rest c end end_fits l = rest_laid c.args.behind.now.lines.now c.args.behind.now.scores.now c.in-Some-Some.argument.now c.in-Some-Some.others.now c.in-Some-Some.factor.now c.in-Some-Some.more.now c.args.from c.args.to (laid c) end end_fits l
+
+pub greatest_total-requires-clause-weighted : goal.greatest_total-requires-clause-weighted
+greatest_total-requires-clause-weighted c =
+    let at = (goal.at.greatest_total-requires-clause-weighted c).After-places-places in
+    let begun = (goal.at.greatest_total-requires-clause-weighted c).After-answer_is_unique in
+    let l : c.loop-end.end ≤ c.args.to = omega (arith, (places at).up_to_last, c.loop-end-test.true) in
+    (rest begun c.loop-end.end (fits at c.loop-end.end c.loop-end.auto.end c.loop-end-test.true) l).weighted
+
+pub greatest_total-requires-clause-scored : goal.greatest_total-requires-clause-scored
+greatest_total-requires-clause-scored c =
+    let at = (goal.at.greatest_total-requires-clause-scored c).After-places-places in
+    let begun = (goal.at.greatest_total-requires-clause-scored c).After-answer_is_unique in
+    let l : c.loop-end.end ≤ c.args.to = omega (arith, (places at).up_to_last, c.loop-end-test.true) in
+    (rest begun c.loop-end.end (fits at c.loop-end.end c.loop-end.auto.end c.loop-end-test.true) l).scored
+
+pub greatest_total-requires-clause-low : goal.greatest_total-requires-clause-low
+greatest_total-requires-clause-low c =
+    let at = (goal.at.greatest_total-requires-clause-low c).After-places-places in
+    let begun = (goal.at.greatest_total-requires-clause-low c).After-answer_is_unique in
+    let l : c.loop-end.end ≤ c.args.to = omega (arith, (places at).up_to_last, c.loop-end-test.true) in
+    (rest begun c.loop-end.end (fits at c.loop-end.end c.loop-end.auto.end c.loop-end-test.true) l).low
+
+fits_below : (z : ℤ) → nat_abs z ≤ greatest_score → FitsSigned w64 z
+fits_below z below = fits_signed_from_abs w64 z (omega arith)
+
+pub overflow_mul-factor : goal.overflow_mul-factor
+overflow_mul-factor c =
+    let at = (goal.at.overflow_mul-factor c).After-places-places in
+    let begun = (goal.at.overflow_mul-factor c).After-answer_is_unique in
+    let p = c.args.behind.now.lines.now in
+    let table = c.args.behind.now.scores.now in
+    let end = c.loop-end.end in
+    let end_fits = fits at end c.loop-end.auto.end c.loop-end-test.true in
+    let argument = c.in-Some-Some.argument.now in
+    let others = c.in-Some-Some.others.now in
+    let factor = c.in-Some-Some.factor.now in
+    let more = c.in-Some-Some.more.now in
+    let value = c.in-Some.value in
+    let rest = c.in-Some-greatest_total.rest in
+    let it = parts_low p table argument others factor more c.args.from c.args.to (laid begun) end end_fits (sound begun) value (λ entry. c.in-Some.ensures entry) rest c.in-Some-greatest_total.ensures.0 in
+    let fits_factor : FitsSigned w64 factor = search rules in
+    let fits_value : FitsSigned w64 value = search rules in
+    let fits_product : FitsSigned w64 (factor *ℤ value) = fits_below (factor *ℤ value) it.0 in
+    let fits_rest : FitsSigned w64 rest = search rules in
+    let fits_sum : FitsSigned w64 ((factor *ℤ value) +ℤ rest) = fits_below ((factor *ℤ value) +ℤ rest) it.2 in
+    simp to_z-of_z (fits_below (factor *ℤ value) it.0)
+
+pub overflow_add-factor : goal.overflow_add-factor
+overflow_add-factor c =
+    let at = (goal.at.overflow_add-factor c).After-places-places in
+    let begun = (goal.at.overflow_add-factor c).After-answer_is_unique in
+    let p = c.args.behind.now.lines.now in
+    let table = c.args.behind.now.scores.now in
+    let end = c.loop-end.end in
+    let end_fits = fits at end c.loop-end.auto.end c.loop-end-test.true in
+    let argument = c.in-Some-Some.argument.now in
+    let others = c.in-Some-Some.others.now in
+    let factor = c.in-Some-Some.factor.now in
+    let more = c.in-Some-Some.more.now in
+    let value = c.in-Some.value in
+    let rest = c.in-Some-greatest_total.rest in
+    let it = parts_low p table argument others factor more c.args.from c.args.to (laid begun) end end_fits (sound begun) value (λ entry. c.in-Some.ensures entry) rest c.in-Some-greatest_total.ensures.0 in
+    let fits_factor : FitsSigned w64 factor = search rules in
+    let fits_value : FitsSigned w64 value = search rules in
+    let fits_product : FitsSigned w64 (factor *ℤ value) = fits_below (factor *ℤ value) it.0 in
+    let fits_rest : FitsSigned w64 rest = search rules in
+    let fits_sum : FitsSigned w64 ((factor *ℤ value) +ℤ rest) = fits_below ((factor *ℤ value) +ℤ rest) it.2 in
+    simp to_z-of_z (fits_below ((factor *ℤ value) +ℤ rest) it.2)
+
+pub returns-then-factor-value : goal.returns-then-factor-value
+returns-then-factor-value c =
+    let at = (goal.at.returns-then-factor-value c).After-places-places in
+    let begun = (goal.at.returns-then-factor-value c).After-answer_is_unique in
+    let p = c.args.behind.now.lines.now in
+    let table = c.args.behind.now.scores.now in
+    let end = c.loop-end.end in
+    let end_fits = fits at end c.loop-end.auto.end c.loop-end-test.true in
+    let argument = c.in-Some-Some.argument.now in
+    let others = c.in-Some-Some.others.now in
+    let factor = c.in-Some-Some.factor.now in
+    let more = c.in-Some-Some.more.now in
+    let value = c.in-Some.value in
+    let rest = c.in-Some-greatest_total.rest in
+    let it = parts_low p table argument others factor more c.args.from c.args.to (laid begun) end end_fits (sound begun) value (λ entry. c.in-Some.ensures entry) rest c.in-Some-greatest_total.ensures.0 in
+    let fits_factor : FitsSigned w64 factor = search rules in
+    let fits_value : FitsSigned w64 value = search rules in
+    let fits_product : FitsSigned w64 (factor *ℤ value) = fits_below (factor *ℤ value) it.0 in
+    let fits_rest : FitsSigned w64 rest = search rules in
+    let fits_sum : FitsSigned w64 ((factor *ℤ value) +ℤ rest) = fits_below ((factor *ℤ value) +ℤ rest) it.2 in
+    let fits_total : FitsSigned w64 c.args.total = search rules in
+    let told : of_z w64 ((factor *ℤ value) +ℤ rest) ≡ of_z w64 c.args.total = simp to_z-of_z at c.if-factor-value.true in
+    let same : ((factor *ℤ value) +ℤ rest) ≡ c.args.total = sym (to_z-of_z w64 ((factor *ℤ value) +ℤ rest) fits_sum) ∙ ap (to_z w64) told ∙ to_z-of_z w64 c.args.total fits_total in
+    let found = found_here p table (sound begun) argument others factor more c.args.from c.args.to c.args.total (laid begun) (greatest begun) end (before begun end c.loop-end.invariant) end_fits value rest (λ entry. c.in-Some.ensures entry) c.in-Some-greatest_total.ensures same in
+    let A : List Arg → Type 0 = λ arguments. IsFirstEnd p arguments (factor ∷ more) c.args.from c.args.to c.args.total end in
+    let F : List ℤ → Type 0 = λ factors. IsFirstEnd p c.args.arguments.now factors c.args.from c.args.to c.args.total end in
+    subst F (sym c.in-Some-Some.ensures'.cases.0) (subst A (sym c.in-Some-Some.ensures.cases.0) found)
+
+pub loop-end-preserved : goal.loop-end-preserved
+loop-end-preserved c =
+    let at = (goal.at.loop-end-preserved c).After-places-places in
+    let begun = (goal.at.loop-end-preserved c).After-answer_is_unique in
+    let p = c.args.behind.now.lines.now in
+    let table = c.args.behind.now.scores.now in
+    let end = c.loop-end.end in
+    let end_fits = fits at end c.loop-end.auto.end c.loop-end-test.true in
+    let argument = c.in-Some-Some.argument.now in
+    let others = c.in-Some-Some.others.now in
+    let factor = c.in-Some-Some.factor.now in
+    let more = c.in-Some-Some.more.now in
+    let value = c.in-Some.value in
+    let rest = c.in-Some-greatest_total.rest in
+    let it = parts_low p table argument others factor more c.args.from c.args.to (laid begun) end end_fits (sound begun) value (λ entry. c.in-Some.ensures entry) rest c.in-Some-greatest_total.ensures.0 in
+    let fits_factor : FitsSigned w64 factor = search rules in
+    let fits_value : FitsSigned w64 value = search rules in
+    let fits_product : FitsSigned w64 (factor *ℤ value) = fits_below (factor *ℤ value) it.0 in
+    let fits_rest : FitsSigned w64 rest = search rules in
+    let fits_sum : FitsSigned w64 ((factor *ℤ value) +ℤ rest) = fits_below ((factor *ℤ value) +ℤ rest) it.2 in
+    let told : of_z w64 ((factor *ℤ value) +ℤ rest) ≡ of_z w64 c.args.total → ⊥ = simp to_z-of_z at c.if-factor-value.false in
+    let differs : ((factor *ℤ value) +ℤ rest) ≡ c.args.total → ⊥ = λ e. told (ap (of_z w64) e) in
+    after begun (end + 1)
+    (none_so_great p table (sound begun) argument others factor more c.args.from c.args.to c.args.total (laid begun) (greatest begun) end (before begun end c.loop-end.invariant) end_fits value rest (λ entry. c.in-Some.ensures entry) c.in-Some-greatest_total.ensures differs)
+
+pub unreachable-requires-2 : goal.unreachable-requires-2
+unreachable-requires-2 c =
+    let at = (goal.at.unreachable-requires-2 c).After-places-places in
+    let begun = (goal.at.unreachable-requires-2 c).After-answer_is_unique in
+    not_all_tried c.args.behind.now.lines.now c.args.behind.now.scores.now (sound begun) c.in-Some-Some.argument.now c.in-Some-Some.others.now c.in-Some-Some.factor.now c.in-Some-Some.more.now c.args.from c.args.to c.args.total (laid begun) (greatest begun) c.places-places.result (places at) c.loop-end.end c.loop-end-test.false (before begun c.loop-end.end c.loop-end.invariant)

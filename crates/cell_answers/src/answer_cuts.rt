@@ -1,0 +1,296 @@
+//! The cuts of a cell's answer: of the splits by an alternative that gives the best score, the first that has it.
+
+ghost use Rattle.std.specs.Prelude.{◌≡◌, ◌<◌, ◌≤◌, ℕ, ℤ, IfSome, MatchOption, Some, List, ◌∷◌, drop, length, take};
+ghost use Rattle.std.specs.List.{Contains};
+ghost use Rattle.adp_model.specs.declared.cell.Answer.TheVariants.{Best as BestAnswer};
+ghost use Rattle.adp_model.specs.declared.cell.Cell.{Cell};
+ghost use Rattle.adp_model.specs.declared.grammar.Arg.{Arg as Argument};
+ghost use Rattle.adp_model.specs.PosedProblem.{PosedProblem, IsSpan};
+ghost use Rattle.adp_model.specs.Parts.{alternatives_of};
+ghost use Rattle.adp_model.specs.Answers.{IsAnswer};
+ghost use Rattle.adp_model.specs.Bellman.{HasBestScore};
+ghost use Rattle.adp_model.specs.Demand.{IsDemandedChild};
+ghost use Rattle.score_numbers.specs.Greatest.{IsGreatestOf};
+ghost use Rattle.split_lines.specs.Laid.{Demands};
+ghost use Rattle.split_lines.specs.Lines.{IsLine};
+ghost use Rattle.cell_answers.specs.CellBest.{IsCellBest};
+ghost use Rattle.cell_answers.specs.Entries.{HasEntry};
+ghost use Rattle.cell_answers.specs.FirstPlaces.{IsFirstAmong, IsFirstGreatest};
+ghost use Rattle.cell_answers.specs.LaidBy.{AreFirstEnds, IsFirstEnd};
+ghost use Rattle.cell_answers.specs.Opened.{IsOpened};
+ghost use Rattle.cell_answers.specs.Through.{HasTotalThrough};
+ghost use Rattle.cell_answers.specs.Totals.{AreLow, AreWeighted, HasTotal};
+
+use crate::along::{greatest_front, total_through};
+use crate::argument_values::argument_value;
+use crate::filling::{Best, Known, cell_best, greatest_total};
+use crate::opened::{OpenedLine, open_line};
+use crate::scores::Scores;
+use adp_model::laws::bellman::bellman;
+use adp_model::laws::bounds::{bounds_are_sound, words_keep_their_score_bound};
+use adp_model::laws::order::answer_is_unique;
+use adp_model::laws::well_formed::{
+    alternatives_fit, arguments_are_few_and_known, terms_fit_their_alternatives,
+};
+use adp_model::{Answer, Arg, Cell, Choice};
+use score_numbers::{are_worthless, turned, turned_factors};
+use split_lines::{Line, Lines, line_here};
+
+/// The first place of the boundary at which the arguments of a line up to its second one of open length have this
+/// total.
+fn first_through(lines: &Lines<'_>, line: &OpenedLine<'_>, total: i64) -> Option<u16>
+    requires opened { IsOpened lines.now line.now }
+    ensures { MatchOption result
+        ((place : ℕ) → Contains line.now.boundary.places.now place
+        → HasTotalThrough lines.now (HasBestScore lines.now) line.now.arguments.first.now
+        line.now.arguments.middle.now line.now.arguments.second.now line.now.arguments.first_factor
+        line.now.arguments.middle_factors.now line.now.arguments.second_factor line.now.from line.now.boundary.letters
+        line.now.boundary.last place total → ⊥)
+        (IsFirstAmong line.now.boundary.places.now (λ place.
+        HasTotalThrough lines.now (HasBestScore lines.now) line.now.arguments.first.now
+        line.now.arguments.middle.now line.now.arguments.second.now line.now.arguments.first_factor
+        line.now.arguments.middle_factors.now line.now.arguments.second_factor line.now.from line.now.boundary.letters
+        line.now.boundary.last place total)) }
+{
+    let weigh = !are_worthless(line.arguments.middle, line.arguments.middle_factors);
+    for place in line.boundary.places {
+        let through = total_through(lines, line, weigh, *place);
+        if let Some(found) = through {
+            if found == total {
+                return Some(*place);
+            }
+        }
+    }
+    None
+}
+
+/// The first place of a line's boundary at which arguments that begin with the first one of the line, laid from `from`
+/// to `to`, have their greatest total; `None` where they have no total.
+fn first_along(
+    lines: &Lines<'_>,
+    scores: &Scores<'_>,
+    line: Line<'_>,
+    arguments: &[Arg],
+    factors: &[i64],
+    from: u16,
+    to: u16,
+) -> Option<u16>
+    requires same_problem { scores.now.problem ≡ lines.now }
+    requires line { IsLine lines.now arguments.now line }
+    requires weighted { AreWeighted lines.now arguments.now factors.now }
+    requires span { IsSpan lines.now.word from to }
+    requires scored { (cell : Cell) → Demands lines.now arguments.now from to cell → HasEntry scores.now cell }
+    requires low { AreLow lines.now arguments.now factors.now from to }
+    ensures { MatchOption result
+        ((total : ℤ) → HasTotal lines.now (HasBestScore lines.now) arguments.now factors.now from to total → ⊥)
+        (IsFirstGreatest lines.now arguments.now factors.now from to) }
+{
+    let opened = open_line(lines, scores, line, arguments, factors, from, to)?;
+    let greatest = greatest_front(lines, &opened)?;
+    first_through(lines, &opened, greatest)
+}
+
+/// The first end of the first of these arguments, which is the first one of a line, with which they have this total, their
+/// greatest.
+fn end_along(
+    lines: &Lines<'_>,
+    scores: &Scores<'_>,
+    line: Line<'_>,
+    arguments: &[Arg],
+    factors: &[i64],
+    from: u16,
+    to: u16,
+    total: i64,
+) -> u16
+    requires same_problem { scores.now.problem ≡ lines.now }
+    requires line { IsLine lines.now arguments.now line }
+    requires weighted { AreWeighted lines.now arguments.now factors.now }
+    requires span { IsSpan lines.now.word from to }
+    requires scored { (cell : Cell) → Demands lines.now arguments.now from to cell → HasEntry scores.now cell }
+    requires low { AreLow lines.now arguments.now factors.now from to }
+    requires greatest { IsGreatestOf (HasTotal lines.now (HasBestScore lines.now) arguments.now factors.now from to)
+        (Some total) }
+    ensures { IsFirstEnd lines.now arguments.now factors.now from to total result }
+{
+    match first_along(lines, scores, line, arguments, factors, from, to) {
+        Some(place) => place,
+        None => unreachable!(),
+    }
+}
+
+/// The first end of the first of these arguments with which they have this total, their greatest, found by trying one
+/// after another. If the others have a line, `ahead` of them come before it.
+fn end_among(
+    behind: &Known<'_, '_>,
+    ahead: u8,
+    arguments: &[Arg],
+    factors: &[i64],
+    from: u16,
+    to: u16,
+    total: i64,
+) -> u16
+    requires same_problem { behind.now.scores.now.problem ≡ behind.now.lines.now }
+    requires line { IfSome behind.now.line (λ line. IsLine behind.now.lines.now (drop ahead (drop 1 arguments.now)) line) }
+    requires some { 0 < length arguments.now }
+    requires weighted { AreWeighted behind.now.lines.now arguments.now factors.now }
+    requires span { IsSpan behind.now.lines.now.word from to }
+    requires scored { (cell : Cell) → Demands behind.now.lines.now arguments.now from to cell
+        → HasEntry behind.now.scores.now cell }
+    requires low { AreLow behind.now.lines.now arguments.now factors.now from to }
+    requires greatest { IsGreatestOf (HasTotal behind.now.lines.now (HasBestScore behind.now.lines.now)
+        arguments.now factors.now from to) (Some total) }
+    ensures { IsFirstEnd behind.now.lines.now arguments.now factors.now from to total result }
+{
+    let Known { lines, scores, .. } = *behind;
+    let (Some((argument, others)), Some((factor, more))) = (
+        arguments.split_first(),
+        factors.split_first(),
+    ) else {
+        unreachable!()
+    };
+    lines.problem().admissible();
+    bounds_are_sound();
+    answer_is_unique();
+    let places = lines.places(arguments, from, to);
+    for end in places.start..places.end {
+        let Some(value) = argument_value(lines, scores, argument, from, end) else {
+            continue;
+        };
+        let Some(rest) = greatest_total(behind, ahead, others, more, end, to) else {
+            continue;
+        };
+        if factor * value + rest == total {
+            return end;
+        }
+    }
+    unreachable!()
+}
+
+/// The line of the arguments behind the first one, if that is not its first one, and how many of these come before it.
+#[inline(always)]
+fn line_left(line: Option<Line<'_>>, ahead: u8) -> (Option<Line<'_>>, u8)
+    ensures { (p : PosedProblem) (arguments : List Argument) → IfSome line.entry (λ it. IsLine p (drop ahead arguments) it)
+        → IfSome result.0 (λ it. IsLine p (drop result.1 (drop 1 arguments)) it) }
+{
+    if ahead == 0 {
+        (None, 0)
+    } else {
+        (line, ahead - 1)
+    }
+}
+
+/// The first ends with which the arguments, laid from `from` to `to`, have this total, their greatest; ends that are left
+/// over stand at `to`. If the arguments have a line, `ahead` of them come before it.
+fn first_ends(
+    known: &Known<'_, '_>,
+    ahead: u8,
+    arguments: &[Arg],
+    factors: &[i64],
+    from: u16,
+    to: u16,
+    total: i64,
+) -> [u16; 4]
+    requires same_problem { known.now.scores.now.problem ≡ known.now.lines.now }
+    requires line { IfSome known.now.line (λ line. IsLine known.now.lines.now (drop ahead arguments.now) line) }
+    requires weighted { AreWeighted known.now.lines.now arguments.now factors.now }
+    requires span { IsSpan known.now.lines.now.word from to }
+    requires scored { (cell : Cell) → Demands known.now.lines.now arguments.now from to cell
+        → HasEntry known.now.scores.now cell }
+    requires low { AreLow known.now.lines.now arguments.now factors.now from to }
+    requires greatest { IsGreatestOf (HasTotal known.now.lines.now (HasBestScore known.now.lines.now)
+        arguments.now factors.now from to) (Some total) }
+    ensures { (room : ℕ) → length arguments.now ≤ room → room ≤ 4
+        → AreFirstEnds known.now.lines.now arguments.now factors.now from to total (take room result) }
+{
+    let Known { lines, scores, .. } = *known;
+    let (Some((argument, others)), Some((factor, more))) = (
+        arguments.split_first(),
+        factors.split_first(),
+    ) else {
+        return [to; 4];
+    };
+    lines.problem().admissible();
+    bounds_are_sound();
+    answer_is_unique();
+    let (line, later) = line_left(known.line, ahead);
+    let behind = Known {
+        lines,
+        scores,
+        line,
+    };
+    let end = match line_here(known.line.as_ref(), ahead) {
+        Some(line) => end_along(lines, scores, *line, arguments, factors, from, to, total),
+        None => end_among(&behind, later, arguments, factors, from, to, total),
+    };
+    let Some(value) = argument_value(lines, scores, argument, from, end) else {
+        unreachable!()
+    };
+    let rest = total - factor * value;
+    let [second, third, fourth, _] = first_ends(&behind, later, others, more, end, to, rest);
+    [end, second, third, fourth]
+}
+
+/// The cuts of a cell's answer, which complete its best score and the first alternative that gives it. Takes no memory,
+/// and about the time of that alternative's score once for each of its arguments.
+pub fn first_cuts(lines: &Lines<'_>, scores: &Scores<'_>, cell: Cell, best: Best) -> [u16; 3]
+    requires same_problem { scores.now.problem ≡ lines.now }
+    requires rule { cell.rule < length lines.now.grammar.rules }
+    requires in_word { IsSpan lines.now.word cell.from cell.to }
+    requires scored { (child : Cell) → IsDemandedChild lines.now cell child → HasEntry scores.now child }
+    requires best { IsCellBest lines.now cell best.score best.alt }
+    ensures { IsAnswer lines.now cell (BestAnswer best.score (record { alt = best.alt; cuts = result })) }
+{
+    let problem = lines.problem();
+    problem.admissible();
+    bellman();
+    bounds_are_sound();
+    words_keep_their_score_bound();
+    answer_is_unique();
+    arguments_are_few_and_known();
+    alternatives_fit();
+    terms_fit_their_alternatives();
+    let goal = problem.goal();
+    let arguments = problem.arguments(cell.rule, best.alt);
+    let term = problem.term(cell.rule, best.alt);
+    let factors = turned_factors(goal, term.factors.as_slice());
+    let total = turned(goal, best.score) - turned(goal, term.constant);
+    let line = lines.line(cell.rule, best.alt);
+    let ahead = line.map_or(0, |line| line.first);
+    let known = Known {
+        lines,
+        scores,
+        line,
+    };
+    let [first, second, third, _] = first_ends(
+        &known,
+        ahead,
+        arguments,
+        &factors[..arguments.len()],
+        cell.from,
+        cell.to,
+        total,
+    );
+    [first, second, third]
+}
+
+/// The answer of a cell, by the scores of its demanded children. Takes no memory.
+pub fn cell_answer(lines: &Lines<'_>, scores: &Scores<'_>, cell: Cell) -> Answer
+    requires same_problem { scores.now.problem ≡ lines.now }
+    requires rule { cell.rule < length lines.now.grammar.rules }
+    requires in_word { IsSpan lines.now.word cell.from cell.to }
+    requires scored { (child : Cell) → IsDemandedChild lines.now cell child → HasEntry scores.now child }
+    ensures { IsAnswer lines.now cell result }
+{
+    let Some(best) = cell_best(lines, scores, cell) else {
+        return Answer::NoCandidate;
+    };
+    let cuts = first_cuts(lines, scores, cell, best);
+    let choice = Choice {
+        alt: best.alt,
+        cuts,
+    };
+    Answer::Best {
+        score: best.score,
+        choice,
+    }
+}
