@@ -56,7 +56,7 @@ room_if {Probe} work room capacity few = go work.top refl
     go None e = tt
     go (Some top) e =
         let n : length (frames_of work.top work.below.items) ≡ suc (length (reverse work.below.items)) =
-            ap (λ t. length (frames_of t work.below.items)) e in
+        ap (λ t. length (frames_of t work.below.items)) e in
         let l = length-reverse work.below.items in
         omega arith
 

@@ -19,8 +19,17 @@ use Rattle.cell_core.proofs.Changes.{frame_gone}
 
 -- the work with another number of wins
 abbrev pub with_wins : {Probe : Type 0} → Work Probe → ℕ → Work Probe
-with_wins work wins = record { hand = work.hand; top = work.top; below = work.below; ready = work.ready;
-    opened = work.opened; wins = wins; moves = work.moves; ended = work.ended; score = work.score }
+with_wins work wins = record {
+  hand = work.hand;
+  top = work.top;
+  below = work.below;
+  ready = work.ready;
+  opened = work.opened;
+  wins = wins;
+  moves = work.moves;
+  ended = work.ended;
+  score = work.score;
+}
 
 none_some : {X : Type 0} (x : X) → None ≡ Some x → ⊥
 none_some x e = cc

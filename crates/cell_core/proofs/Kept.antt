@@ -40,8 +40,7 @@ asking : (p : PosedProblem) (cell child : Cell) → IsDemandedChild p cell child
     → (argument : SplitArgument) × (argument.cell ≡ cell) × AsksFor p argument child
 asking p cell child (alternative, cuts, viable, (k, inside, e)) =
     let it : Placed = record { argument = Rule child.rule; from = child.from; to = child.to } in
-    let laid : List Placed = placed p cell alternative cuts in
-    (
+    let laid : List Placed = placed p cell alternative cuts in (
       record { cell = cell; alternative = alternative; cuts = cuts; number = k },
       refl,
       record { viable = viable; there = slice_get_read laid (length laid) k it refl inside (sym e) },
@@ -83,8 +82,8 @@ module _ (p : PosedProblem) (Noted : Cell → Type 0) where
         (position, refl, subst (AsksFor p (argument_at visit.cell position)) (some_same child other e) next.asks);
     before = λ other argument cell e here asks l.
         let same : is_before p visit argument (argument_at visit.cell position) ≡ true =
-            subst (λ (q : Position). is_before p visit argument (argument_at visit.cell q) ≡ true)
-            (sym (some_same position other e)) l in
+        subst (λ (q : Position). is_before p visit argument (argument_at visit.cell q) ≡ true)
+        (sym (some_same position other e)) l in
         was_before argument cell here asks same (is_behind p visit argument) refl;
     passed = λ argument cell here asks l. was_passed argument cell here asks l (is_behind p visit argument) refl;
   }
@@ -150,30 +149,28 @@ module _ {Pass Probe : Type 0} (memo : Meaning Pass Probe) (p : PosedProblem) (h
       → AddsAtMost cell Known Known' → (sought : Option Cell) (frames : List (Frame Probe)) → Above cell frames
       → AreFrames p Known Noted sought frames → AreFrames p Known' Noted' sought frames
   frames_on Known Known' Noted Noted' cell more only sought [] above are = are
-  frames_on Known Known' Noted Noted' cell more only sought (frame ∷ below) above are =
-      (
-        visit_on p Known Known' Noted Noted' sought frame.visit more
+  frames_on Known Known' Noted Noted' cell more only sought (frame ∷ below) above are = (
+    visit_on p Known Known' Noted Noted' sought frame.visit more
         (λ has.
-            are.0.not_known
-            (only frame.visit.cell has
-            (λ e.
-                let l : height cell < height frame.visit.cell = above.0 in
-                let s : height frame.visit.cell ≡ height cell = ap height e in
-                omega arith)))
+        are.0.not_known
+        (only frame.visit.cell has
+        (λ e.
+        let l : height cell < height frame.visit.cell = above.0 in
+        let s : height frame.visit.cell ≡ height cell = ap height e in
+        omega arith)))
         are.0,
-        frames_on Known Known' Noted Noted' cell more only (Some frame.visit.cell) below above.1 are.1,
-      )
+    frames_on Known Known' Noted Noted' cell more only (Some frame.visit.cell) below above.1 are.1,
+  )
 
   -- nothing was added
   frames_as_they_were : (Known Known' Noted : Cell → Type 0) → AddsNothing Known Known' → (sought : Option Cell)
       (frames : List (Frame Probe)) → AreFrames p Known Noted sought frames → AreFrames p Known' Noted sought frames
   frames_as_they_were Known Known' Noted nothing sought [] are = are
-  frames_as_they_were Known Known' Noted nothing sought (frame ∷ below) are =
-      (
-        visit_on p Known Known' Noted Noted sought frame.visit (λ cell noted. noted)
+  frames_as_they_were Known Known' Noted nothing sought (frame ∷ below) are = (
+    visit_on p Known Known' Noted Noted sought frame.visit (λ cell noted. noted)
         (λ has. are.0.not_known (nothing frame.visit.cell has)) are.0,
-        frames_as_they_were Known Known' Noted nothing (Some frame.visit.cell) below are.1,
-      )
+    frames_as_they_were Known Known' Noted nothing (Some frame.visit.cell) below are.1,
+  )
 
   module _ (pass pass' : Pass) (on : (probe : Probe) → memo.stage probe ≢ Publishing → memo.follows probe pass → memo.follows probe pass') where
     waiting_on : (frame : Frame Probe) → IsWaiting memo pass frame → IsWaiting memo pass' frame
@@ -289,7 +286,7 @@ module _ {Pass Probe : Type 0} (memo : Meaning Pass Probe) (p : PosedProblem) (h
               passed = λ argument child here asks e. absurd (all_behind argument e);
             },
             frames_as_they_were (memo.known pass) (memo.known pass') Noted nothing (Some top.visit.cell) below
-            (subst (λ c. AreFrames p (memo.known pass) Noted (Some c) below) (sym cell) is.visits),
+                (subst (λ c. AreFrames p (memo.known pass) Noted (Some c) below) (sym cell) is.visits),
           );
           in_hand = λ it e. absurd (none_some it e);
           probes = (own, waiting below (probes_on pass pass' on below is.probes));
@@ -316,7 +313,7 @@ module _ {Pass Probe : Type 0} (memo : Meaning Pass Probe) (p : PosedProblem) (h
           visits =
               subst
               (λ (v : Visit).
-                  IsVisit p (memo.known pass') Noted None v × AreFrames p (memo.known pass') Noted (Some v.cell) below)
+              IsVisit p (memo.known pass') Noted None v × AreFrames p (memo.known pass') Noted (Some v.cell) below)
               (sym visit)
               (frames_as_they_were (memo.known pass) (memo.known pass') Noted nothing None (top ∷ below) is.visits);
           in_hand = λ it e. absurd (none_some it e);
@@ -325,7 +322,7 @@ module _ {Pass Probe : Type 0} (memo : Meaning Pass Probe) (p : PosedProblem) (h
             refl,
             subst (λ (v : Visit). IsAnswer p v.cell answer) (sym visit) is.ready_is.1,
             subst (λ (v : Visit). (child : Cell) → IsDemandedChild p v.cell child → Noted child) (sym visit)
-            is.ready_is.2,
+                is.ready_is.2,
           );
         }
 

@@ -16,3 +16,10 @@ pub mod Opening
 pub mod Changes
 pub mod Closing
 pub mod PlainRecords
+pub mod LineOrder
+pub mod LineSplits
+pub mod Skipped
+pub mod NextPlaces
+pub mod ViableCuts
+pub mod LineHere
+pub mod SkipSteps

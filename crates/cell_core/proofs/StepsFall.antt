@@ -30,7 +30,7 @@ module _ {Pass Probe : Type 0} (memo : Meaning Pass Probe) (p : PosedProblem) (m
   pub fresh_within : (pass : Pass) → left None [] pass ≤ step_bound m (length arguments)
   fresh_within pass =
       let few : number [] pass ≤ length arguments =
-          count_by-le-length (is_left {Probe = Probe} p (is_known memo pass) []) arguments in
+      count_by-le-length (is_left {Probe = Probe} p (is_known memo pass) []) arguments in
       let c : ℕ = 2 * m + 5 in
       let l : c * number [] pass ≤ c * length arguments = times_le c (number [] pass) (length arguments) few in
       let e : (length arguments + 1) * c ≡ c + c * length arguments = grind arith in
@@ -55,11 +55,11 @@ module _ {Pass Probe : Type 0} (memo : Meaning Pass Probe) (p : PosedProblem) (m
       let f = sum_by-cons own top below in
       let g = sum_by-cons own top' below in
       let less : number (top' ∷ below) pass + 1 ≤ number (top ∷ below) pass =
-          count_less (is_left p (is_known memo pass) (top' ∷ below)) (is_left p (is_known memo pass) (top ∷ below)) arguments
-          (left_moved p (is_known memo pass) top top' below same on) argument listed
-          (at_top (is_known memo pass) top' (here ∙ sym same) ∙ now) (at_top (is_known memo pass) top here ∙ was) in
+      count_less (is_left p (is_known memo pass) (top' ∷ below)) (is_left p (is_known memo pass) (top ∷ below)) arguments
+      (left_moved p (is_known memo pass) top top' below same on) argument listed
+      (at_top (is_known memo pass) top' (here ∙ sym same) ∙ now) (at_top (is_known memo pass) top here ∙ was) in
       let l : c + c * number (top' ∷ below) pass ≤ c * number (top ∷ below) pass =
-          times_less c (number (top' ∷ below) pass) (number (top ∷ below) pass) less in
+      times_less c (number (top' ∷ below) pass) (number (top ∷ below) pass) less in
       omega arith
     where
       at_top : (knows : Cell → Bool) (frame : Frame Probe) → argument.cell ≡ frame.visit.cell
@@ -95,8 +95,8 @@ module _ {Pass Probe : Type 0} (memo : Meaning Pass Probe) (p : PosedProblem) (m
   look_unpublished height pass pass' hand top below stay falls above unknown =
       let k = fewer pass pass' stay (top ∷ below) in
       let l : number (top ∷ below) pass ≤ number below pass =
-          count_le (is_left p (is_known memo pass) (top ∷ below)) (is_left p (is_known memo pass) below) arguments
-          (left_opened p height (is_known memo pass) top below above (not_known_so memo pass top.visit.cell unknown)) in
+      count_le (is_left p (is_known memo pass) (top ∷ below)) (is_left p (is_known memo pass) below) arguments
+      (left_opened p height (is_known memo pass) top below above (not_known_so memo pass top.visit.cell unknown)) in
       let t = times_le (2 * m + 5) (number (top ∷ below) pass) (number below pass) l in
       let s = sum_by-cons own top below in
       omega arith
@@ -107,11 +107,11 @@ module _ {Pass Probe : Type 0} (memo : Meaning Pass Probe) (p : PosedProblem) (m
       → own top' < own top → left None (top' ∷ below) pass' < left None (top ∷ below) pass
   publish_going pass pass' top top' below stay same_visit falls =
       let e : number (top' ∷ below) pass' ≡ number (top ∷ below) pass' =
-          ap
-          (λ (visit : Visit). left_of p (is_known memo pass') (record { visit = visit; probe = top.probe } ∷ below) arguments)
-          same_visit in
+      ap
+      (λ (visit : Visit). left_of p (is_known memo pass') (record { visit = visit; probe = top.probe } ∷ below) arguments)
+      same_visit in
       let g : (2 * m + 5) * number (top' ∷ below) pass' ≡ (2 * m + 5) * number (top ∷ below) pass' =
-          ap (λ n. (2 * m + 5) * n) e in
+      ap (λ n. (2 * m + 5) * n) e in
       let k = fewer pass pass' stay (top ∷ below) in
       let s = sum_by-cons own top below in
       let t = sum_by-cons own top' below in
@@ -124,10 +124,10 @@ module _ {Pass Probe : Type 0} (memo : Meaning Pass Probe) (p : PosedProblem) (m
       → 0 < own top → left None (next ∷ below) pass' < left None (top ∷ next ∷ below) pass
   publish_closed height pass pass' top next below stay above has positive =
       let l : number (next ∷ below) pass' ≤ number (top ∷ next ∷ below) pass =
-          count_le (is_left p (is_known memo pass') (next ∷ below)) (is_left p (is_known memo pass) (top ∷ next ∷ below))
-          arguments
-          (left_closed p height (is_known memo pass) (is_known memo pass') (stay_so memo pass pass' stay) top (next ∷ below)
-          above (known_so memo pass' top.visit.cell has)) in
+      count_le (is_left p (is_known memo pass') (next ∷ below)) (is_left p (is_known memo pass) (top ∷ next ∷ below))
+      arguments
+      (left_closed p height (is_known memo pass) (is_known memo pass') (stay_so memo pass pass' stay) top (next ∷ below)
+      above (known_so memo pass' top.visit.cell has)) in
       let k = times_le (2 * m + 5) (number (next ∷ below) pass') (number (top ∷ next ∷ below) pass) l in
       let s = sum_by-cons own top (next ∷ below) in
       omega arith

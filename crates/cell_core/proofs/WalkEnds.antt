@@ -69,7 +69,7 @@ places_low cell (turn ∷ turns) (cut ∷ cuts) number l k = (
   places_low cell turns cuts number l k,
 )
 
-places_length : (cell : Cell) (turns cuts : List ℕ) (number : ℕ) → length turns ≡ length cuts
+pub places_length : (cell : Cell) (turns cuts : List ℕ) (number : ℕ) → length turns ≡ length cuts
     → length (ranks_of cell turns cuts ++ number ∷ []) ≡ length cuts + 1
 places_length cell [] [] number e = refl
 places_length cell [] (cut ∷ cuts) number e = absurd (omega arith)

@@ -190,9 +190,9 @@ module _ {Pass Probe : Type 0} (memo : Meaning Pass Probe) (p : PosedProblem) (h
             let top' : Frame Probe = record { visit = moved_to top.visit position; probe = top.probe } in
             let at : SplitArgument = argument_at top.visit.cell position in
             let l = fall.begun memo p m arguments pass hand top top' below at refl refl
-                (λ argument here e. behind_moved p top.visit position next.behind argument e)
-                (all.all at (top_demanded pass work top below was sound) (hand.cell, next.asks)) refl next.behind
-                (not_behind_itself p top.visit position next.behind) fresh in
+            (λ argument here e. behind_moved p top.visit position next.behind argument e)
+            (all.all at (top_demanded pass work top below was sound) (hand.cell, next.asks)) refl next.behind
+            (not_behind_itself p top.visit position next.behind) fresh in
             let e = left_at m arguments work None (top ∷ below) None pass was in
             let f = left_at m arguments work' (Some hand) (top' ∷ below) None pass is in
             omega arith
@@ -256,8 +256,8 @@ module _ {Pass Probe : Type 0} (memo : Meaning Pass Probe) (p : PosedProblem) (h
             → work_left memo p m arguments work' pass' < work_left memo p m arguments work pass
         look_open_left m arguments top is here unknown less =
             let l = fall.look_unpublished memo p m arguments high.height pass pass' hand top frames stay less
-                (subst (λ c. AllByRecursion (λ (frame : Frame Probe). high.height c < high.height frame.visit.cell) frames) (sym here) (hand_below pass work hand frames was sound))
-                (λ h. unknown (subst (memo.known pass) here h)) in
+            (subst (λ c. AllByRecursion (λ (frame : Frame Probe). high.height c < high.height frame.visit.cell) frames) (sym here) (hand_below pass work hand frames was sound))
+            (λ h. unknown (subst (memo.known pass) here h)) in
             let e = left_at m arguments work (Some hand) frames None pass was in
             let f = left_at m arguments work' None (top ∷ frames) None pass' is in
             omega arith
@@ -290,7 +290,7 @@ module _ {Pass Probe : Type 0} (memo : Meaning Pass Probe) (p : PosedProblem) (h
             let e = left_at m arguments work (Some hand) frames None pass was in
             let l = fall.ended_look memo p m arguments pass pass' hand work'.hand frames (frames_of work'.top work'.below.items) (omega arith) in
             let f : work_left memo p m arguments work' pass' ≡ steps_left memo p m arguments true work'.hand (frames_of work'.top work'.below.items) pass' =
-                λ i. steps_left memo p m arguments (ended i) work'.hand (frames_of work'.top work'.below.items) pass' in
+            λ i. steps_left memo p m arguments (ended i) work'.hand (frames_of work'.top work'.below.items) pass' in
             omega arith
 
       -- it found the answer
@@ -410,11 +410,11 @@ module _ {Pass Probe : Type 0} (memo : Meaning Pass Probe) (p : PosedProblem) (h
         publish_next_left m arguments next others below_is is known probe' less =
             let above = sought_below p (memo.known pass) Noted high.height high.falls top.visit.cell below (publishing pass work top below answer was sound).visits.1 in
             let l = fall.publish_closed memo p m arguments high.height pass pass' top next others stay
-                (subst (λ xs. AllByRecursion (λ (frame : Frame Probe). high.height top.visit.cell < high.height frame.visit.cell) xs) below_is above) known (omega arith) in
+            (subst (λ xs. AllByRecursion (λ (frame : Frame Probe). high.height top.visit.cell < high.height frame.visit.cell) xs) below_is above) known (omega arith) in
             let e = left_at m arguments work None (top ∷ below) (Some answer) pass was in
             let f = left_at m arguments work' None (next ∷ others) None pass' is in
             let h : steps_left memo p m arguments false None (top ∷ below) pass ≡ steps_left memo p m arguments false None (top ∷ next ∷ others) pass =
-                λ i. steps_left memo p m arguments false None (top ∷ below_is i) pass in
+            λ i. steps_left memo p m arguments false None (top ∷ below_is i) pass in
             omega arith
 
         pub publish_end_left : (m : ℕ) (arguments : List SplitArgument) → work'.ended ≡ true → (probe' : Probe)
@@ -424,7 +424,7 @@ module _ {Pass Probe : Type 0} (memo : Meaning Pass Probe) (p : PosedProblem) (h
             let l = fall.ended_publish memo p m arguments pass pass' top work'.hand (frames_of work'.top work'.below.items) below (omega arith) in
             let e = left_at m arguments work None (top ∷ below) (Some answer) pass was in
             let f : work_left memo p m arguments work' pass' ≡ steps_left memo p m arguments true work'.hand (frames_of work'.top work'.below.items) pass' =
-                λ i. steps_left memo p m arguments (ended i) work'.hand (frames_of work'.top work'.below.items) pass' in
+            λ i. steps_left memo p m arguments (ended i) work'.hand (frames_of work'.top work'.below.items) pass' in
             omega arith
 
 -- ---- room

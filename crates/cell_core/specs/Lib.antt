@@ -3,3 +3,4 @@ pub mod Working
 pub mod FrameChanges
 pub mod PlainScores
 pub mod PlainMemos
+pub mod Skipping

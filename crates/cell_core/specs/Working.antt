@@ -22,12 +22,30 @@ all_frames work = frames_of work.top work.below.items
 
 -- the work with a look in hand, and the work with a frame on top
 abbrev pub with_hand : {Probe : Type 0} → Work Probe → Hand Probe → Work Probe
-with_hand work hand = record { hand = Some hand; top = work.top; below = work.below; ready = work.ready;
-    opened = work.opened; wins = work.wins; moves = work.moves; ended = work.ended; score = work.score }
+with_hand work hand = record {
+  hand = Some hand;
+  top = work.top;
+  below = work.below;
+  ready = work.ready;
+  opened = work.opened;
+  wins = work.wins;
+  moves = work.moves;
+  ended = work.ended;
+  score = work.score;
+}
 
 abbrev pub with_top : {Probe : Type 0} → Work Probe → Frame Probe → Work Probe
-with_top work top = record { hand = work.hand; top = Some top; below = work.below; ready = work.ready;
-    opened = work.opened; wins = work.wins; moves = work.moves; ended = work.ended; score = work.score }
+with_top work top = record {
+  hand = work.hand;
+  top = Some top;
+  below = work.below;
+  ready = work.ready;
+  opened = work.opened;
+  wins = work.wins;
+  moves = work.moves;
+  ended = work.ended;
+  score = work.score;
+}
 
 -- there is room for all frames, and no frame is below where there is none on top
 pub record HasRoom {Probe : Type 0} (p : PosedProblem) (work : Work Probe) : Type 0 where

@@ -4,10 +4,13 @@
 mod noted_cells;
 mod notes;
 mod plain_memo;
+mod seeking;
+mod skipping;
 mod walk;
 mod work;
 
 pub use noted_cells::NotedCells;
 pub use plain_memo::{PlainMemo, PlainPass, PlainProbe};
-pub use walk::{asked, seek};
+pub use seeking::seek;
+pub use walk::asked;
 pub use work::Turn;

@@ -1,20 +1,23 @@
-//! The walk over the arguments of a cell's splits, in the order of a visit, and the search for the next one whose cell
-//! isn't noted.
+//! The walk over the arguments of a cell's splits, in the order of a visit.
 
-ghost use Rattle.std.specs.Prelude.{◌≡◌, ◌<◌, ◌≤◌, MatchOption, ◌∷◌, length, slice_index};
+ghost use Rattle.std.specs.Prelude.{◌≡◌, ◌-◌, ◌<◌, ◌≤◌, ℕ, MatchOption, List, ◌∷◌, length, slice_index};
+ghost use Rattle.std.specs.Bool.{OnTrue, OnFalse};
+ghost use Rattle.std.specs.List.{AllByRecursion};
 ghost use Rattle.adp_model.specs.declared.cell.Cell.{Cell as AnyCell};
 ghost use Rattle.adp_model.specs.PosedProblem.{IsSpan};
-ghost use Rattle.adp_model.specs.Splits.{ends_by};
+ghost use Rattle.adp_model.specs.Parts.{alternatives_of};
+ghost use Rattle.adp_model.specs.Splits.{ends_by, IsViable};
 ghost use Rattle.adp_model.specs.SplitArguments.{IsSplitArgument, AsksFor};
 ghost use Rattle.adp_model.specs.Visits.{argument_at, turned_number, IsWalk};
-ghost use Rattle.cell_core.specs.Seeking.{IsLast, IsNext, IsNextSought, IsNoneSought, IsFirstFrom, IsNoneFrom};
+ghost use Rattle.adp_model.specs.Walk.{IsFirstVisited, IsNextVisited, IsLastVisited};
+ghost use Rattle.cell_core.specs.Seeking.{IsLast, IsNext, IsFirstFrom, IsNoneFrom};
 
-use crate::noted_cells::NotedCells;
 use adp_model::laws::splits::ranks_tell_splits_apart;
-use adp_model::laws::well_formed::{alternatives_fit, arguments_are_few_and_known};
+use adp_model::laws::well_formed::alternatives_fit;
 use adp_model::{Arg, Cell, Position, Problem, Visit};
 use random_orders::rotated;
-use yield_sizes::{Cuts, first_viable, next_viable};
+use split_lines::Lines;
+use yield_sizes::Cuts;
 
 /// The alternative that is visited behind so many others where the visit begins with `first`.
 fn alternative_behind(first: u32, count: u32, turned: u32) -> u32
@@ -27,8 +30,51 @@ fn alternative_behind(first: u32, count: u32, turned: u32) -> u32
     rotated(first, count, turned)
 }
 
+/// Whether an alternative has a viable split of the cell; if so, `cuts` are then the one that is visited first.
+fn first_viable(
+    lines: &Lines<'_>,
+    problem: &Problem<'_>,
+    cell: Cell,
+    alt: u8,
+    turns: [u32; 3],
+    cuts: &mut Cuts,
+) -> bool
+    requires same { lines.now ≡ problem.now }
+    requires span { IsSpan problem.now.word cell.from cell.to }
+    requires alternative { alt < length (alternatives_of problem.now.grammar cell.rule) }
+    requires turns { AllByRecursion (λ turn. turn ≤ cell.to - cell.from) turns }
+    ensures first { OnTrue result (IsFirstVisited problem.now cell alt turns cuts.new.at) }
+    ensures none { OnFalse result ((others : List ℕ) → IsViable problem.now cell alt others → ⊥) }
+{
+    lines.first_viable(cell, alt, turns, cuts)
+}
+
+/// Whether a viable split is visited behind `cuts`; if so, they are then the next one.
+fn next_viable(
+    lines: &Lines<'_>,
+    problem: &Problem<'_>,
+    cell: Cell,
+    alt: u8,
+    cuts: &mut Cuts,
+) -> bool
+    requires same { lines.now ≡ problem.now }
+    requires span { IsSpan problem.now.word cell.from cell.to }
+    requires turns { AllByRecursion (λ turn. turn ≤ cell.to - cell.from) cuts.old.turns }
+    requires viable { IsViable problem.now cell alt cuts.old.at }
+    ensures next { OnTrue result (IsNextVisited problem.now cell alt cuts.old.turns cuts.old.at cuts.new.at) }
+    ensures last { OnFalse result (IsLastVisited problem.now cell alt cuts.old.turns cuts.old.at) }
+{
+    lines.next_viable(cell, alt, cuts)
+}
+
 /// The first argument of the alternatives that the visit comes to from this turned number on. Takes no memory.
-fn first_from(problem: &Problem<'_>, visit: Visit, turned: u32) -> Option<Position>
+fn first_from(
+    lines: &Lines<'_>,
+    problem: &Problem<'_>,
+    visit: Visit,
+    turned: u32,
+) -> Option<Position>
+    requires same { lines.now ≡ problem.now }
     requires span { IsSpan problem.now.word visit.cell.from visit.cell.to }
     requires walk { IsWalk problem.now visit }
     ensures { MatchOption result (IsNoneFrom problem.now visit turned) (IsFirstFrom problem.now visit turned) }
@@ -41,7 +87,7 @@ fn first_from(problem: &Problem<'_>, visit: Visit, turned: u32) -> Option<Positi
     let mut cuts = Cuts { at: [0; 3], turns };
     for number in turned..count {
         let alternative = alternative_behind(visit.first, count, number) as u8;
-        if first_viable(problem, visit.cell, alternative, turns, &mut cuts) {
+        if first_viable(lines, problem, visit.cell, alternative, turns, &mut cuts) {
             let cuts = cuts.at;
             return Some(Position {
                 alternative,
@@ -54,13 +100,18 @@ fn first_from(problem: &Problem<'_>, visit: Visit, turned: u32) -> Option<Positi
 }
 
 /// The argument that the visit comes to next. Takes no memory.
-fn next_position(problem: &Problem<'_>, visit: Visit) -> Option<Position>
+pub(crate) fn next_position(
+    lines: &Lines<'_>,
+    problem: &Problem<'_>,
+    visit: Visit,
+) -> Option<Position>
+    requires same { lines.now ≡ problem.now }
     requires span { IsSpan problem.now.word visit.cell.from visit.cell.to }
     requires walk { IsWalk problem.now visit }
     ensures { MatchOption result (IsLast problem.now visit) (IsNext problem.now visit) }
 {
     let Some(at) = visit.at else {
-        return first_from(problem, visit, 0);
+        return first_from(lines, problem, visit, 0);
     };
     problem.admissible();
     alternatives_fit();
@@ -77,7 +128,7 @@ fn next_position(problem: &Problem<'_>, visit: Visit) -> Option<Position>
     let here = at.cuts;
     let turns = visit.turns;
     let mut cuts = Cuts { at: here, turns };
-    if next_viable(problem, visit.cell, at.alternative, &mut cuts) {
+    if next_viable(lines, problem, visit.cell, at.alternative, &mut cuts) {
         let cuts = cuts.at;
         return Some(Position {
             alternative: at.alternative,
@@ -86,11 +137,11 @@ fn next_position(problem: &Problem<'_>, visit: Visit) -> Option<Position>
         });
     }
     let turned = (u32::from(at.alternative) + count - visit.first) % count;
-    first_from(problem, visit, turned + 1)
+    first_from(lines, problem, visit, turned + 1)
 }
 
 /// Where an argument of a split begins, as a position in the word.
-fn start_of(cell: Cell, at: Position) -> u16
+pub(crate) fn start_of(cell: Cell, at: Position) -> u16
     requires { at.number ≤ 3 }
     ensures { result ≡ slice_index (cell.from ∷ ends_by cell at.cuts) at.number }
 {
@@ -101,7 +152,7 @@ fn start_of(cell: Cell, at: Position) -> u16
 }
 
 /// Where it ends.
-fn end_of(cell: Cell, at: Position) -> u16
+pub(crate) fn end_of(cell: Cell, at: Position) -> u16
     requires { at.number ≤ 3 }
     ensures { result ≡ slice_index (ends_by cell at.cuts) at.number }
 {
@@ -125,41 +176,5 @@ pub fn asked(problem: &Problem<'_>, cell: Cell, at: Position) -> Option<Cell>
             to: end_of(cell, at),
         }),
         _ => None,
-    }
-}
-
-/// The next argument of a visit whose cell isn't noted, with its cell; `None` where all are. Takes no memory.
-pub fn seek<N: NotedCells>(
-    problem: &Problem<'_>,
-    noted: &N,
-    visit: Visit,
-) -> Option<(Position, Cell)>
-    requires span { IsSpan problem.now.word visit.cell.from visit.cell.to }
-    requires walk { IsWalk problem.now visit }
-    ensures { MatchOption result (IsNoneSought problem.now (N.is_noted noted.now) visit)
-        (λ found. IsSplitArgument problem.now (argument_at visit.cell found.0)
-        × IsNextSought problem.now (N.is_noted noted.now) visit found.0 found.1) }
-{
-    problem.admissible();
-    alternatives_fit();
-    arguments_are_few_and_known();
-    let mut at = visit.at;
-    loop {
-        let turns = visit.turns;
-        let now = Visit {
-            cell: visit.cell,
-            first: visit.first,
-            turns,
-            at,
-        };
-        let Some(position) = next_position(problem, now) else {
-            return None;
-        };
-        at = Some(position);
-        if let Some(cell) = asked(problem, visit.cell, position) {
-            if !noted.has(cell) {
-                return Some((position, cell));
-            }
-        }
     }
 }

@@ -28,9 +28,9 @@ returns-clause-drawn c =
     let l = ap length c.alternatives-count.ensures.alternatives in
     subst
     (λ n.
-        ◌≡◌ {A = List ℕ × Lcg}
-        (c.turn-first.result ∷ c.turn.result ∷ c.turn-2.result ∷ c.turn-3.result ∷ [], c.turn-3.new.self)
-        (drawn_turns (length (alternatives_of c.args.problem.now.grammar c.args.cell.rule) ∷ n ∷ n ∷ n ∷ []) c.args.orders.now))
+    ◌≡◌ {A = List ℕ × Lcg}
+    (c.turn-first.result ∷ c.turn.result ∷ c.turn-2.result ∷ c.turn-3.result ∷ [], c.turn-3.new.self)
+    (drawn_turns (length (alternatives_of c.args.problem.now.grammar c.args.cell.rule) ∷ n ∷ n ∷ n ∷ []) c.args.orders.now))
     (ap (λ n. n + 1) c.from-places.ensures)
     (drawn_four _ _ _ _ _ _ _ _ _ _ _
     (subst (λ n. ◌≡◌ (c.turn-first.result, c.turn-first.new.self) (drawn_turn n c.args.orders.now)) l c.turn-first.ensures.drawn)

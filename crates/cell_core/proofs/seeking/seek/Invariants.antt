@@ -4,7 +4,7 @@ use Rattle.adp_model.specs.SplitArguments.{SplitArgument, AsksFor}
 use Rattle.adp_model.specs.Visits.{is_behind, is_behind_position}
 use Rattle.adp_model.specs.Visits.{IsWalk}
 use Rattle.cell_core.proofs.WalkEnds.{places_left}
-use Rattle.cell_core.proofs.walk.seek.Given as goal
+use Rattle.cell_core.proofs.seeking.seek.Given as goal
 
 abbrev pub invariant-loop-position : goal.invariant-loop-position
 invariant-loop-position g l = record {

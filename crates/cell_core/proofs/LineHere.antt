@@ -1,0 +1,64 @@
+-- The line of a split at hand: where it begins, and where its boundary may stand.
+use Rattle.std.proofs.Common.{◌≡◌, ℕ, zero, suc, ◌+◌, ◌-◌, ◌<◌, ◌≤◌, ◌⊎◌, inl, inr, List, [], ◌∷◌, ◌++◌, length, drop, slice_index, slice_index_or, get_or, refl, sym, ap, subst, ◌∙◌, arith}
+use Rattle.std.specs.List.{AllByRecursion, Contains}
+use Rattle.std.proofs.lemmas.List.{get_or_read}
+use Rattle.adp_model.specs.declared.grammar.Arg.{Arg}
+use Rattle.adp_model.specs.declared.grammar.Arg.TheVariants.{Rule}
+use Rattle.adp_model.specs.declared.cell.Cell.{Cell}
+use Rattle.adp_model.specs.PosedProblem.{PosedProblem}
+use Rattle.adp_model.specs.Splits.{ends_by}
+use Rattle.yield_sizes.specs.Placing.{on_span, Cover}
+use Rattle.split_lines.specs.Laid.{LineParts, AreBoundaries}
+use Rattle.split_lines.specs.Lines.{parts_by}
+use Rattle.cell_core.proofs.LineOrder.{AreWithin}
+
+each : (P : ℕ → Type 0) (xs : List ℕ) → AllByRecursion P xs → (k : ℕ) → k < length xs → P (slice_index xs k)
+each P [] all k l = absurd (omega arith)
+each P (x ∷ xs) all zero l = all.0
+each P (x ∷ xs) all (suc k) l = each P xs all.1 k (omega arith)
+
+front_at : (xs : List ℕ) (last n : ℕ) → n < length xs → slice_index (xs ++ last ∷ []) n ≡ slice_index xs n
+front_at [] last n l = absurd (omega arith)
+front_at (x ∷ xs) last zero l = refl
+front_at (x ∷ xs) last (suc n) l = front_at xs last n (omega arith)
+
+-- the cuts lie within the cell
+pub cut_within : (cell : Cell) (cuts : List ℕ) → AreWithin cell cuts → (n : ℕ) → n < length cuts
+    → (cell.from ≤ slice_index cuts n) × (slice_index cuts n ≤ cell.to)
+cut_within cell cuts within n l = each (λ cut. (cell.from ≤ cut) × (cut ≤ cell.to)) cuts within n l
+
+pub start_within : (cell : Cell) (cuts : List ℕ) → AreWithin cell cuts → cell.from ≤ cell.to → (n : ℕ)
+    → n ≤ length cuts → (cell.from ≤ slice_index (cell.from ∷ ends_by cell cuts) n)
+    × (slice_index (cell.from ∷ ends_by cell cuts) n ≤ cell.to)
+start_within cell cuts within ordered zero l = (omega arith, ordered)
+start_within cell cuts within ordered (suc n) l =
+    let it = cut_within cell cuts within n (omega arith) in
+    let same = front_at cuts cell.to n (omega arith) in
+    (omega (arith, it.0, same), omega (arith, it.1, same))
+
+-- the arguments go forward
+cover_forward : (p : PosedProblem) (arguments : List Arg) (from to : ℕ) → Cover p arguments from to → from ≤ to
+cover_forward p [] from to cover = omega (arith, cover)
+cover_forward p (argument ∷ arguments) from to (cut, fits, cover) =
+    omega (arith, fits.0.in_order, cover_forward p arguments cut to cover)
+
+pub boundaries_here : (p q : PosedProblem) (given arguments : List Arg) (between from to letters last : ℕ)
+    (places : List ℕ) → q ≡ p → given ≡ arguments
+    → AreBoundaries q (parts_by given between) from to letters last places
+    → AreBoundaries p (parts_by arguments between) from to letters last places
+boundaries_here p q given arguments between from to letters last places same alike h =
+    subst (λ r. AreBoundaries r (parts_by arguments between) from to letters last places) same
+    (subst (λ xs. AreBoundaries q (parts_by xs between) from to letters last places) alike h)
+
+-- a place lies between where the line begins and where it ends, and so do the letters behind it
+pub place_within : (p : PosedProblem) (parts : LineParts) (from to letters last : ℕ) (places : List ℕ)
+    → AreBoundaries p parts from to letters last places → (place : ℕ) → Contains places place
+    → (from ≤ place) × (place + letters ≤ to)
+place_within p parts from to letters last places boundaries place contains =
+    let all = (boundaries.exact place).0 contains in
+    (all.0.0.in_order, omega (arith, all.2.0.in_order, cover_forward p parts.tail last to all.3))
+
+pub read_at : (given arguments : List Arg) (k : ℕ) (argument : Arg) → given ≡ arguments → k < length arguments
+    → argument ≡ get_or given k argument → argument ≡ slice_index_or arguments k (Rule 0)
+read_at given arguments k argument alike l read =
+    get_or_read arguments k argument l (subst (λ xs. argument ≡ get_or xs k argument) alike read) (Rule 0)

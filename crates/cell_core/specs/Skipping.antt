@@ -1,0 +1,45 @@
+-- How far a visit can go on along a line of splits whose cells are all noted.
+use Rattle.std.specs.Prelude.{◌≡◌, ◌⊎◌, ℕ, ◌+◌, ◌<◌, ◌≤◌, true, false, List}
+use Rattle.std.specs.List.{Contains}
+use Rattle.adp_model.specs.declared.cell.Cell.{Cell}
+use Rattle.adp_model.specs.PosedProblem.{PosedProblem}
+use Rattle.adp_model.specs.declared.visit.Position.{Position}
+use Rattle.adp_model.specs.declared.visit.Visit.{Visit}
+use Rattle.adp_model.specs.SplitArguments.{SplitArgument, AsksFor, IsSplitArgument}
+use Rattle.adp_model.specs.Visits.{argument_at, is_before}
+use Rattle.adp_model.specs.Walk.{rank_of}
+use Rattle.split_lines.specs.Laid.{IsCellOf}
+use Rattle.cell_core.specs.declared.skipping.OpenPair.{OpenPair}
+
+-- from the first position on to the second, which is the same or visited later, all cells that are asked for are noted
+pub record IsSkipped (p : PosedProblem) (Noted : Cell → Type 0) (visit : Visit) (at to : Position) : Type 0 where
+  pub is_argument : IsSplitArgument p (argument_at visit.cell to)
+  pub on : (to ≡ at) ⊎ (is_before p visit (argument_at visit.cell at) (argument_at visit.cell to) ≡ true)
+  pub passed : (argument : SplitArgument) (child : Cell) → argument.cell ≡ visit.cell → AsksFor p argument child
+      → is_before p visit (argument_at visit.cell at) argument ≡ true
+      → is_before p visit (argument_at visit.cell to) argument ≡ false → Noted child
+
+-- the cells of the first arguments of a split, so many of them, are noted
+abbrev pub AreNotedBefore : PosedProblem → (Cell → Type 0) → Cell → Position → ℕ → Type 0
+AreNotedBefore p Noted cell at count =
+    (number : ℕ) (child : Cell) → number < count
+    → AsksFor p (record { cell = cell; alternative = at.alternative; cuts = at.cuts; number = number }) child
+    → Noted child
+
+-- with the boundary here, the cells of both arguments of a line are noted
+pub record IsNotedAt (Noted : Cell → Type 0) (pair : OpenPair) (place : ℕ) : Type 0 where
+  pub first : (child : Cell) → IsCellOf pair.first.now pair.from place child → Noted child
+  pub second : (child : Cell) → IsCellOf pair.second.now (place + pair.letters) pair.last child → Noted child
+
+-- the place is one of the boundary's and comes behind this one, and from this one up to it the cells of both arguments
+-- are noted
+pub record IsLastNoted (Noted : Cell → Type 0) (cell : Cell) (turn : ℕ) (pair : OpenPair) (from to : ℕ) : Type 0 where
+  pub behind : rank_of cell turn from < rank_of cell turn to
+  pub noted : (place : ℕ) → Contains pair.places.now place → rank_of cell turn from ≤ rank_of cell turn place
+      → rank_of cell turn place ≤ rank_of cell turn to → IsNotedAt Noted pair place
+
+-- the place of this index comes next
+pub record IsNextIndex (cell : Cell) (turn : ℕ) (places : List ℕ) (here there : ℕ) : Type 0 where
+  pub behind : rank_of cell turn here < rank_of cell turn there
+  pub next : (place : ℕ) → Contains places place
+      → (rank_of cell turn place ≤ rank_of cell turn here) ⊎ (rank_of cell turn there ≤ rank_of cell turn place)
