@@ -1,5 +1,5 @@
 -- The line of a split at hand: where it begins, and where its boundary may stand.
-use Rattle.std.proofs.Common.{◌≡◌, ℕ, zero, suc, ◌+◌, ◌-◌, ◌<◌, ◌≤◌, ◌⊎◌, inl, inr, List, [], ◌∷◌, ◌++◌, length, drop, slice_index, slice_index_or, get_or, refl, sym, ap, subst, ◌∙◌, arith}
+use Rattle.std.proofs.Common.{◌≡◌, ℕ, zero, suc, ◌+◌, ◌<◌, ◌≤◌, List, [], ◌∷◌, ◌++◌, length, slice_index, slice_index_or, get_or, refl, subst, arith}
 use Rattle.std.specs.List.{AllByRecursion, Contains}
 use Rattle.std.proofs.lemmas.List.{get_or_read}
 use Rattle.adp_model.specs.declared.grammar.Arg.{Arg}
@@ -7,7 +7,7 @@ use Rattle.adp_model.specs.declared.grammar.Arg.TheVariants.{Rule}
 use Rattle.adp_model.specs.declared.cell.Cell.{Cell}
 use Rattle.adp_model.specs.PosedProblem.{PosedProblem}
 use Rattle.adp_model.specs.Splits.{ends_by}
-use Rattle.yield_sizes.specs.Placing.{on_span, Cover}
+use Rattle.yield_sizes.specs.Placing.{Cover}
 use Rattle.split_lines.specs.Laid.{LineParts, AreBoundaries}
 use Rattle.split_lines.specs.Lines.{parts_by}
 use Rattle.cell_core.proofs.LineOrder.{AreWithin}

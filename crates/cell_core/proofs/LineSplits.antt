@@ -1,6 +1,6 @@
 -- What the splits of a line ask for: the cells of the arguments before the line, which are the same along it, and those
 -- of its two arguments with the boundary at one of its places.
-use Rattle.std.proofs.Common.{◌≡◌, ◌↔◌, ℕ, zero, suc, ◌+◌, ◌-◌, ◌<◌, ◌≤◌, ◌⊎◌, inl, inr, Some, None, List, [], ◌∷◌, ◌++◌, length, take, drop, slice_get, slice_index, slice_index_or, refl, sym, ap, subst, ◌∙◌, arith}
+use Rattle.std.proofs.Common.{◌≡◌, ℕ, zero, suc, ◌+◌, ◌-◌, ◌<◌, ◌≤◌, ◌⊎◌, inl, inr, Some, List, [], ◌∷◌, ◌++◌, length, take, drop, slice_get, slice_index, refl, sym, ap, subst, ◌∙◌, arith}
 use Rattle.std.specs.List.{AllByRecursion, Contains}
 use Rattle.adp_model.specs.declared.grammar.Arg.{Arg}
 use Rattle.adp_model.specs.declared.grammar.Arg.TheVariants.{Rule, Literal, Letter, Run}
@@ -37,7 +37,8 @@ pub drop_fits : (p : PosedProblem) (n : ℕ) (arguments : List Arg) (from : ℕ)
 drop_fits p zero arguments from ends l fits = fits
 drop_fits p (suc n) [] from ends l fits = tt
 drop_fits p (suc n) (argument ∷ arguments) from [] l fits = absurd (omega arith)
-drop_fits p (suc n) (argument ∷ arguments) from (to ∷ ends) l fits = drop_fits p n arguments to ends (omega arith) fits.1
+drop_fits p (suc n) (argument ∷ arguments) from (to ∷ ends) l fits =
+    drop_fits p n arguments to ends (omega arith) fits.1
 
 -- the arguments before this number stand where the first ends say
 pub front_placed : (n : ℕ) (arguments : List Arg) (from : ℕ) (ends others : List ℕ) (k : ℕ) → k < n
@@ -146,7 +147,8 @@ tail_cover p argument (token ∷ tokens) start end (next ∷ ends) to fits close
     subst (λ n. AreAt to (drop n (end ∷ next ∷ ends))) one closed in
     (next, fits.0, tail_cover p token tokens end next ends to fits.1 closed' (omega arith))
 
-pub none_asked : (tokens : List Arg) (start : ℕ) (ends : List ℕ) → AllByRecursion IsFixed tokens → (k : ℕ) (child : Cell)
+pub none_asked : (tokens : List Arg) (start : ℕ) (ends : List ℕ) → AllByRecursion IsFixed tokens
+    → (k : ℕ) (child : Cell)
     → slice_get (place tokens start ends) k ≡ Some (IsCell child) → ⊥
 none_asked [] start ends fixed k child e = cc
 none_asked (token ∷ tokens) start [] fixed k child e = cc
@@ -191,7 +193,8 @@ module _ (p : PosedProblem) (parts : LineParts) (from to letters last : ℕ) (pl
     where
       go : (begins : ℕ) (rest : List ℕ) → Cover p parts.middle boundary begins
           → AllByRecursion (FitsSpan p) (place (parts.second ∷ parts.tail) begins rest)
-          → AreAt to (drop (length (parts.second ∷ parts.tail) - 1) rest) → length (parts.second ∷ parts.tail) ≤ length rest
+          → AreAt to (drop (length (parts.second ∷ parts.tail) - 1) rest)
+          → length (parts.second ∷ parts.tail) ≤ length rest
           → ((k : ℕ) (child : Cell)
           → slice_get (place (parts.middle ++ parts.second ∷ parts.tail) boundary ends) k ≡ Some (IsCell child)
           → (j : ℕ) × (slice_get (place (parts.second ∷ parts.tail) begins rest) j ≡ Some (IsCell child)))

@@ -1,5 +1,5 @@
 -- Which place of a boundary is visited next.
-use Rattle.std.proofs.Common.{◌≡◌, ℕ, zero, suc, ◌+◌, ◌-◌, ◌<◌, ◌≤◌, ◌⊎◌, inl, inr, List, [], ◌∷◌, length, slice_index, slice_index_or, get_or, refl, sym, ap, subst, ◌∙◌, arith}
+use Rattle.std.proofs.Common.{◌≡◌, ℕ, zero, suc, ◌+◌, ◌-◌, ◌<◌, ◌≤◌, ◌⊎◌, inl, inr, List, length, slice_index, ap, subst, ◌∙◌, arith}
 use Rattle.std.specs.List.{AllAdjacentBelow, Contains}
 use Rattle.std.proofs.lemmas.Bool.{cases_lt}
 use Rattle.std.proofs.lemmas.List.{get_or_default}
@@ -74,7 +74,8 @@ first_or_behind places rising l place (j, inside, e) =
 pub at_contained : (places : List ℕ) (i : ℕ) → i < length places → Contains places (slice_index places i)
 at_contained places i l = (i, l, get_or_default places i (slice_index places i) 0 l)
 
-module _ (cell : Cell) (turn : ℕ) (places : List ℕ) (turned : turn ≤ cell.to - cell.from) (ordered : cell.from ≤ cell.to)
+module _ (cell : Cell) (turn : ℕ) (places : List ℕ) (turned : turn ≤ cell.to - cell.from)
+    (ordered : cell.from ≤ cell.to)
     (rising : AreRising places)
     (within : (place : ℕ) → Contains places place → (cell.from ≤ place) × (place ≤ cell.to))
     (behind : (cell : Cell) (turn x : ℕ) → turn ≤ cell.to - cell.from → x ≤ cell.to → cell.from + turn ≤ x
@@ -116,7 +117,8 @@ module _ (cell : Cell) (turn : ℕ) (places : List ℕ) (turned : turn ≤ cell.
       → IsNextIndex cell turn places (slice_index places i) (slice_index places (i + 1))
   next_in_order i l side = record {
     behind = same_side_less x y in_x in_y (rising i 0 l) side;
-    next = λ place contains. go place contains side (up_or_behind places rising i l place contains) (cases_lt place pivot);
+    next = λ place contains. go place contains side (up_or_behind places rising i l place contains)
+        (cases_lt place pivot);
   }
     where
       x : ℕ
@@ -134,7 +136,8 @@ module _ (cell : Cell) (turn : ℕ) (places : List ℕ) (turned : turn ≤ cell.
       go : (place : ℕ) → Contains places place → (pivot ≤ slice_index places i) ⊎ (slice_index places (i + 1) < pivot)
           → (place ≤ slice_index places i) ⊎ (slice_index places (i + 1) ≤ place) → (place < pivot) ⊎ (pivot ≤ place)
           → (rank place ≤ rank (slice_index places i)) ⊎ (rank (slice_index places (i + 1)) ≤ rank place)
-      go place contains (inl up) (inl le) (inr from) = inl (same_side place (slice_index places i) contains in_x le (inl from))
+      go place contains (inl up) (inl le) (inr from) =
+          inl (same_side place (slice_index places i) contains in_x le (inl from))
       go place contains (inl up) (inl le) (inl down) =
           let rise = rising i 0 l in
           inr (let r = other_side (slice_index places (i + 1)) place in_y contains (omega arith) down in omega arith)
@@ -166,11 +169,13 @@ module _ (cell : Cell) (turn : ℕ) (places : List ℕ) (turned : turn ≤ cell.
       go place contains (inl le) (inl below) =
           inr (same_side (slice_index places 0) place (at_contained places 0 (omega arith)) contains
           (first_or_behind places rising (omega arith) place contains) (inr below))
-      go place contains (inl le) (inr from) = inl (same_side place (slice_index places i) contains (at_contained places i l) le (inl from))
+      go place contains (inl le) (inr from) =
+          inl (same_side place (slice_index places i) contains (at_contained places i l) le (inl from))
 
   -- ---- what is noted up to a place
 
-  module _ (Noted : Cell → Type 0) (pair : OpenPair) (apart : (x y : ℕ) → Contains places x → Contains places y → rank x ≡ rank y → x ≡ y) where
+  module _ (Noted : Cell → Type 0) (pair : OpenPair) (apart : (x y : ℕ) → Contains places x → Contains places y
+      → rank x ≡ rank y → x ≡ y) where
     abbrev pub Up : ℕ → ℕ → Type 0
     Up from to = (place : ℕ) → Contains places place → rank from ≤ rank place → rank place ≤ rank to
         → IsNotedAt Noted pair place

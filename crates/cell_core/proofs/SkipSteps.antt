@@ -1,6 +1,5 @@
 -- What a search has passed where it goes on along a line.
-use Rattle.std.proofs.Common.{◌≡◌, ℕ, ◌+◌, ◌-◌, ◌<◌, ◌≤◌, ◌⊎◌, inl, inr, Bool, true, false, Option, Some, None, List, length, refl, sym, subst, ap, ◌∙◌, arith}
-use Rattle.std.proofs.lemmas.Bool.{false≢true}
+use Rattle.std.proofs.Common.{◌≡◌, ℕ, ◌-◌, ◌≤◌, ◌⊎◌, inl, inr, Bool, true, false, Option, Some, length, refl, sym, subst, ap, ◌∙◌, arith}
 use Rattle.adp_model.specs.declared.cell.Cell.{Cell}
 use Rattle.adp_model.specs.declared.visit.Position.{Position}
 use Rattle.adp_model.specs.declared.visit.Visit.{Visit}
@@ -28,14 +27,17 @@ module _ (p : PosedProblem) (Noted : Cell → Type 0) (visit : Visit) (at to : P
     where
       go : (to ≡ at) ⊎ (is_before p visit (argument_at visit.cell at) (argument_at visit.cell to) ≡ true)
           → is_behind p visit argument ≡ true
-      go (inl same) = on argument (subst (λ (q : Position). is_before p visit (argument_at visit.cell q) argument ≡ true) same e)
+      go (inl same) =
+          on argument (subst (λ (q : Position). is_before p visit (argument_at visit.cell q) argument ≡ true) same e)
       go (inr less) =
           on argument
-          (less_transitive (visited_at p visit (argument_at visit.cell at)) (visited_at p visit (argument_at visit.cell to))
+          (less_transitive (visited_at p visit (argument_at visit.cell at))
+          (visited_at p visit (argument_at visit.cell to))
           (visited_at p visit argument) less e)
 
   pub passed_skipped : Passed (Some at) → Passed (Some to)
-  passed_skipped passed argument child here asks behind e = go (is_before p visit (argument_at visit.cell at) argument) refl
+  passed_skipped passed argument child here asks behind e =
+      go (is_before p visit (argument_at visit.cell at) argument) refl
     where
       go : (b : Bool) → is_before p visit (argument_at visit.cell at) argument ≡ b → Noted child
       go true f = skipped.passed argument child here asks f e
@@ -47,7 +49,8 @@ module _ (p : PosedProblem) (Noted : Cell → Type 0) (visit : Visit) (at to : P
     first = walk.first;
     three = walk.three;
     turns = walk.turns;
-    at = λ q e. subst (λ (x : Position). IsSplitArgument p (argument_at visit.cell x)) (some_same to q e) skipped.is_argument;
+    at = λ q e. subst (λ (x : Position). IsSplitArgument p (argument_at visit.cell x))
+        (some_same to q e) skipped.is_argument;
   }
 
   pub left_skipped : IsWalk p visit → IsSplitArgument p (argument_at visit.cell at)

@@ -1,6 +1,6 @@
 -- Along a line of splits a visit may go on to the last place up to which all cells are noted.
-use Rattle.std.proofs.Common.{◌≡◌, ◌↔◌, ℕ, zero, suc, ◌+◌, ◌-◌, ◌<◌, ◌≤◌, ◌⊎◌, inl, inr, Bool, true, false, Some, None, List, [], ◌∷◌, ◌++◌, length, take, drop, slice_get, slice_index, refl, sym, ap, subst, ◌∙◌, arith}
-use Rattle.std.specs.List.{AllByRecursion, Contains}
+use Rattle.std.proofs.Common.{◌≡◌, ℕ, zero, suc, ◌+◌, ◌-◌, ◌<◌, ◌≤◌, ◌⊎◌, inl, inr, true, false, Some, List, [], ◌∷◌, ◌++◌, length, take, drop, slice_get, slice_index, refl, sym, ap, subst, ◌∙◌, arith}
+use Rattle.std.specs.List.{AllByRecursion}
 use Rattle.std.proofs.lemmas.Bool.{cases_lt, false≢true}
 use Rattle.adp_model.specs.declared.grammar.Arg.{Arg}
 use Rattle.adp_model.specs.declared.cell.Cell.{Cell}
@@ -13,7 +13,7 @@ use Rattle.adp_model.specs.Splits.{place, placed, ends_by, FitsSpan, IsViable}
 use Rattle.adp_model.specs.SplitArguments.{SplitArgument, AsksFor, IsSplitArgument}
 use Rattle.adp_model.specs.Visits.{argument_at, turned_number, visited_at, is_before, IsWalk}
 use Rattle.adp_model.specs.Walk.{rank_of, ranks_of}
-use Rattle.split_lines.specs.Laid.{IsFixed, IsCellOf, LineParts, HasParts, AreBoundaries}
+use Rattle.split_lines.specs.Laid.{IsCellOf, LineParts, HasParts, AreBoundaries}
 use Rattle.cell_core.specs.declared.skipping.OpenPair.{OpenPair}
 use Rattle.cell_core.specs.Skipping.{IsSkipped, AreNotedBefore, IsNotedAt, IsLastNoted}
 use Rattle.cell_core.proofs.VisitOrder.{lex_from, less_from, lex_transitive, lex_irreflexive}
@@ -21,7 +21,7 @@ use Rattle.cell_core.proofs.Walks.{turned_same}
 use Rattle.cell_core.proofs.WalkEnds.{places_length}
 use Rattle.cell_core.proofs.PlacedArguments.{length_ends}
 use Rattle.cell_core.proofs.LineOrder.{at_index, squeeze, AreWithin, RanksApart, same_front, front_ranks, rank_at, front_at, take_front, less_at}
-use Rattle.cell_core.proofs.LineSplits.{AreAt, IsCell, drop_placed, drop_fits, front_placed, same_start, IsOnLine, on_line}
+use Rattle.cell_core.proofs.LineSplits.{AreAt, IsCell, drop_placed, drop_fits, front_placed, same_start, on_line}
 
 -- ---- lists
 
@@ -96,7 +96,8 @@ module _ (p : PosedProblem) (Noted : Cell → Type 0) (visit : Visit) (walk : Is
       front_at (ranks_of cell visit.turns others) k n (omega (arith, ranks_three others three))
       ∙ rank_at cell n visit.turns others (omega (arith, walk.three)) (omega (arith, three))
 
-  same_visited : take (suc n) (visited at.alternative at.cuts at.number) ≡ take (suc n) (visited at.alternative cuts at.number)
+  same_visited : take (suc n) (visited at.alternative at.cuts at.number) ≡ take (suc n)
+      (visited at.alternative cuts at.number)
   same_visited =
       ap (λ rest. turned_number (length (alternatives_of p.grammar cell.rule)) visit.first at.alternative ∷ rest)
       (front_of at.cuts at.number is.viable.three
@@ -107,7 +108,8 @@ module _ (p : PosedProblem) (Noted : Cell → Type 0) (visit : Visit) (walk : Is
   behind =
       less_from (visited at.alternative at.cuts at.number) (visited at.alternative cuts at.number)
       (less_at (suc n) (visited at.alternative at.cuts at.number) (visited at.alternative cuts at.number)
-      (omega (arith, length_ranks at.cuts at.number is.viable.three)) (omega (arith, length_ranks cuts at.number viable.three))
+      (omega (arith, length_ranks at.cuts at.number is.viable.three))
+      (omega (arith, length_ranks cuts at.number viable.three))
       same_visited
       (let a = rank_is at.cuts at.number is.viable.three in
       let b = rank_is cuts at.number viable.three in
@@ -138,20 +140,25 @@ module _ (p : PosedProblem) (Noted : Cell → Type 0) (visit : Visit) (walk : Is
       split found.0 found.1.0 found.1.1
     where
       split : take (suc n) (visited alternative others k) ≡ take (suc n) (visited at.alternative at.cuts at.number)
-          → at_index (visited at.alternative at.cuts at.number) (suc n) ≤ at_index (visited alternative others k) (suc n)
+          → at_index (visited at.alternative at.cuts at.number) (suc n) ≤ at_index (visited alternative others k)
+          (suc n)
           → at_index (visited alternative others k) (suc n) ≤ at_index (visited at.alternative cuts at.number) (suc n)
           → IsBetween alternative others
       split alike low high =
           let count = length (alternatives_of p.grammar cell.rule) in
-          let turned : turned_number count visit.first alternative ≡ turned_number count visit.first at.alternative = cc in
-          let ranks : take n (ranks_of cell visit.turns others ++ k ∷ []) ≡ take n (ranks_of cell visit.turns at.cuts ++ at.number ∷ []) = cc in
+          let turned : turned_number count visit.first alternative ≡ turned_number count visit.first at.alternative =
+          cc in
+          let ranks : take n (ranks_of cell visit.turns others ++ k ∷ []) ≡ take n
+          (ranks_of cell visit.turns at.cuts ++ at.number ∷ []) = cc in
           let ranks' = sym (front_of others k viable'.three) ∙ ranks ∙ front_of at.cuts at.number is.viable.three in
           let x = rank_is others k viable'.three in
           let a = rank_is at.cuts at.number is.viable.three in
           let c = rank_is cuts at.number viable.three in
           let d = ap (rank_of cell turn) there in
           record {
-            same = turned_same count visit.first alternative at.alternative walk.first viable'.in_range is.viable.in_range turned;
+            same =
+                turned_same count visit.first alternative at.alternative walk.first viable'.in_range is.viable.in_range
+                turned;
             alike = same_front apart cell n visit.turns others at.cuts (walk.three ∙ sym viable'.three)
                 (walk.three ∙ sym is.viable.three) walk.turns (within alternative others viable')
                 (within at.alternative at.cuts is.viable) ranks';
@@ -223,23 +230,32 @@ module _ (p : PosedProblem) (Noted : Cell → Type 0) (visit : Visit) (walk : Is
           told both (on.asks (k - n) child here)
         where
           told : {boundary : ℕ} → IsNotedAt Noted pair boundary
-              → IsCellOf parts.first pair.from boundary child ⊎ IsCellOf parts.second (boundary + pair.letters) pair.last child
+              → IsCellOf parts.first pair.from boundary child ⊎ IsCellOf parts.second
+              (boundary + pair.letters) pair.last child
               → Noted child
           told {boundary} both (inl first) =
               both.first child (subst (λ a. IsCellOf a pair.from boundary child) (sym first_is) first)
           told {boundary} both (inr second) =
-              both.second child (subst (λ a. IsCellOf a (boundary + pair.letters) pair.last child) (sym second_is) second)
+              both.second child (subst (λ a. IsCellOf a (boundary + pair.letters) pair.last child)
+              (sym second_is) second)
 
       go : (k < n) ⊎ (n ≤ k) → Noted child
       go (inl less) = in_front less
       go (inr later) = along later
 
   passed : (argument : SplitArgument) (child : Cell) → argument.cell ≡ cell → AsksFor p argument child
-      → is_before p visit (argument_at cell at) argument ≡ true → is_before p visit (argument_at cell to) argument ≡ false
+      → is_before p visit (argument_at cell at) argument ≡ true
+      → is_before p visit (argument_at cell to) argument ≡ false
       → Noted child
   passed argument child here asks b c =
       let e : argument ≡ it argument.alternative argument.cuts argument.number =
-      λ i. record { cell = here i; alternative = argument.alternative; cuts = argument.cuts; number = argument.number } in
+      λ i. record {
+        cell = here i;
+        alternative = argument.alternative;
+        cuts = argument.cuts;
+        number =
+            argument.number;
+      } in
       go (subst (λ x. AsksFor p x child) e asks) (subst (λ x. is_before p visit (argument_at cell at) x ≡ true) e b)
       (subst (λ x. is_before p visit (argument_at cell to) x ≡ false) e c)
     where

@@ -1,5 +1,5 @@
 -- Cuts that were tested argument by argument are those of a viable split; and cuts that a place was put into.
-use Rattle.std.proofs.Common.{◌≡◌, ℕ, zero, suc, ◌+◌, ◌-◌, ◌<◌, ◌≤◌, List, [], ◌∷◌, ◌++◌, length, take, drop, slice_index, slice_index_or, slice_set, refl, sym, ap, subst, ◌∙◌, arith}
+use Rattle.std.proofs.Common.{◌≡◌, ℕ, zero, suc, ◌-◌, ◌<◌, ◌≤◌, List, [], ◌∷◌, ◌++◌, length, take, drop, slice_index, slice_index_or, slice_set, refl, ap, arith}
 use Rattle.std.specs.List.{AllByRecursion}
 use Rattle.adp_model.specs.declared.grammar.Arg.{Arg}
 use Rattle.adp_model.specs.PosedProblem.{PosedProblem}
@@ -24,8 +24,11 @@ all_closed n to [] each = none n
     none : (n : ℕ) → AllByRecursion (λ boundary. boundary ≡ to) (drop n [])
     none zero = tt
     none (suc n) = tt
-all_closed zero to (end ∷ ends) each =
-    (each 0 (omega arith) (omega arith), all_closed zero to ends (λ k low less. each (suc k) (omega arith) (omega arith)))
+all_closed zero to (end ∷ ends) each = (
+  each 0 (omega arith) (omega arith),
+  all_closed zero to ends
+      (λ k low less. each (suc k) (omega arith) (omega arith)),
+)
 all_closed (suc n) to (end ∷ ends) each = all_closed n to ends (λ k low less. each (suc k) (omega arith) (omega arith))
 
 -- the last of the ends is the cell's

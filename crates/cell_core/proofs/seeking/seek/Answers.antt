@@ -1,10 +1,9 @@
 use Rattle.std.proofs.Common.{◌≡◌, true, subst, arith}
-use Rattle.adp_model.specs.declared.visit.Position.{Position}
 use Rattle.adp_model.specs.declared.cell.Cell.{Cell}
-use Rattle.adp_model.specs.SplitArguments.{AsksFor, IsSplitArgument}
+use Rattle.adp_model.specs.SplitArguments.{AsksFor}
 use Rattle.adp_model.specs.Visits.{argument_at, is_behind_position}
 use Rattle.cell_core.proofs.WalkEnds.{places_fall}
-use Rattle.cell_core.proofs.SeekSteps.{some_same, asks_one, none_sought, on_more, passed_more, next_sought}
+use Rattle.cell_core.proofs.SeekSteps.{asks_one, none_sought, on_more, passed_more, next_sought}
 use Rattle.cell_core.proofs.SkipSteps.{on_skipped, passed_skipped, walk_skipped, left_skipped}
 use Rattle.cell_core.proofs.seeking.seek.Goals as goal
 use Rattle.cell_core.proofs.seeking.seek.Goals.{in-Some-asked+else-not-has, in_default-asked}
@@ -40,7 +39,9 @@ loop-position-smaller g c =
       (c.loop-position.invariant.walk.at at e).viable.three,
       subst (λ o. is_behind_position p v o (argument_at v.cell c.in-Some.position) ≡ true) e next.behind,
     )) in
-    let on = left_skipped p (g.N.NotedCells.is_noted c.args.noted.now) v c.in-Some.position c.gone_on.result c.gone_on.ensures
+    let on =
+    left_skipped p (g.N.NotedCells.is_noted c.args.noted.now) v c.in-Some.position c.gone_on.result
+    c.gone_on.ensures
     c.requires.walk next.is_argument alternatives (omega arith)
     (λ alternative. c.arguments_are_few_and_known.ensures.few p.grammar formed v.cell.rule alternative) in
     omega (arith, fall, on)
@@ -56,7 +57,8 @@ loop-position-preserved g c =
     let here = argument_at v.cell position in
     let noted : (child : Cell) → AsksFor p here child → Noted child = (elim c.match-asked.branch [
       | in-Some-asked+else-not-has w ↦ λ child asks.
-          subst Noted (asks_one p here w.in-Some-asked.cell child w.in-Some-asked.ensures asks) (w.has.ensures.0 w.if-not-has.false)
+          subst Noted (asks_one p here w.in-Some-asked.cell child w.in-Some-asked.ensures asks)
+          (w.has.ensures.0 w.if-not-has.false)
       | in_default-asked w ↦ λ child asks. absurd (w.in_default-asked.ensures child asks)
     ]) in
     record {

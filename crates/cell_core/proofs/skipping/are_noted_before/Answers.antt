@@ -1,4 +1,4 @@
-use Rattle.std.proofs.Common.{◌≡◌, ℕ, ◌+◌, ◌<◌, ◌≤◌, ◌⊎◌, inl, inr, sym, subst, arith}
+use Rattle.std.proofs.Common.{◌≡◌, ℕ, ◌+◌, inl, inr, subst, arith}
 use Rattle.std.proofs.lemmas.Bool.{cases_lt}
 use Rattle.adp_model.specs.declared.cell.Cell.{Cell}
 use Rattle.adp_model.specs.declared.visit.Position.{Position}
@@ -11,18 +11,25 @@ use Rattle.cell_core.proofs.skipping.are_noted_before.Goals.{in-Some+else-not-ha
 
 one_more : (p : PosedProblem) (Noted : Cell → Type 0) (cell : Cell) (at : Position) (n : ℕ)
     → AreNotedBefore p Noted cell at n
-    → ((child : Cell) → AsksFor p (record { cell = cell; alternative = at.alternative; cuts = at.cuts; number = n }) child → Noted child)
+    →
+    ((child : Cell)
+    → AsksFor p (record { cell = cell; alternative = at.alternative; cuts = at.cuts; number = n }) child
+    → Noted child)
     → AreNotedBefore p Noted cell at (n + 1)
 one_more p Noted cell at n before here number child less asks =
     elim (cases_lt number n) [
       | inl earlier ↦ before number child earlier asks
       | inr not ↦
           let same : number ≡ n = omega arith in
-          here child (subst (λ k. AsksFor p (record { cell = cell; alternative = at.alternative; cuts = at.cuts; number = k }) child) same asks)
+          here child
+          (subst
+          (λ k. AsksFor p (record { cell = cell; alternative = at.alternative; cuts = at.cuts; number = k })
+          child) same asks)
     ]
 
 pub returns : goal.returns
-returns g c = λ number child less asks. c.loop-number.invariant.noted number child (let l = c.loop-number-test.false in omega arith) asks
+returns g c = λ number child less asks. c.loop-number.invariant.noted number child (let l = c.loop-number-test.false in
+    omega arith) asks
 
 pub loop-number-preserved : goal.loop-number-preserved
 loop-number-preserved g c =
@@ -31,7 +38,16 @@ loop-number-preserved g c =
     record {
       noted = one_more p Noted c.args.cell c.args.at c.loop-number.number c.loop-number.invariant.noted
           (elim c.match-asked.branch [
-            | in-Some+else-not-has w ↦ λ child asks. subst Noted (asks_one p (record { cell = c.args.cell; alternative = c.args.at.alternative; cuts = c.args.at.cuts; number = c.loop-number.number }) w.in-Some.child child w.in-Some.ensures asks) (w.has.ensures.0 w.if-not-has.false)
+            | in-Some+else-not-has w ↦ λ child asks. subst Noted
+                (asks_one p
+                (record {
+                  cell = c.args.cell;
+                  alternative = c.args.at.alternative;
+                  cuts = c.args.at.cuts;
+                  number =
+                      c.loop-number.number;
+                }) w.in-Some.child child w.in-Some.ensures asks)
+                (w.has.ensures.0 w.if-not-has.false)
             | in_default w ↦ λ child asks. absurd (w.in_default.ensures child asks)
           ]);
     }

@@ -1,4 +1,4 @@
-use Rattle.std.proofs.Common.{◌≡◌, ℕ, List, ◌-◌, ◌<◌, ◌∙◌, length, subst, ap, arith, rules}
+use Rattle.std.proofs.Common.{◌≡◌, ℕ, List, ◌-◌, length, subst, ap, arith, rules}
 use Rattle.adp_model.specs.declared.grammar.Arg.{Arg}
 use Rattle.adp_model.specs.declared.grammar.Arg.TheVariants.{Rule}
 use Rattle.std.specs.List.{AllByRecursion}
@@ -25,8 +25,10 @@ returns c =
       in_range = c.requires.alternative;
       allowed = tt;
       three = three;
-      last = all_closed (length (arguments_of p.grammar cell.rule c.args.at.alternative) - 1) cell.to (ends_by cell cuts)
+      last = all_closed (length (arguments_of p.grammar cell.rule c.args.at.alternative) - 1) cell.to
+          (ends_by cell cuts)
           (closed_end cuts cell.to (length (arguments_of p.grammar cell.rule c.args.at.alternative) - 1)
-          (λ k low less. c.loop-number-2.invariant.closed k low (omega (arith, less, three, c.loop-number-2-test.false))));
+          (λ k low less. c.loop-number-2.invariant.closed k low
+          (omega (arith, less, three, c.loop-number-2-test.false))));
       fits = subst (λ (xs : List Arg). AllByRecursion (FitsSpan p) (place xs cell.from (ends_by cell cuts))) same fits;
     }

@@ -13,5 +13,6 @@ invariant-loop-number l = record {
 
 abbrev pub invariant-loop-number-2 : goal.invariant-loop-number-2
 invariant-loop-number-2 l = record {
-  closed : (k : ℕ) → length (arguments_of l.problem.grammar l.cell.rule l.fn.at.alternative) - 1 ≤ k → k < l.number → slice_index l.cuts k ≡ l.cell.to;
+  closed : (k : ℕ) → length (arguments_of l.problem.grammar l.cell.rule l.fn.at.alternative) - 1 ≤ k → k < l.number
+      → slice_index l.cuts k ≡ l.cell.to;
 }

@@ -1,4 +1,4 @@
-use Rattle.std.proofs.Common.{◌≡◌, ℕ, ◌<◌, ◌≤◌, ◌⊎◌, inl, inr, slice_index, refl, sym, ap, subst, ◌∙◌, arith, rules}
+use Rattle.std.proofs.Common.{◌≡◌, inl, inr, slice_index, refl, ap, subst, arith, rules}
 use Rattle.adp_model.specs.Walk.{rank_of}
 use Rattle.cell_core.proofs.NextPlaces.{at_contained, Up, noted_here, noted_more}
 use Rattle.cell_core.proofs.skipping.last_noted.Goals as goal
@@ -18,13 +18,19 @@ loop-init g c =
       inside = c.in-Ok.ensures.bound;
       further = inl refl;
       up = let e = ap (rank_of c.args.cell c.args.turn) here in omega (arith, e);
-      noted = subst (λ x. Up c.args.cell c.args.turn places c.requires.turn c.requires.order c.requires.rising c.requires.within
+      noted =
+          subst
+          (λ x. Up c.args.cell c.args.turn places c.requires.turn c.requires.order c.requires.rising
+          c.requires.within
           law.behind law.before (g.N.NotedCells.is_noted c.args.noted.now) c.args.pair
-          (λ x y in_x in_y e. law.apart c.args.cell c.args.turn x y c.requires.turn (c.requires.within x in_x).0 (c.requires.within x in_x).1 (c.requires.within y in_y).0 (c.requires.within y in_y).1 e)
+          (λ x y in_x in_y e. law.apart c.args.cell c.args.turn x y c.requires.turn (c.requires.within x in_x).0
+          (c.requires.within x in_x).1 (c.requires.within y in_y).0 (c.requires.within y in_y).1 e)
           x (slice_index places c.in-Ok.start)) here
-          (noted_here c.args.cell c.args.turn places c.requires.turn c.requires.order c.requires.rising c.requires.within
+          (noted_here c.args.cell c.args.turn places c.requires.turn c.requires.order c.requires.rising
+          c.requires.within
           law.behind law.before (g.N.NotedCells.is_noted c.args.noted.now) c.args.pair
-          (λ x y in_x in_y e. law.apart c.args.cell c.args.turn x y c.requires.turn (c.requires.within x in_x).0 (c.requires.within x in_x).1 (c.requires.within y in_y).0 (c.requires.within y in_y).1 e)
+          (λ x y in_x in_y e. law.apart c.args.cell c.args.turn x y c.requires.turn (c.requires.within x in_x).0
+          (c.requires.within x in_x).1 (c.requires.within y in_y).0 (c.requires.within y in_y).1 e)
           (slice_index places c.in-Ok.start) contained c.if-not-is_noted_at.ensures);
     }
 
@@ -42,9 +48,12 @@ loop-preserved g c =
       inside = c.in-Some.ensures.inside;
       further = inr (omega (arith, next.behind, c.loop.invariant.up));
       up = omega (arith, next.behind, c.loop.invariant.up);
-      noted = noted_more c.args.cell c.args.turn places c.requires.turn c.requires.order c.requires.rising c.requires.within
+      noted =
+          noted_more c.args.cell c.args.turn places c.requires.turn c.requires.order c.requires.rising c.requires.within
           law.behind law.before (g.N.NotedCells.is_noted c.args.noted.now) c.args.pair
-          (λ x y in_x in_y e. law.apart c.args.cell c.args.turn x y c.requires.turn (c.requires.within x in_x).0 (c.requires.within x in_x).1 (c.requires.within y in_y).0 (c.requires.within y in_y).1 e)
+          (λ x y in_x in_y e. law.apart c.args.cell c.args.turn x y c.requires.turn (c.requires.within x in_x).0
+          (c.requires.within x in_x).1 (c.requires.within y in_y).0 (c.requires.within y in_y).1 e)
           c.args.place (slice_index places c.loop.index) (slice_index places c.in-Some.next)
-          (at_contained places c.in-Some.next c.in-Some.ensures.inside) c.loop.invariant.noted next c.if-not-is_noted_at-2.ensures;
+          (at_contained places c.in-Some.next c.in-Some.ensures.inside) c.loop.invariant.noted next
+          c.if-not-is_noted_at-2.ensures;
     }

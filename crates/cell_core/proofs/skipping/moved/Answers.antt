@@ -1,4 +1,4 @@
-use Rattle.std.proofs.Common.{◌≡◌, ◌<◌, length, arith}
+use Rattle.std.proofs.Common.{arith}
 use Rattle.cell_core.proofs.ViableCuts.{index_set}
 use Rattle.cell_core.proofs.skipping.moved.Goals as goal
 

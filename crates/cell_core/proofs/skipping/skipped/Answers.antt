@@ -1,4 +1,4 @@
-use Rattle.std.proofs.Common.{◌≡◌, ℕ, List, ◌+◌, ◌-◌, ◌<◌, ◌≤◌, take, drop, length, slice_index, ap, sym, subst, ◌∙◌, inl, inr, arith}
+use Rattle.std.proofs.Common.{◌≡◌, ℕ, List, ◌+◌, ◌-◌, ◌<◌, ◌≤◌, take, drop, length, ap, sym, subst, ◌∙◌, arith}
 use Rattle.std.proofs.lemmas.List.{take_all}
 use Rattle.adp_model.specs.declared.grammar.Arg.{Arg}
 use Rattle.adp_model.specs.PosedProblem.{PosedProblem, IsSpan}
@@ -12,7 +12,8 @@ use Rattle.cell_core.proofs.skipping.skipped.Goals as goal
 sliced : (given arguments : List Arg) (n : ℕ) → given ≡ arguments
     → take (length given - n) (drop n given) ≡ drop n arguments
 sliced given arguments n same =
-    take_all (length given - n) (drop n given) (omega (arith, length_drop n given)) ∙ ap (λ (xs : List Arg). drop n xs) same
+    take_all (length given - n) (drop n given) (omega (arith, length_drop n given)) ∙ ap
+    (λ (xs : List Arg). drop n xs) same
 
 few_before : (arguments : List Arg) (n between : ℕ) → HasLine (drop n arguments) between → length arguments ≤ 4
     → (n + between < 3) × (n < length arguments)
@@ -27,10 +28,17 @@ boundary-boundary-requires-clause-span g c =
     let cell = c.args.visit.cell in
     let n = c.in-Some.line.first in
     let viable = c.requires.argument.viable in
-    let within = c.viable_cuts_lie_within_the_cell.ensures p c.admissible.ensures.checked.well_formed cell c.args.at.alternative c.args.at.cuts c.requires.span.in_order viable in
+    let within =
+    c.viable_cuts_lie_within_the_cell.ensures p c.admissible.ensures.checked.well_formed cell c.args.at.alternative
+    c.args.at.cuts c.requires.span.in_order viable in
     let has : HasLine (drop n (arguments_of p.grammar cell.rule c.args.at.alternative)) c.in-Some.line.between =
-    subst (λ (q : PosedProblem). HasLine (drop n (arguments_of q.grammar cell.rule c.args.at.alternative)) c.in-Some.line.between) c.requires.same c.in-Some.ensures.has_line in
-    let few = few_before (arguments_of p.grammar cell.rule c.args.at.alternative) n c.in-Some.line.between has (c.arguments_are_few_and_known.ensures.few p.grammar c.admissible.ensures.checked.well_formed cell.rule c.args.at.alternative) in
+    subst
+    (λ (q : PosedProblem). HasLine
+    (drop n (arguments_of q.grammar cell.rule c.args.at.alternative)) c.in-Some.line.between) c.requires.same
+    c.in-Some.ensures.has_line in
+    let few = few_before (arguments_of p.grammar cell.rule c.args.at.alternative) n c.in-Some.line.between has
+    (c.arguments_are_few_and_known.ensures.few p.grammar c.admissible.ensures.checked.well_formed cell.rule
+    c.args.at.alternative) in
     let it = start_within cell c.args.at.cuts within c.requires.span.in_order n (omega (arith, few.0, viable.three)) in
     let begins = c.start_of-from.ensures in
     subst (λ (q : PosedProblem). IsSpan q.word c.start_of-from.result cell.to) (sym c.requires.same)
@@ -44,19 +52,30 @@ last_noted-requires-clause-within g c =
     let arguments : List Arg = arguments_of p.grammar cell.rule c.args.at.alternative in
     let given : List Arg = take (length c.arguments.result.now - n) (drop n c.arguments.result.now) in
     let alike : given ≡ drop n arguments = sliced c.arguments.result.now arguments n c.arguments.ensures.arguments in
-    let boundaries = boundaries_here p c.args.lines.now given (drop n arguments) c.in-Some.line.between c.start_of-from.result cell.to
-    c.boundary-boundary.result.letters c.boundary-boundary.result.last c.boundary-boundary.result.places.now c.requires.same alike
+    let boundaries = boundaries_here p c.args.lines.now given
+    (drop n arguments) c.in-Some.line.between c.start_of-from.result cell.to
+    c.boundary-boundary.result.letters c.boundary-boundary.result.last c.boundary-boundary.result.places.now
+    c.requires.same alike
     c.boundary-boundary.ensures.boundaries in
     let viable = c.requires.argument.viable in
-    let within = c.viable_cuts_lie_within_the_cell.ensures p c.admissible.ensures.checked.well_formed cell c.args.at.alternative c.args.at.cuts c.requires.span.in_order viable in
+    let within =
+    c.viable_cuts_lie_within_the_cell.ensures p c.admissible.ensures.checked.well_formed cell c.args.at.alternative
+    c.args.at.cuts c.requires.span.in_order viable in
     let has : HasLine (drop n arguments) c.in-Some.line.between =
-    subst (λ (q : PosedProblem). HasLine (drop n (arguments_of q.grammar cell.rule c.args.at.alternative)) c.in-Some.line.between) c.requires.same c.in-Some.ensures.has_line in
-    let few = few_before arguments n c.in-Some.line.between has (c.arguments_are_few_and_known.ensures.few p.grammar c.admissible.ensures.checked.well_formed cell.rule c.args.at.alternative) in
-    let start = start_within cell c.args.at.cuts within c.requires.span.in_order n (omega (arith, few.0, viable.three)) in
+    subst
+    (λ (q : PosedProblem). HasLine
+    (drop n (arguments_of q.grammar cell.rule c.args.at.alternative)) c.in-Some.line.between) c.requires.same
+    c.in-Some.ensures.has_line in
+    let few = few_before arguments n c.in-Some.line.between has
+    (c.arguments_are_few_and_known.ensures.few p.grammar c.admissible.ensures.checked.well_formed cell.rule
+    c.args.at.alternative) in
+    let start = start_within cell c.args.at.cuts within c.requires.span.in_order n
+    (omega (arith, few.0, viable.three)) in
     let begins = c.start_of-from.ensures in
     λ other contains.
     let it = place_within p (parts_by (drop n arguments) c.in-Some.line.between) c.start_of-from.result cell.to
-    c.boundary-boundary.result.letters c.boundary-boundary.result.last c.boundary-boundary.result.places.now boundaries other contains in
+    c.boundary-boundary.result.letters c.boundary-boundary.result.last c.boundary-boundary.result.places.now boundaries
+    other contains in
     (omega (arith, it.0, start.0, begins), omega (arith, it.1))
 
 pub last_noted-requires-clause-short : goal.last_noted-requires-clause-short
@@ -67,12 +86,15 @@ last_noted-requires-clause-short g c =
     let arguments : List Arg = arguments_of p.grammar cell.rule c.args.at.alternative in
     let given : List Arg = take (length c.arguments.result.now - n) (drop n c.arguments.result.now) in
     let alike : given ≡ drop n arguments = sliced c.arguments.result.now arguments n c.arguments.ensures.arguments in
-    let boundaries = boundaries_here p c.args.lines.now given (drop n arguments) c.in-Some.line.between c.start_of-from.result cell.to
-    c.boundary-boundary.result.letters c.boundary-boundary.result.last c.boundary-boundary.result.places.now c.requires.same alike
+    let boundaries = boundaries_here p c.args.lines.now given
+    (drop n arguments) c.in-Some.line.between c.start_of-from.result cell.to
+    c.boundary-boundary.result.letters c.boundary-boundary.result.last c.boundary-boundary.result.places.now
+    c.requires.same alike
     c.boundary-boundary.ensures.boundaries in
     λ other contains.
     let it = place_within p (parts_by (drop n arguments) c.in-Some.line.between) c.start_of-from.result cell.to
-    c.boundary-boundary.result.letters c.boundary-boundary.result.last c.boundary-boundary.result.places.now boundaries other contains in
+    c.boundary-boundary.result.letters c.boundary-boundary.result.last c.boundary-boundary.result.places.now boundaries
+    other contains in
     omega (arith, it.1, c.requires.span.in_word, c.admissible.ensures.limits.letters)
 
 pub last_noted-requires-clause-place : goal.last_noted-requires-clause-place
@@ -81,10 +103,17 @@ last_noted-requires-clause-place g c =
     let cell = c.args.visit.cell in
     let n = c.in-Some.line.first in
     let viable = c.requires.argument.viable in
-    let within = c.viable_cuts_lie_within_the_cell.ensures p c.admissible.ensures.checked.well_formed cell c.args.at.alternative c.args.at.cuts c.requires.span.in_order viable in
+    let within =
+    c.viable_cuts_lie_within_the_cell.ensures p c.admissible.ensures.checked.well_formed cell c.args.at.alternative
+    c.args.at.cuts c.requires.span.in_order viable in
     let has : HasLine (drop n (arguments_of p.grammar cell.rule c.args.at.alternative)) c.in-Some.line.between =
-    subst (λ (q : PosedProblem). HasLine (drop n (arguments_of q.grammar cell.rule c.args.at.alternative)) c.in-Some.line.between) c.requires.same c.in-Some.ensures.has_line in
-    let few = few_before (arguments_of p.grammar cell.rule c.args.at.alternative) n c.in-Some.line.between has (c.arguments_are_few_and_known.ensures.few p.grammar c.admissible.ensures.checked.well_formed cell.rule c.args.at.alternative) in
+    subst
+    (λ (q : PosedProblem). HasLine
+    (drop n (arguments_of q.grammar cell.rule c.args.at.alternative)) c.in-Some.line.between) c.requires.same
+    c.in-Some.ensures.has_line in
+    let few = few_before (arguments_of p.grammar cell.rule c.args.at.alternative) n c.in-Some.line.between has
+    (c.arguments_are_few_and_known.ensures.few p.grammar c.admissible.ensures.checked.well_formed cell.rule
+    c.args.at.alternative) in
     cut_within cell c.args.at.cuts within n (omega (arith, few.0, viable.three))
 
 pub returns-then-is_viable : goal.returns-then-is_viable
@@ -96,21 +125,33 @@ returns-then-is_viable g c =
     let arguments : List Arg = arguments_of p.grammar cell.rule c.args.at.alternative in
     let given : List Arg = take (length c.arguments.result.now - n) (drop n c.arguments.result.now) in
     let alike : given ≡ drop n arguments = sliced c.arguments.result.now arguments n c.arguments.ensures.arguments in
-    let boundaries = boundaries_here p c.args.lines.now given (drop n arguments) c.in-Some.line.between c.start_of-from.result cell.to
-    c.boundary-boundary.result.letters c.boundary-boundary.result.last c.boundary-boundary.result.places.now c.requires.same alike
+    let boundaries = boundaries_here p c.args.lines.now given
+    (drop n arguments) c.in-Some.line.between c.start_of-from.result cell.to
+    c.boundary-boundary.result.letters c.boundary-boundary.result.last c.boundary-boundary.result.places.now
+    c.requires.same alike
     c.boundary-boundary.ensures.boundaries in
     let has : HasLine (drop n arguments) c.in-Some.line.between =
-    subst (λ (q : PosedProblem). HasLine (drop n (arguments_of q.grammar cell.rule c.args.at.alternative)) c.in-Some.line.between) c.requires.same c.in-Some.ensures.has_line in
-    let few = few_before arguments n c.in-Some.line.between has (c.arguments_are_few_and_known.ensures.few p.grammar formed cell.rule c.args.at.alternative) in
+    subst
+    (λ (q : PosedProblem). HasLine
+    (drop n (arguments_of q.grammar cell.rule c.args.at.alternative)) c.in-Some.line.between) c.requires.same
+    c.in-Some.ensures.has_line in
+    let few = few_before arguments n c.in-Some.line.between has
+    (c.arguments_are_few_and_known.ensures.few p.grammar formed cell.rule c.args.at.alternative) in
     let several = has.several in
-    is_skipped p (g.N.NotedCells.is_noted c.args.noted.now) c.args.visit c.requires.walk c.args.at c.moved-cuts.result n c.in-Some-last_noted.place
+    is_skipped p (g.N.NotedCells.is_noted c.args.noted.now) c.args.visit c.requires.walk c.args.at c.moved-cuts.result n
+    c.in-Some-last_noted.place
     c.ranks_begin_at_the_turn.ensures.apart
-    (λ alternative cuts viable. c.viable_cuts_lie_within_the_cell.ensures p formed cell alternative cuts c.requires.span.in_order viable)
+    (λ alternative cuts viable. c.viable_cuts_lie_within_the_cell.ensures p formed cell alternative cuts
+    c.requires.span.in_order viable)
     (λ alternative. c.arguments_are_few_and_known.ensures.few p.grammar formed cell.rule alternative)
-    c.requires.argument c.if-is_viable.ensures (omega (arith, few.0)) c.moved-cuts.ensures.front c.moved-cuts.ensures.there
+    c.requires.argument c.if-is_viable.ensures
+    (omega (arith, few.0)) c.moved-cuts.ensures.front c.moved-cuts.ensures.there
     c.if-not-are_noted_before.ensures
     _
-    c.in-Some-last_noted.ensures (parts_by (drop n arguments) c.in-Some.line.between) has.parts boundaries c.start_of-from.ensures
-    (read_at given (drop n arguments) 0 c.index-arguments-0.result alike (omega (arith, several)) c.index-arguments-0.is)
-    (read_at given (drop n arguments) (c.in-Some.line.between + 1) c.index-arguments-between.result alike several c.index-arguments-between.is)
+    c.in-Some-last_noted.ensures
+    (parts_by (drop n arguments) c.in-Some.line.between) has.parts boundaries c.start_of-from.ensures
+    (read_at given (drop n arguments) 0 c.index-arguments-0.result alike
+    (omega (arith, several)) c.index-arguments-0.is)
+    (read_at given (drop n arguments)
+    (c.in-Some.line.between + 1) c.index-arguments-between.result alike several c.index-arguments-between.is)
     few.1
