@@ -42,3 +42,4 @@ pub mod TextTokens
 pub mod FittingTerms
 pub mod FormedNames
 pub mod PlacedChildren
+pub mod LimitsKept

@@ -7,6 +7,7 @@ pub mod demand;
 pub mod derivation;
 pub mod existence;
 pub mod heights;
+pub mod limits;
 pub mod order;
 pub mod report;
 pub mod sizes;
