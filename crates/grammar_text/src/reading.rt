@@ -1,6 +1,5 @@
-ghost use Rattle.std.specs.Prelude.{◌≡◌, ◌≤◌, length, drop};
+ghost use Rattle.std.specs.Prelude.{◌≡◌, ◌^◌, ◌≤◌, length, drop};
 ghost use Rattle.adp_model.specs.JobLines.{words_line_of, words_of};
-ghost use Rattle.adp_model.specs.Verdict.{greatest_length};
 ghost use Rattle.grammar_text.specs.Reading.{MatchReading};
 ghost use Rattle.grammar_text.specs.Seen.{words_seen};
 
@@ -19,7 +18,7 @@ use std::alloc::Global;
 ///
 /// The fault, or want of memory.
 pub fn read_text(alloc: Global, bytes: &[u8]) -> Result<Job, TextError>
-    requires { length bytes.now ≤ greatest_length }
+    requires { length bytes.now ≤ 2 ^ 31 }
     ensures { MatchReading bytes.now result }
 {
     let text = gather(alloc, bytes)?;

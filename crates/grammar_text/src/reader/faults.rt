@@ -1,6 +1,6 @@
 // What stands wrong at a line by what it declares.
 
-ghost use Rattle.std.specs.Prelude.{◌≡◌, ◌<◌, ◌+◌, ◌^◌, All, IfOk, get_or, map, length, drop};
+ghost use Rattle.std.specs.Prelude.{◌≤◌, ◌≡◌, ◌<◌, ◌+◌, ◌^◌, All, IfOk, get_or, map, length, drop};
 ghost use Rattle.adp_model.specs.Declarations.{Words};
 ghost use Rattle.grammar_text.specs.LineTests as tests;
 ghost use Rattle.grammar_text.specs.Names.{AreNames, declares_its_variables, part_count};
@@ -79,7 +79,7 @@ pub(crate) fn form_tests(
     is_known: bool,
 ) -> Result<FormTests, AllocError>
     requires inside { place < length declared.now }
-    requires few { length declared.now < 2 ^ 31 }
+    requires few { length declared.now ≤ 2 ^ 31 }
     requires parts { All (λ declaration. part_count (declaration_seen declaration) < 2 ^ 32) declared.now }
     requires names { AreNames names.now (map declaration_seen declared.now) }
     requires known { is_known ≡ declares_its_variables (get_or (map declaration_seen declared.now) place Words) }

@@ -25,8 +25,8 @@ pub(crate) fn first_fault(
     text: &Gathered<'_>,
     names: &Names<'_>,
 ) -> Result<Option<TextFault>, AllocError>
-    requires few { length text.now.lines.items < 2 ^ 31 }
-    requires few_declared { length text.now.header.declared.items < 2 ^ 31 }
+    requires few { length text.now.lines.items ≤ 2 ^ 31 }
+    requires few_declared { length text.now.header.declared.items ≤ 2 ^ 31 }
     requires says { says_in text.now.header.sorts.items ≡ length text.now.header.declared.items }
     requires names { AreNames names.now (map declaration_seen text.now.header.declared.items) }
     requires parts { All (λ declaration. part_count (declaration_seen declaration) < 2 ^ 32)
@@ -63,8 +63,8 @@ fn line_tests(
     place: usize,
 ) -> Result<LineTests, AllocError>
     requires inside { index ≤ length text.now.lines.items }
-    requires few { length text.now.lines.items < 2 ^ 31 }
-    requires few_declared { length text.now.header.declared.items < 2 ^ 31 }
+    requires few { length text.now.lines.items ≤ 2 ^ 31 }
+    requires few_declared { length text.now.header.declared.items ≤ 2 ^ 31 }
     requires says { says_in text.now.header.sorts.items ≡ length text.now.header.declared.items }
     requires names { AreNames names.now (map declaration_seen text.now.header.declared.items) }
     requires parts { All (λ declaration. part_count (declaration_seen declaration) < 2 ^ 32)

@@ -187,7 +187,7 @@ fn lacks_sign(signs: &BTreeSet<&[u8]>, declaration: &Declaration<'_>) -> bool
 
 /// The first count of a line below these that passes its limit.
 pub(crate) fn passing_count(above: &[Declaration<'_>], declaration: &Declaration<'_>) -> Option<u32>
-    requires above { length above.now < 2 ^ 31 }
+    requires above { length above.now ≤ 2 ^ 31 }
     requires parts { part_count (declaration_seen declaration.now) < 2 ^ 32 }
     ensures { result ≡ first_passing
         (faults.counts_of (map declaration_seen above.now) (declaration_seen declaration.now)) }
@@ -213,7 +213,7 @@ fn passing(count: u32, limit: u32) -> Option<u32>
 
 // How many of these declarations are of the sort.
 fn count(declared: &[Declaration<'_>], sort: Sort) -> u32
-    requires { length declared.now < 2 ^ 31 }
+    requires { length declared.now ≤ 2 ^ 31 }
     ensures count { result ≡ length (names_as sort (map declaration_seen declared.now)) }
     ensures small { result ≤ length declared.now }
 {
