@@ -17,7 +17,7 @@ use Rattle.adp_model.specs.FirstSplit.{IsValue}
 use Rattle.adp_model.specs.Bellman.{HasBestScore}
 use Rattle.yield_sizes.specs.Placing.{on_span, Cover}
 use Rattle.cell_answers.specs.declared.opened.OpenedLine.{OpenedLine}
-use Rattle.score_numbers.specs.declared.sums.Places.{Places}
+use Rattle.score_numbers.specs.declared.sums.Positions.{Positions}
 use Rattle.score_numbers.specs.declared.sums.Scales.{Scales}
 use Rattle.cell_answers.specs.Entries.{IsEntry}
 use Rattle.score_numbers.specs.Entries.{no_candidate}
@@ -157,7 +157,7 @@ pub record AreNumbersOf (width : Width) (line : OpenedLine) (scales : Scales) (f
 module _ (p : PosedProblem) (one : OneScore (HasBestScore p)) (width : Width) (spaced : IsSpaced width) (small : width.limit < 2 ^ 63) (line : OpenedLine) (opened : IsOpened p line) (scales : Scales) (firsts seconds : List ℤ) (are : AreNumbersOf width line scales firsts seconds) where
   open line use {arguments.{first.{now as first}, first_factor, middle.{now as middle}, middle_factors.{now as middle_factors}, second.{now as second}, second_factor}, boundary.{letters, last}, from, column.{first as begin}}
 
-  abbrev at : Places
+  abbrev at : Positions
   at = record { at = line.boundary.places; first = line.row.first }
 
   row : (place : ℕ) → Contains at.at.now place → AtRule (HasEntryAt p (told_list width line.row.goal firsts) at.first place) (on_span first from place)

@@ -23,7 +23,7 @@ use adp_model::laws::bounds::bounds_are_sound;
 use adp_model::laws::order::answer_is_unique;
 use adp_model::{Arg, Goal};
 use score_numbers::{
-    Places, Scales, are_worthless, greater, greatest_long, greatest_medium, greatest_short,
+    Positions, Scales, are_worthless, greater, greatest_long, greatest_medium, greatest_short,
 };
 use split_lines::{Line, Lines, fixed_length};
 
@@ -166,7 +166,7 @@ pub fn greatest_front(lines: &Lines<'_>, line: &OpenedLine<'_>) -> Option<i64>
             lines.problem().admissible();
             bounds_are_sound();
             answer_is_unique();
-            let places = Places {
+            let places = Positions {
                 at: line.boundary.places,
                 first: line.row.first,
             };

@@ -151,7 +151,7 @@ fn end_among(
     lines.problem().admissible();
     bounds_are_sound();
     answer_is_unique();
-    let places = lines.places(arguments, from, to);
+    let places = lines.ends_of_first(arguments, from, to);
     for end in places.start..places.end {
         let Some(value) = argument_value(lines, scores, argument, from, end) else {
             continue;

@@ -112,7 +112,7 @@ pub(crate) fn greatest_total(
     if others.is_empty() {
         return last_total(lines, scores, argument, *factor, from, to);
     }
-    let places = lines.places(arguments, from, to);
+    let places = lines.ends_of_first(arguments, from, to);
     let mut greatest = None;
     for end in places.start..places.end {
         let Some(value) = argument_value(lines, scores, argument, from, end) else {

@@ -174,13 +174,12 @@ fn mark_arguments(
     ensures laid { IsTrue result ↔ Cover lines.now arguments.now from to }
     ensures marked { AreMarkedFrom begin marks.old marks.new (Demands lines.now arguments.now from to) }
 {
-    if arguments.is_empty() {
+    let Some((argument, others)) = arguments.split_first() else {
         return from == to;
-    }
+    };
     if let Some(line) = line_here(line, ahead) {
         return mark_line(lines, *line, arguments, begin, from, to, marks);
     }
-    let (argument, others) = (&arguments[0], &arguments[1..]);
     let ahead = ahead.saturating_sub(1);
     if is_fixed(argument) {
         return match lines.token_end(argument, from, to) {
@@ -192,7 +191,7 @@ fn mark_arguments(
         return mark_last(lines, argument, begin, from, to, marks);
     }
     let mut is_laid = false;
-    let ends = lines.places(arguments, from, to);
+    let ends = lines.ends_of_first(arguments, from, to);
     for end in ends.start..ends.end {
         if mark_arguments(lines, line, ahead, others, begin, end, to, marks) {
             mark_argument(argument, from, end, marks);

@@ -12,7 +12,7 @@ use Rattle.std.proofs.lemmas.List.{get_or_default, length-map, map-id}
 use Rattle.std.proofs.lemmas.List.Elements.{Contains-get_or}
 use Rattle.std.proofs.lemmas.Option.{slice_get-get_or, slice_get-map}
 use Rattle.adp_model.specs.ProblemFields.{greatest_score}
-use Rattle.score_numbers.specs.declared.sums.Places.{Places}
+use Rattle.score_numbers.specs.declared.sums.Positions.{Positions}
 use Rattle.score_numbers.specs.declared.sums.Scales.{Scales}
 use Rattle.score_numbers.specs.Packing.{Width, IsProper, short, medium, long}
 use Rattle.score_numbers.specs.Spaced.{IsSpaced, least_sum}
@@ -95,7 +95,7 @@ module _ (least : ℤ) where
   largest_same A B greatest to back (inl (low, none)) = inl (low, λ number b. none number (back number b))
   largest_same A B greatest to back (inr (high, is)) = inr (high, greatest_same A B (Some greatest) to back is)
 
-  -- one more place, where this is the greatest, or less than the least where there is none
+  -- one more position, where this is the greatest, or less than the least where there is none
   module _ (At : ℕ → ℤ → Type 0) (bound : ℕ) (greatest new sum : ℤ) (max : new ≡ int_max greatest sum) (before : IsLargest least (HasBefore At bound) greatest) where
     pub more_low : sum <ℤ least → ((number : ℤ) → At bound number → ⊥) → IsLargest least (HasBefore At (bound + 1)) new
     more_low low nothing = go before (max_cases greatest sum)
@@ -144,7 +144,7 @@ module _ (width : Width) (spaced : IsSpaced width) where
   pub none_yet : (At : ℕ → ℤ → Type 0) → IsLargest (least_sum width) (HasBefore At 0) width.mark
   none_yet At = nothing_yet (least_sum width) At width.mark (let l = spaced.low in omega (arith, ints))
 
-  -- the sum of the numbers at one more place
+  -- the sum of the numbers at one more position
   pub sum_more : (firsts seconds : List ℤ) (at : ℕ → ℕ) (bound : ℕ) (greatest new a b : ℤ) → new ≡ int_max greatest (a +ℤ b) → slice_get firsts (at bound) ≡ Some a → slice_get seconds (at bound) ≡ Some b → IsProper width a → IsProper width b
       → IsLargest (least_sum width) (HasBefore (λ k. HasSum width firsts seconds (at k)) bound) greatest → IsLargest (least_sum width) (HasBefore (λ k. HasSum width firsts seconds (at k)) (bound + 1)) new
   sum_more firsts seconds at bound greatest new a b max there behind proper_a proper_b before = go proper_a proper_b
@@ -164,7 +164,7 @@ module _ (width : Width) (spaced : IsSpaced width) where
             λ number it. let e = it.is in let e' = first_is number it in let e'' = second_is number it in omega (arith, ints),
           )
 
--- the sum of the numbers at one more place, where there is no limit
+-- the sum of the numbers at one more position, where there is no limit
 pub unlimited_more : (limits : List ℤ) (firsts seconds : List ℤ) (bound : ℕ) (greatest new a b : ℤ) → slice_get limits bound ≡ Some no_limit → new ≡ int_max greatest (a +ℤ b) → slice_get firsts bound ≡ Some a → slice_get seconds bound ≡ Some b → IsProper short a → IsProper short b
     → IsLargest (least_sum short) (HasBefore (IsUnlimitedSum limits firsts seconds) bound) greatest → IsLargest (least_sum short) (HasBefore (IsUnlimitedSum limits firsts seconds) (bound + 1)) new
 unlimited_more limits firsts seconds bound greatest new a b unlimited max there behind proper_a proper_b before = go proper_a proper_b
@@ -184,7 +184,7 @@ unlimited_more limits firsts seconds bound greatest new a b unlimited max there 
           λ number it. let e = it.1.is in let e' = first_is number it.1 in let e'' = second_is number it.1 in omega (arith, ints),
         )
 
--- one more place, where the mark is the limit
+-- one more position, where the mark is the limit
 pub limited_more : (limits firsts seconds : List ℤ) (bound : ℕ) (greatest new least : ℤ) → slice_get limits bound ≡ Some short.mark → new ≡ int_max greatest least → least ≤ℤ short.mark
     → IsLargest (least_sum short) (HasBefore (IsUnlimitedSum limits firsts seconds) bound) greatest → IsLargest (least_sum short) (HasBefore (IsUnlimitedSum limits firsts seconds) (bound + 1)) new
 limited_more limits firsts seconds bound greatest new least limited max low before =
@@ -200,10 +200,10 @@ pub limit_cases : (sum limit least : ℤ) → FitsSigned w16 sum → (limit ≡ 
 limit_cases sum limit least fits (inl e) is = inl (e, grind (arith, ints, int_min_is))
 limit_cases sum limit least fits (inr e) is = inr (e, grind (arith, ints, int_min_is))
 
-pub some_place : {A : Type 0} (items : List A) (place : ℕ) (item : A) → slice_get items place ≡ Some item → place < length items
-some_place [] place item e = absurd cc
+pub some_place : {A : Type 0} (items : List A) (position : ℕ) (item : A) → slice_get items position ≡ Some item → position < length items
+some_place [] position item e = absurd cc
 some_place (x ∷ items) zero item e = omega arith
-some_place (x ∷ items) (suc place) item e = omega (arith, some_place items place item e)
+some_place (x ∷ items) (suc position) item e = omega (arith, some_place items position item e)
 
 -- sums side by side are those before the end of the shorter list
 pub all_aligned : (width : Width) (firsts seconds : List ℤ) (count : ℕ) (greatest : ℤ) → ((k : ℕ) → k < length firsts → k < length seconds → k < count) → IsLargest (least_sum width) (HasBefore (λ k. HasSum width firsts seconds k) count) greatest
@@ -218,25 +218,25 @@ all_aligned width firsts seconds count greatest all (inr (high, is)) =
           (λ number h. (h.0, all h.0 (some_place firsts h.0 h.1.first h.1.first_there) (some_place seconds h.0 h.1.second h.1.second_there), h.1)) is,
     )
 
--- those at the places are those at their numbers
-module _ (places : Places) (Sum : ℕ → ℤ → Type 0) where
-  -- it holds at some place
+-- those at the positions are those at their numbers
+module _ (positions : Positions) (Sum : ℕ → ℤ → Type 0) where
+  -- it holds at some position
   abbrev pub SomePlace : ℤ → Type 0
-  SomePlace number = (place : ℕ) × Contains places.at.now place × Sum (number_at places place) number
+  SomePlace number = (position : ℕ) × Contains positions.at.now position × Sum (number_at positions position) number
 
-  -- it holds at the place of this number
+  -- it holds at the position of this number
   abbrev pub AtPlace : ℕ → ℤ → Type 0
-  AtPlace k = Sum (number_at places (get_or places.at.now k 0))
+  AtPlace k = Sum (number_at positions (get_or positions.at.now k 0))
 
-  pub all_scattered : (least : ℤ) (count : ℕ) (greatest : ℤ) → count ≡ length places.at.now → IsLargest least (HasBefore AtPlace count) greatest → IsLargest least SomePlace greatest
+  pub all_scattered : (least : ℤ) (count : ℕ) (greatest : ℤ) → count ≡ length positions.at.now → IsLargest least (HasBefore AtPlace count) greatest → IsLargest least SomePlace greatest
   all_scattered least count greatest all =
       largest_same least (HasBefore AtPlace count) SomePlace greatest
-      (λ number h. (get_or places.at.now h.0 0, Contains-get_or places.at.now h.0 0 (omega (arith, h.1, all)), h.2))
+      (λ number h. (get_or positions.at.now h.0 0, Contains-get_or positions.at.now h.0 0 (omega (arith, h.1, all)), h.2))
       (λ number h.
-      let at : get_or places.at.now h.1.0 0 ≡ h.0 = get_or_default places.at.now h.1.0 0 h.0 h.1.1 ∙ h.1.2 in
-      (h.1.0, omega (arith, h.1.1, all), subst (λ place. Sum (number_at places place) number) (sym at) h.2))
+      let at : get_or positions.at.now h.1.0 0 ≡ h.0 = get_or_default positions.at.now h.1.0 0 h.0 h.1.1 ∙ h.1.2 in
+      (h.1.0, omega (arith, h.1.1, all), subst (λ position. Sum (number_at positions position) number) (sym at) h.2))
 
--- ---- places that are as many as the numbers
+-- ---- positions that are as many as the numbers
 
 -- so many rising numbers below a bound are all the numbers below it
 module _ (f : ℕ → ℕ) (count : ℕ) (rising : (k : ℕ) → k + 1 < count → f k < f (k + 1)) (below : (k : ℕ) → k < count → f k < count) where
@@ -261,24 +261,24 @@ module _ (f : ℕ → ℕ) (count : ℕ) (rising : (k : ℕ) → k + 1 < count �
       let top = below (count - 1) (omega arith) in
       omega (arith, not_less k l)
 
-module _ (places : Places) (firsts seconds : List ℤ) (have : HaveNumbers places firsts seconds) (rising : AllAdjacentBelow (λ (a b : ℕ). a < b) places.at.now (length places.at.now)) (as_many : length firsts ≡ length places.at.now) where
-  stands : (k : ℕ) → k < length places.at.now → Contains places.at.now (get_or places.at.now k 0)
-  stands k l = Contains-get_or places.at.now k 0 l
+module _ (positions : Positions) (firsts seconds : List ℤ) (have : HaveNumbers positions firsts seconds) (rising : AllAdjacentBelow (λ (a b : ℕ). a < b) positions.at.now (length positions.at.now)) (as_many : length firsts ≡ length positions.at.now) where
+  stands : (k : ℕ) → k < length positions.at.now → Contains positions.at.now (get_or positions.at.now k 0)
+  stands k l = Contains-get_or positions.at.now k 0 l
 
-  number_is : (k : ℕ) → k < length places.at.now → number_at places (get_or places.at.now k 0) ≡ k
-  number_is = is_itself (λ k. number_at places (get_or places.at.now k 0)) (length places.at.now)
-      (λ k l. omega (arith, rising k 0 l, have.from_first (get_or places.at.now k 0) (stands k (omega arith))))
-      (λ k l. omega (arith, have.before (get_or places.at.now k 0) (stands k l)))
+  number_is : (k : ℕ) → k < length positions.at.now → number_at positions (get_or positions.at.now k 0) ≡ k
+  number_is = is_itself (λ k. number_at positions (get_or positions.at.now k 0)) (length positions.at.now)
+      (λ k l. omega (arith, rising k 0 l, have.from_first (get_or positions.at.now k 0) (stands k (omega arith))))
+      (λ k l. omega (arith, have.before (get_or positions.at.now k 0) (stands k l)))
 
-  pub aligned_places : (width : Width) (greatest : Option ℤ) → IsGreatestOf (λ sum. (k : ℕ) × HasSum width firsts seconds k sum) greatest → IsGreatestOf (HasSumAt width places firsts seconds) greatest
+  pub aligned_places : (width : Width) (greatest : Option ℤ) → IsGreatestOf (λ sum. (k : ℕ) × HasSum width firsts seconds k sum) greatest → IsGreatestOf (HasSumAt width positions firsts seconds) greatest
   aligned_places width greatest =
-      greatest_same (λ sum. (k : ℕ) × HasSum width firsts seconds k sum) (HasSumAt width places firsts seconds) greatest
+      greatest_same (λ sum. (k : ℕ) × HasSum width firsts seconds k sum) (HasSumAt width positions firsts seconds) greatest
       (λ number h.
-      let l : h.0 < length places.at.now = omega (arith, some_place firsts h.0 h.1.first h.1.first_there, as_many) in
-      (get_or places.at.now h.0 0, stands h.0 l, subst (λ k. HasSum width firsts seconds k number) (sym (number_is h.0 l)) h.1))
+      let l : h.0 < length positions.at.now = omega (arith, some_place firsts h.0 h.1.first h.1.first_there, as_many) in
+      (get_or positions.at.now h.0 0, stands h.0 l, subst (λ k. HasSum width firsts seconds k number) (sym (number_is h.0 l)) h.1))
       (λ number h.
-      let at : get_or places.at.now h.1.0 0 ≡ h.0 = get_or_default places.at.now h.1.0 0 h.0 h.1.1 ∙ h.1.2 in
-      let e : number_at places h.0 ≡ h.1.0 = subst (λ place. number_at places place ≡ h.1.0) at (number_is h.1.0 h.1.1) in
+      let at : get_or positions.at.now h.1.0 0 ≡ h.0 = get_or_default positions.at.now h.1.0 0 h.0 h.1.1 ∙ h.1.2 in
+      let e : number_at positions h.0 ≡ h.1.0 = subst (λ position. number_at positions position ≡ h.1.0) at (number_is h.1.0 h.1.1) in
       (h.1.0, subst (λ k. HasSum width firsts seconds k number) e h.2))
 
 -- sums with no limit are those before the end
@@ -294,32 +294,32 @@ all_limited limits firsts seconds count greatest all (inr (high, is)) =
           (λ number h. (h.0, omega (arith, all, some_place limits h.0 no_limit h.1), (h.1, h.2))) is,
     )
 
--- ---- places that limits tell, from the first to the last
+-- ---- positions that limits tell, from the first to the last
 
-module _ (places : Places) (firsts seconds : List ℤ) (limits : List ℤ) (have : HaveNumbers places firsts seconds) (limited : AreLimited places.at.now limits) (as_many : length firsts ≡ length limits) where
+module _ (positions : Positions) (firsts seconds : List ℤ) (limits : List ℤ) (have : HaveNumbers positions firsts seconds) (limited : AreLimited positions.at.now limits) (as_many : length firsts ≡ length limits) where
   abbrev begin : ℕ
-  begin = get_or places.at.now 0 0
+  begin = get_or positions.at.now 0 0
 
-  -- the numbers begin with those of the first place
-  begins : 0 < length limits → places.first ≡ begin
+  -- the numbers begin with those of the first position
+  begins : 0 < length limits → positions.first ≡ begin
   begins some =
-      let last : Contains places.at.now (begin + length limits - 1) = (limited.exact (begin + length limits - 1)).1 (limited.last some) in
-      let first : Contains places.at.now begin = Contains-get_or places.at.now 0 0 (omega (arith, last.1)) in
+      let last : Contains positions.at.now (begin + length limits - 1) = (limited.exact (begin + length limits - 1)).1 (limited.last some) in
+      let first : Contains positions.at.now begin = Contains-get_or positions.at.now 0 0 (omega (arith, last.1)) in
       omega (arith, some, as_many, have.from_first (begin + length limits - 1) last, have.before (begin + length limits - 1) last, have.from_first begin first)
 
-  pub limited_places : (greatest : Option ℤ) → IsGreatestOf (HasUnlimitedSum limits firsts seconds) greatest → IsGreatestOf (HasSumAt short places firsts seconds) greatest
+  pub limited_places : (greatest : Option ℤ) → IsGreatestOf (HasUnlimitedSum limits firsts seconds) greatest → IsGreatestOf (HasSumAt short positions firsts seconds) greatest
   limited_places greatest =
-      greatest_same (HasUnlimitedSum limits firsts seconds) (HasSumAt short places firsts seconds) greatest
+      greatest_same (HasUnlimitedSum limits firsts seconds) (HasSumAt short positions firsts seconds) greatest
       (λ number h.
       let at = begins (omega (arith, some_place limits h.0 no_limit h.1)) in
       let same : begin + h.0 - begin ≡ h.0 = omega arith in
-      let stands : Contains places.at.now (begin + h.0) = (limited.exact (begin + h.0)).1 (omega arith, subst (λ k. slice_get limits k ≡ Some no_limit) (sym same) h.1) in
-      let e : h.0 ≡ number_at places (begin + h.0) = omega (arith, at) in
+      let stands : Contains positions.at.now (begin + h.0) = (limited.exact (begin + h.0)).1 (omega arith, subst (λ k. slice_get limits k ≡ Some no_limit) (sym same) h.1) in
+      let e : h.0 ≡ number_at positions (begin + h.0) = omega (arith, at) in
       (begin + h.0, stands, subst (λ k. HasSum short firsts seconds k number) e h.2))
       (λ number h.
       let told = (limited.exact h.0).0 h.1 in
       let at = begins (omega (arith, some_place limits (h.0 - begin) no_limit told.1)) in
-      let e : number_at places h.0 ≡ h.0 - begin = omega (arith, at) in
+      let e : number_at positions h.0 ≡ h.0 - begin = omega (arith, at) in
       (h.0 - begin, told.1, subst (λ k. HasSum short firsts seconds k number) e h.2))
 
 -- ---- numbers with factors
@@ -360,11 +360,11 @@ module _ (width : Width) (scales : Scales) (before : scales.before ≡ pos 1) (b
         is = omega (arith, ints);
       }
 
-  pub plain_greatest : (places : Places) (greatest : Option ℤ) → IsGreatestOf (HasSumAt width places firsts seconds) greatest → IsGreatestOf (HasScaledSumAt width.mark scales places firsts seconds) greatest
-  plain_greatest places greatest =
-      greatest_same (HasSumAt width places firsts seconds) (HasScaledSumAt width.mark scales places firsts seconds) greatest
-      (λ number h. (h.0, h.1, plain_sum (number_at places h.0) number h.2))
-      (λ number h. (h.0, h.1, sum_plain (number_at places h.0) number h.2))
+  pub plain_greatest : (positions : Positions) (greatest : Option ℤ) → IsGreatestOf (HasSumAt width positions firsts seconds) greatest → IsGreatestOf (HasScaledSumAt width.mark scales positions firsts seconds) greatest
+  plain_greatest positions greatest =
+      greatest_same (HasSumAt width positions firsts seconds) (HasScaledSumAt width.mark scales positions firsts seconds) greatest
+      (λ number h. (h.0, h.1, plain_sum (number_at positions h.0) number h.2))
+      (λ number h. (h.0, h.1, sum_plain (number_at positions h.0) number h.2))
 
 -- the greatest of entries, as a score
 pub largest_entry : (Holds : ℤ → Type 0) (greatest : ℤ) → FitsSigned w64 greatest → IsLargest least_entry Holds greatest → IsGreatestOf Holds (score_of_entry greatest)
@@ -399,7 +399,7 @@ pub read_number : {X : Type 0} (value : X → ℤ) (items : List X) (k : ℕ) (i
 read_number value items k item number l is e =
     slice_get-map value items k ∙ ap (option_map value) (slice_get-get_or items k item (omega (arith, l, length-map items value))) ∙ ap (λ x. Some (value x)) (sym is) ∙ ap Some (sym e)
 
--- one more place, whose sum is this entry
+-- one more position, whose sum is this entry
 module _ (mark : ℤ) (scales : Scales) (firsts seconds : List ℤ) (at : ℕ → ℕ) (bound : ℕ) (greatest new a b entry : ℤ) (max : new ≡ int_max greatest entry)
     (there : slice_get firsts (at bound) ≡ Some a) (behind : slice_get seconds (at bound) ≡ Some b)
     (before : IsLargest least_entry (HasBefore (λ k. HasScaledSum mark scales firsts seconds (at k)) bound) greatest) where

@@ -26,7 +26,7 @@ abbrev pub IsProper : Width → ℤ → Type 0
 IsProper width number = (number ≡ width.mark) ⊎ (nat_abs number ≤ width.limit)
 
 abbrev pub AreProper : Width → List ℤ → Type 0
-AreProper width numbers = (place : ℕ) (number : ℤ) → slice_get numbers place ≡ Some number → IsProper width number
+AreProper width numbers = (position : ℕ) (number : ℤ) → slice_get numbers position ≡ Some number → IsProper width number
 
 -- the entry that the number stands for
 abbrev pub told : Width → Goal → ℤ → ℤ

@@ -9,8 +9,9 @@ mod worthless;
 
 pub use numbers::{greater, turned, turned_factors};
 pub use packing::{
-    LONG_LIMIT, LONG_MARK, MEDIUM_LIMIT, MEDIUM_MARK, NO_CANDIDATE, NO_LIMIT, SHORT_LIMIT, SHORT_MARK, long_entry,
-    long_number, medium_entry, medium_number, score_of, short_entry, short_number,
+    LONG_LIMIT, LONG_MARK, MEDIUM_LIMIT, MEDIUM_MARK, NO_CANDIDATE, NO_LIMIT, SHORT_LIMIT,
+    SHORT_MARK, long_entry, long_number, medium_entry, medium_number, score_of, short_entry,
+    short_number,
 };
-pub use sums::{Places, Scales, greatest_long, greatest_medium, greatest_short};
+pub use sums::{Positions, Scales, greatest_long, greatest_medium, greatest_short};
 pub use worthless::are_worthless;

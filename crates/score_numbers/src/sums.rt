@@ -1,4 +1,4 @@
-//! The greatest sum of numbers before and behind the places of a boundary.
+//! The greatest sum of numbers before and behind the positions of a boundary.
 
 ghost use Rattle.std.specs.Prelude.{◌≡◌, ℕ, pos, ◌+◌, ◌<◌, ◌≤◌, ◌⊎◌, ◌+ℤ◌, ◌*ℤ◌, IsTrue, nat_abs, length, map};
 ghost use Rattle.std.specs.List.{AllAdjacentBelow};
@@ -14,18 +14,18 @@ use crate::packing::{
     SHORT_MARK, score_of,
 };
 
-/// Where one number in so many, or fewer of them, stands at a place, these are read one by one, and else all are.
+/// Where one number in so many, or fewer of them, stands at a position, these are read one by one, and else all are.
 const SPARSE: usize = 6;
 
-/// The places of a boundary, in order. Numbers before them and numbers behind them are those for the places from
+/// The positions of a boundary, in order. Numbers before them and numbers behind them are those for the positions from
 /// `first` on.
 #[derive(Clone, Copy)]
-pub struct Places<'l> {
+pub struct Positions<'l> {
     pub at: &'l [u16],
     pub first: u16,
 }
 
-/// The factors of the numbers before the places and of those behind them.
+/// The factors of the numbers before the positions and of those behind them.
 #[derive(Clone, Copy)]
 pub struct Scales {
     pub before: i64,
@@ -56,22 +56,22 @@ impl Scales {
     }
 }
 
-/// The greatest sum of numbers at the places, each times its factor.
+/// The greatest sum of numbers at the positions, each times its factor.
 fn greatest_scaled<N: Number>(
     first: &[N],
     second: &[N],
     mark: i64,
-    places: Places<'_>,
+    positions: Positions<'_>,
     scales: Scales,
 ) -> Option<i64>
-    requires have { HaveNumbers places (map N.value first.now) (map N.value second.now) }
-    requires low { AreLowSums mark scales places (map N.value first.now) (map N.value second.now) }
-    ensures { IsGreatestOf (HasScaledSumAt mark scales places.entry (map N.value first.now) (map N.value second.now))
+    requires have { HaveNumbers positions (map N.value first.now) (map N.value second.now) }
+    requires low { AreLowSums mark scales positions (map N.value first.now) (map N.value second.now) }
+    ensures { IsGreatestOf (HasScaledSumAt mark scales positions.entry (map N.value first.now) (map N.value second.now))
         result }
 {
     let mut greatest = NO_CANDIDATE;
-    for place in places.at {
-        let number = *place as usize - places.first as usize;
+    for position in positions.at {
+        let number = *position as usize - positions.first as usize;
         let (before, behind) = (first[number].wide(), second[number].wide());
         greatest = greatest.max(scales.sum(mark, before, behind));
     }
@@ -95,16 +95,16 @@ fn greatest_aligned_short(first: &[i16], second: &[i16]) -> Option<i64>
     }
 }
 
-/// The greatest sum of numbers of 16 bits at places here and there.
-fn greatest_scattered_short(first: &[i16], second: &[i16], places: Places<'_>) -> Option<i64>
+/// The greatest sum of numbers of 16 bits at positions here and there.
+fn greatest_scattered_short(first: &[i16], second: &[i16], positions: Positions<'_>) -> Option<i64>
     requires first { AreProper short first.now }
     requires second { AreProper short second.now }
-    requires have { HaveNumbers places first.now second.now }
-    ensures { IsGreatestOf (HasSumAt short places.entry first.now second.now) result }
+    requires have { HaveNumbers positions first.now second.now }
+    ensures { IsGreatestOf (HasSumAt short positions.entry first.now second.now) result }
 {
     let mut greatest = SHORT_MARK;
-    for place in places.at {
-        let number = *place as usize - places.first as usize;
+    for position in positions.at {
+        let number = *position as usize - positions.first as usize;
         greatest = greatest.max(first[number] + second[number]);
     }
     if greatest < -2 * SHORT_LIMIT {
@@ -134,30 +134,30 @@ fn greatest_limited_short(first: &[i16], second: &[i16], limits: &[i16]) -> Opti
     }
 }
 
-/// The greatest sum of numbers of 16 bits before and behind the places, each times its factor. Limits tell the places
-/// too, from the first of them to the last one.
+/// The greatest sum of numbers of 16 bits before and behind the positions, each times its factor. Limits tell the
+/// positions too, from the first of them to the last one.
 #[inline(always)]
 pub fn greatest_short(
     first: &[i16],
     second: &[i16],
-    places: Places<'_>,
+    positions: Positions<'_>,
     limits: &[i16],
     scales: Scales,
 ) -> Option<i64>
     requires first { AreProper short first.now }
     requires second { AreProper short second.now }
-    requires have { HaveNumbers places first.now second.now }
-    requires rising { AllAdjacentBelow (λ (a b : ℕ). a < b) places.at.now (length places.at.now) }
-    requires limits { AreLimited places.at.now limits.now }
-    requires low { AreLowSums short.mark scales places first.now second.now }
-    ensures { IsGreatestOf (HasScaledSumAt short.mark scales places.entry first.now second.now) result }
+    requires have { HaveNumbers positions first.now second.now }
+    requires rising { AllAdjacentBelow (λ (a b : ℕ). a < b) positions.at.now (length positions.at.now) }
+    requires limits { AreLimited positions.at.now limits.now }
+    requires low { AreLowSums short.mark scales positions first.now second.now }
+    ensures { IsGreatestOf (HasScaledSumAt short.mark scales positions.entry first.now second.now) result }
 {
     if !scales.are_plain() {
-        return greatest_scaled(first, second, i64::from(SHORT_MARK), places, scales);
+        return greatest_scaled(first, second, i64::from(SHORT_MARK), positions, scales);
     }
-    let (count, span) = (places.at.len(), limits.len());
+    let (count, span) = (positions.at.len(), limits.len());
     if first.len() != span || second.len() != span || span / SPARSE >= count {
-        greatest_scattered_short(first, second, places)
+        greatest_scattered_short(first, second, positions)
     } else if count == span {
         greatest_aligned_short(first, second)
     } else {
@@ -182,16 +182,16 @@ fn greatest_aligned_medium(first: &[i32], second: &[i32]) -> Option<i64>
     }
 }
 
-/// The greatest sum of numbers of 32 bits at places here and there.
-fn greatest_scattered_medium(first: &[i32], second: &[i32], places: Places<'_>) -> Option<i64>
+/// The greatest sum of numbers of 32 bits at positions here and there.
+fn greatest_scattered_medium(first: &[i32], second: &[i32], positions: Positions<'_>) -> Option<i64>
     requires first { AreProper medium first.now }
     requires second { AreProper medium second.now }
-    requires have { HaveNumbers places first.now second.now }
-    ensures { IsGreatestOf (HasSumAt medium places.entry first.now second.now) result }
+    requires have { HaveNumbers positions first.now second.now }
+    ensures { IsGreatestOf (HasSumAt medium positions.entry first.now second.now) result }
 {
     let mut greatest = MEDIUM_MARK;
-    for place in places.at {
-        let number = *place as usize - places.first as usize;
+    for position in positions.at {
+        let number = *position as usize - positions.first as usize;
         greatest = greatest.max(first[number] + second[number]);
     }
     if greatest < -2 * MEDIUM_LIMIT {
@@ -201,27 +201,27 @@ fn greatest_scattered_medium(first: &[i32], second: &[i32], places: Places<'_>) 
     }
 }
 
-/// The greatest sum of numbers of 32 bits before and behind the places, each times its factor.
+/// The greatest sum of numbers of 32 bits before and behind the positions, each times its factor.
 pub fn greatest_medium(
     first: &[i32],
     second: &[i32],
-    places: Places<'_>,
+    positions: Positions<'_>,
     scales: Scales,
 ) -> Option<i64>
     requires first { AreProper medium first.now }
     requires second { AreProper medium second.now }
-    requires have { HaveNumbers places first.now second.now }
-    requires rising { AllAdjacentBelow (λ (a b : ℕ). a < b) places.at.now (length places.at.now) }
-    requires low { AreLowSums medium.mark scales places first.now second.now }
-    ensures { IsGreatestOf (HasScaledSumAt medium.mark scales places.entry first.now second.now) result }
+    requires have { HaveNumbers positions first.now second.now }
+    requires rising { AllAdjacentBelow (λ (a b : ℕ). a < b) positions.at.now (length positions.at.now) }
+    requires low { AreLowSums medium.mark scales positions first.now second.now }
+    ensures { IsGreatestOf (HasScaledSumAt medium.mark scales positions.entry first.now second.now) result }
 {
     if !scales.are_plain() {
-        return greatest_scaled(first, second, i64::from(MEDIUM_MARK), places, scales);
+        return greatest_scaled(first, second, i64::from(MEDIUM_MARK), positions, scales);
     }
-    if first.len() == places.at.len() && second.len() == places.at.len() {
+    if first.len() == positions.at.len() && second.len() == positions.at.len() {
         greatest_aligned_medium(first, second)
     } else {
-        greatest_scattered_medium(first, second, places)
+        greatest_scattered_medium(first, second, positions)
     }
 }
 
@@ -242,16 +242,16 @@ fn greatest_aligned_long(first: &[i64], second: &[i64]) -> Option<i64>
     }
 }
 
-/// The greatest sum of numbers of 64 bits at places here and there.
-fn greatest_scattered_long(first: &[i64], second: &[i64], places: Places<'_>) -> Option<i64>
+/// The greatest sum of numbers of 64 bits at positions here and there.
+fn greatest_scattered_long(first: &[i64], second: &[i64], positions: Positions<'_>) -> Option<i64>
     requires first { AreProper long first.now }
     requires second { AreProper long second.now }
-    requires have { HaveNumbers places first.now second.now }
-    ensures { IsGreatestOf (HasSumAt long places.entry first.now second.now) result }
+    requires have { HaveNumbers positions first.now second.now }
+    ensures { IsGreatestOf (HasSumAt long positions.entry first.now second.now) result }
 {
     let mut greatest = LONG_MARK;
-    for place in places.at {
-        let number = *place as usize - places.first as usize;
+    for position in positions.at {
+        let number = *position as usize - positions.first as usize;
         greatest = greatest.max(first[number] + second[number]);
     }
     if greatest < -2 * LONG_LIMIT {
@@ -261,26 +261,26 @@ fn greatest_scattered_long(first: &[i64], second: &[i64], places: Places<'_>) ->
     }
 }
 
-/// The greatest sum of numbers of 64 bits before and behind the places, each times its factor.
+/// The greatest sum of numbers of 64 bits before and behind the positions, each times its factor.
 pub fn greatest_long(
     first: &[i64],
     second: &[i64],
-    places: Places<'_>,
+    positions: Positions<'_>,
     scales: Scales,
 ) -> Option<i64>
     requires first { AreProper long first.now }
     requires second { AreProper long second.now }
-    requires have { HaveNumbers places first.now second.now }
-    requires rising { AllAdjacentBelow (λ (a b : ℕ). a < b) places.at.now (length places.at.now) }
-    requires low { AreLowSums long.mark scales places first.now second.now }
-    ensures { IsGreatestOf (HasScaledSumAt long.mark scales places.entry first.now second.now) result }
+    requires have { HaveNumbers positions first.now second.now }
+    requires rising { AllAdjacentBelow (λ (a b : ℕ). a < b) positions.at.now (length positions.at.now) }
+    requires low { AreLowSums long.mark scales positions first.now second.now }
+    ensures { IsGreatestOf (HasScaledSumAt long.mark scales positions.entry first.now second.now) result }
 {
     if !scales.are_plain() {
-        return greatest_scaled(first, second, LONG_MARK, places, scales);
+        return greatest_scaled(first, second, LONG_MARK, positions, scales);
     }
-    if first.len() == places.at.len() && second.len() == places.at.len() {
+    if first.len() == positions.at.len() && second.len() == positions.at.len() {
         greatest_aligned_long(first, second)
     } else {
-        greatest_scattered_long(first, second, places)
+        greatest_scattered_long(first, second, positions)
     }
 }

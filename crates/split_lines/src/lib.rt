@@ -8,9 +8,11 @@ mod extents;
 mod kept;
 mod lines;
 mod matches;
+mod prepared;
 mod spans;
 mod tokens;
 
 pub use kept::KeptAlternative;
 pub use lines::{Boundary, Line, Lines, line_here};
+pub use prepared::Prepared;
 pub use tokens::{fixed_length, is_fixed};

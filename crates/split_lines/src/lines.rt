@@ -436,7 +436,7 @@ impl<'a> Lines<'a> {
 
     /// Where the first of the arguments may end, as far as the lengths of the others leave a way up to `last`. Takes
     /// constant time, but for the letters of a literal, and no memory.
-    pub fn places(&self, arguments: &[Arg], from: u16, last: u16) -> Range<u16>
+    pub fn ends_of_first(&self, arguments: &[Arg], from: u16, last: u16) -> Range<u16>
         requires known { AllByRecursion (IsKnown self.now.grammar) arguments.now }
         requires some { 0 < length arguments.now }
         requires few { length arguments.now ≤ 4 }

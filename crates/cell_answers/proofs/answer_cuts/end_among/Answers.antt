@@ -18,7 +18,7 @@ use Rattle.cell_answers.proofs.Scoring.{one_score}
 use Rattle.cell_answers.proofs.FirstEnds.{AreLaid, AreSound, first_low, rest_laid, parts_low}
 use Rattle.cell_answers.proofs.LaidEnds.{HasTotalNowhere, none_valued, none_totalled, none_so_great, found_here, none_at_first, not_all_tried}
 use Rattle.cell_answers.proofs.answer_cuts.end_among.Goals as goal
-use Rattle.cell_answers.proofs.answer_cuts.end_among.Goals.{After-answer_is_unique, After-places-places}
+use Rattle.cell_answers.proofs.answer_cuts.end_among.Goals.{After-answer_is_unique, After-ends_of_first-places}
 
 -- the arguments, from the first one on
 laid : (c : After-answer_is_unique) → AreLaid c.args.behind.now.lines.now c.args.behind.now.scores.now (c.in-Some-Some.argument.now ∷ c.in-Some-Some.others.now) (c.in-Some-Some.factor.now ∷ c.in-Some-Some.more.now) c.args.from c.args.to
@@ -47,10 +47,10 @@ sound c =
       one = one_score c.problem.result.now (λ at a b. c.answer_is_unique.ensures c.problem.result.now at a b c.admissible.ensures.checked.well_formed);
     })
 
-places : (c : After-places-places) → ArePlaces c.args.behind.now.lines.now c.in-Some-Some.argument.now c.in-Some-Some.others.now c.args.from c.args.to c.places-places.result
-places c = c.places-places.ensures c.in-Some-Some.argument.now c.in-Some-Some.others.now c.in-Some-Some.ensures.cases.0
+places : (c : After-ends_of_first-places) → ArePlaces c.args.behind.now.lines.now c.in-Some-Some.argument.now c.in-Some-Some.others.now c.args.from c.args.to c.ends_of_first-places.result
+places c = c.ends_of_first-places.ensures c.in-Some-Some.argument.now c.in-Some-Some.others.now c.in-Some-Some.ensures.cases.0
 
-fits : (c : After-places-places) (end : ℕ) → c.places-places.result.start ≤ end → end < c.places-places.result.end → FitsSpan c.args.behind.now.lines.now (on_span c.in-Some-Some.argument.now c.args.from end)
+fits : (c : After-ends_of_first-places) (end : ℕ) → c.ends_of_first-places.result.start ≤ end → end < c.ends_of_first-places.result.end → FitsSpan c.args.behind.now.lines.now (on_span c.in-Some-Some.argument.now c.args.from end)
 fits c end l m = (places c).fit end l m
 
 -- what a goal has of the total: its bits, read back
@@ -62,17 +62,17 @@ Nowhere c bound total = HasTotalNowhere c.args.behind.now.lines.now c.in-Some-So
 
 pub loop-end-init : goal.loop-end-init
 loop-end-init c =
-    let at = (goal.at.loop-end-init c).After-places-places in
+    let at = (goal.at.loop-end-init c).After-ends_of_first-places in
     let begun = (goal.at.loop-end-init c).After-answer_is_unique in
-    subst (Nowhere begun c.places-places.result.start) (sym (total_is begun))
-    (none_at_first c.args.behind.now.lines.now c.args.behind.now.scores.now (sound begun) c.in-Some-Some.argument.now c.in-Some-Some.others.now c.in-Some-Some.factor.now c.in-Some-Some.more.now c.args.from c.args.to c.args.total (laid begun) (greatest begun) c.places-places.result (places at))
+    subst (Nowhere begun c.ends_of_first-places.result.start) (sym (total_is begun))
+    (none_at_first c.args.behind.now.lines.now c.args.behind.now.scores.now (sound begun) c.in-Some-Some.argument.now c.in-Some-Some.others.now c.in-Some-Some.factor.now c.in-Some-Some.more.now c.args.from c.args.to c.args.total (laid begun) (greatest begun) c.ends_of_first-places.result (places at))
 
 pub argument_value-requires-clause-fits : goal.argument_value-requires-clause-fits
-argument_value-requires-clause-fits c = fits (goal.at.argument_value-requires-clause-fits c).After-places-places c.loop-end.end c.loop-end.auto.end c.loop-end-test.true
+argument_value-requires-clause-fits c = fits (goal.at.argument_value-requires-clause-fits c).After-ends_of_first-places c.loop-end.end c.loop-end.auto.end c.loop-end-test.true
 
 pub argument_value-requires-clause-low : goal.argument_value-requires-clause-low
 argument_value-requires-clause-low c =
-    let at = (goal.at.argument_value-requires-clause-low c).After-places-places in
+    let at = (goal.at.argument_value-requires-clause-low c).After-ends_of_first-places in
     let begun = (goal.at.argument_value-requires-clause-low c).After-answer_is_unique in
     first_low c.args.behind.now.lines.now c.args.behind.now.scores.now c.in-Some-Some.argument.now c.in-Some-Some.others.now c.in-Some-Some.factor.now c.in-Some-Some.more.now c.args.from c.args.to (laid begun) c.loop-end.end (fits at c.loop-end.end c.loop-end.auto.end c.loop-end-test.true)
 
@@ -85,7 +85,7 @@ after c bound it = subst (Nowhere c bound) (sym (total_is c)) it
 
 pub loop-end-preserved-in_default-argument_value : goal.loop-end-preserved-in_default-argument_value
 loop-end-preserved-in_default-argument_value c =
-    let at = (goal.at.loop-end-preserved-in_default-argument_value c).After-places-places in
+    let at = (goal.at.loop-end-preserved-in_default-argument_value c).After-ends_of_first-places in
     let begun = (goal.at.loop-end-preserved-in_default-argument_value c).After-answer_is_unique in
     let end = c.loop-end.end in
     after begun (end + 1)
@@ -94,7 +94,7 @@ loop-end-preserved-in_default-argument_value c =
 
 pub loop-end-preserved-in_default-greatest_total : goal.loop-end-preserved-in_default-greatest_total
 loop-end-preserved-in_default-greatest_total c =
-    let at = (goal.at.loop-end-preserved-in_default-greatest_total c).After-places-places in
+    let at = (goal.at.loop-end-preserved-in_default-greatest_total c).After-ends_of_first-places in
     let begun = (goal.at.loop-end-preserved-in_default-greatest_total c).After-answer_is_unique in
     let end = c.loop-end.end in
     after begun (end + 1)
@@ -107,21 +107,21 @@ rest c end end_fits l = rest_laid c.args.behind.now.lines.now c.args.behind.now.
 
 pub greatest_total-requires-clause-weighted : goal.greatest_total-requires-clause-weighted
 greatest_total-requires-clause-weighted c =
-    let at = (goal.at.greatest_total-requires-clause-weighted c).After-places-places in
+    let at = (goal.at.greatest_total-requires-clause-weighted c).After-ends_of_first-places in
     let begun = (goal.at.greatest_total-requires-clause-weighted c).After-answer_is_unique in
     let l : c.loop-end.end ≤ c.args.to = omega (arith, (places at).up_to_last, c.loop-end-test.true) in
     (rest begun c.loop-end.end (fits at c.loop-end.end c.loop-end.auto.end c.loop-end-test.true) l).weighted
 
 pub greatest_total-requires-clause-scored : goal.greatest_total-requires-clause-scored
 greatest_total-requires-clause-scored c =
-    let at = (goal.at.greatest_total-requires-clause-scored c).After-places-places in
+    let at = (goal.at.greatest_total-requires-clause-scored c).After-ends_of_first-places in
     let begun = (goal.at.greatest_total-requires-clause-scored c).After-answer_is_unique in
     let l : c.loop-end.end ≤ c.args.to = omega (arith, (places at).up_to_last, c.loop-end-test.true) in
     (rest begun c.loop-end.end (fits at c.loop-end.end c.loop-end.auto.end c.loop-end-test.true) l).scored
 
 pub greatest_total-requires-clause-low : goal.greatest_total-requires-clause-low
 greatest_total-requires-clause-low c =
-    let at = (goal.at.greatest_total-requires-clause-low c).After-places-places in
+    let at = (goal.at.greatest_total-requires-clause-low c).After-ends_of_first-places in
     let begun = (goal.at.greatest_total-requires-clause-low c).After-answer_is_unique in
     let l : c.loop-end.end ≤ c.args.to = omega (arith, (places at).up_to_last, c.loop-end-test.true) in
     (rest begun c.loop-end.end (fits at c.loop-end.end c.loop-end.auto.end c.loop-end-test.true) l).low
@@ -131,7 +131,7 @@ fits_below z below = fits_signed_from_abs w64 z (omega arith)
 
 pub overflow_mul-factor : goal.overflow_mul-factor
 overflow_mul-factor c =
-    let at = (goal.at.overflow_mul-factor c).After-places-places in
+    let at = (goal.at.overflow_mul-factor c).After-ends_of_first-places in
     let begun = (goal.at.overflow_mul-factor c).After-answer_is_unique in
     let p = c.args.behind.now.lines.now in
     let table = c.args.behind.now.scores.now in
@@ -153,7 +153,7 @@ overflow_mul-factor c =
 
 pub overflow_add-factor : goal.overflow_add-factor
 overflow_add-factor c =
-    let at = (goal.at.overflow_add-factor c).After-places-places in
+    let at = (goal.at.overflow_add-factor c).After-ends_of_first-places in
     let begun = (goal.at.overflow_add-factor c).After-answer_is_unique in
     let p = c.args.behind.now.lines.now in
     let table = c.args.behind.now.scores.now in
@@ -175,7 +175,7 @@ overflow_add-factor c =
 
 pub returns-then-factor-value : goal.returns-then-factor-value
 returns-then-factor-value c =
-    let at = (goal.at.returns-then-factor-value c).After-places-places in
+    let at = (goal.at.returns-then-factor-value c).After-ends_of_first-places in
     let begun = (goal.at.returns-then-factor-value c).After-answer_is_unique in
     let p = c.args.behind.now.lines.now in
     let table = c.args.behind.now.scores.now in
@@ -203,7 +203,7 @@ returns-then-factor-value c =
 
 pub loop-end-preserved : goal.loop-end-preserved
 loop-end-preserved c =
-    let at = (goal.at.loop-end-preserved c).After-places-places in
+    let at = (goal.at.loop-end-preserved c).After-ends_of_first-places in
     let begun = (goal.at.loop-end-preserved c).After-answer_is_unique in
     let p = c.args.behind.now.lines.now in
     let table = c.args.behind.now.scores.now in
@@ -228,6 +228,6 @@ loop-end-preserved c =
 
 pub unreachable-requires-2 : goal.unreachable-requires-2
 unreachable-requires-2 c =
-    let at = (goal.at.unreachable-requires-2 c).After-places-places in
+    let at = (goal.at.unreachable-requires-2 c).After-ends_of_first-places in
     let begun = (goal.at.unreachable-requires-2 c).After-answer_is_unique in
-    not_all_tried c.args.behind.now.lines.now c.args.behind.now.scores.now (sound begun) c.in-Some-Some.argument.now c.in-Some-Some.others.now c.in-Some-Some.factor.now c.in-Some-Some.more.now c.args.from c.args.to c.args.total (laid begun) (greatest begun) c.places-places.result (places at) c.loop-end.end c.loop-end-test.false (before begun c.loop-end.end c.loop-end.invariant)
+    not_all_tried c.args.behind.now.lines.now c.args.behind.now.scores.now (sound begun) c.in-Some-Some.argument.now c.in-Some-Some.others.now c.in-Some-Some.factor.now c.in-Some-Some.more.now c.args.from c.args.to c.args.total (laid begun) (greatest begun) c.ends_of_first-places.result (places at) c.loop-end.end c.loop-end-test.false (before begun c.loop-end.end c.loop-end.invariant)

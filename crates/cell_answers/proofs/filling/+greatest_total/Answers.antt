@@ -20,7 +20,7 @@ use Rattle.cell_answers.proofs.FirstEnds.{AreLaid, AreSound, first_low, rest_lai
 use Rattle.split_lines.specs.Ends.{IsEndTold}
 use Rattle.cell_answers.proofs.OneEnds.{none_ends, one_ends, total_nowhere, none_from, greatest_from, fixed_value, empty_without}
 use Rattle.cell_answers.proofs.filling.+greatest_total.Goals as goal
-use Rattle.cell_answers.proofs.filling.+greatest_total.Goals.{After-answer_is_unique, After-places-places, After-token_value, In_ok-end}
+use Rattle.cell_answers.proofs.filling.+greatest_total.Goals.{After-answer_is_unique, After-ends_of_first-places, After-token_value, In_ok-end}
 
 -- the arguments, from the first one on
 laid : (t : ℕ) (c : After-answer_is_unique t) → AreLaid c.args.known.now.lines.now c.args.known.now.scores.now (c.in-Some-Some.argument.now ∷ c.in-Some-Some.others.now) (c.in-Some-Some.factor.now ∷ c.in-Some-Some.factors.now) c.args.from c.args.to
@@ -42,39 +42,39 @@ sound t c =
       one = one_score c.problem.result.now (λ at a b. c.answer_is_unique.ensures c.problem.result.now at a b c.admissible.ensures.checked.well_formed);
     })
 
-places : (t : ℕ) (c : After-places-places t) → ArePlaces c.args.known.now.lines.now c.in-Some-Some.argument.now c.in-Some-Some.others.now c.args.from c.args.to c.places-places.result
-places t c = c.places-places.ensures c.in-Some-Some.argument.now c.in-Some-Some.others.now c.in-Some-Some.ensures.cases.0
+places : (t : ℕ) (c : After-ends_of_first-places t) → ArePlaces c.args.known.now.lines.now c.in-Some-Some.argument.now c.in-Some-Some.others.now c.args.from c.args.to c.ends_of_first-places.result
+places t c = c.ends_of_first-places.ensures c.in-Some-Some.argument.now c.in-Some-Some.others.now c.in-Some-Some.ensures.cases.0
 
-fits : (t : ℕ) (c : After-places-places t) (end : ℕ) → c.places-places.result.start ≤ end → end < c.places-places.result.end → FitsSpan c.args.known.now.lines.now (on_span c.in-Some-Some.argument.now c.args.from end)
+fits : (t : ℕ) (c : After-ends_of_first-places t) (end : ℕ) → c.ends_of_first-places.result.start ≤ end → end < c.ends_of_first-places.result.end → FitsSpan c.args.known.now.lines.now (on_span c.in-Some-Some.argument.now c.args.from end)
 fits t c end l m = (places t c).fit end l m
 
 pub loop-end-init : goal.loop-end-init
 loop-end-init t c =
-    let at = (goal.at.loop-end-init t c).After-places-places in
-    none_first c.args.known.now.lines.now c.in-Some-Some.argument.now c.in-Some-Some.others.now c.in-Some-Some.factor.now c.in-Some-Some.factors.now c.args.from c.args.to c.places-places.result (places t at)
+    let at = (goal.at.loop-end-init t c).After-ends_of_first-places in
+    none_first c.args.known.now.lines.now c.in-Some-Some.argument.now c.in-Some-Some.others.now c.in-Some-Some.factor.now c.in-Some-Some.factors.now c.args.from c.args.to c.ends_of_first-places.result (places t at)
 
 pub argument_value-requires-clause-fits : goal.argument_value-requires-clause-fits
-argument_value-requires-clause-fits t c = fits t (goal.at.argument_value-requires-clause-fits t c).After-places-places c.loop-end.end c.loop-end.auto.end c.loop-end-test.true
+argument_value-requires-clause-fits t c = fits t (goal.at.argument_value-requires-clause-fits t c).After-ends_of_first-places c.loop-end.end c.loop-end.auto.end c.loop-end-test.true
 
 pub argument_value-requires-clause-low : goal.argument_value-requires-clause-low
 argument_value-requires-clause-low t c =
-    let at = (goal.at.argument_value-requires-clause-low t c).After-places-places in
+    let at = (goal.at.argument_value-requires-clause-low t c).After-ends_of_first-places in
     let begun = (goal.at.argument_value-requires-clause-low t c).After-answer_is_unique in
     first_low c.args.known.now.lines.now c.args.known.now.scores.now c.in-Some-Some.argument.now c.in-Some-Some.others.now c.in-Some-Some.factor.now c.in-Some-Some.factors.now c.args.from c.args.to (laid t begun) c.loop-end.end
     (fits t at c.loop-end.end c.loop-end.auto.end c.loop-end-test.true)
 
 pub returns : goal.returns
 returns t c =
-    let at = (goal.at.returns t c).After-places-places in
+    let at = (goal.at.returns t c).After-ends_of_first-places in
     let p = c.args.known.now.lines.now in
-    let found = all_found p c.in-Some-Some.argument.now c.in-Some-Some.others.now c.in-Some-Some.factor.now c.in-Some-Some.factors.now c.args.from c.args.to c.places-places.result (places t at) c.loop-end.end c.loop-end.greatest c.loop-end-test.false c.loop-end.invariant in
+    let found = all_found p c.in-Some-Some.argument.now c.in-Some-Some.others.now c.in-Some-Some.factor.now c.in-Some-Some.factors.now c.args.from c.args.to c.ends_of_first-places.result (places t at) c.loop-end.end c.loop-end.greatest c.loop-end-test.false c.loop-end.invariant in
     let A : List Arg → Type 0 = λ arguments. IsGreatestOf (HasTotal p (HasBestScore p) arguments (c.in-Some-Some.factor.now ∷ c.in-Some-Some.factors.now) c.args.from c.args.to) c.loop-end.greatest in
     let F : List ℤ → Type 0 = λ factors. IsGreatestOf (HasTotal p (HasBestScore p) c.args.arguments.now factors c.args.from c.args.to) c.loop-end.greatest in
     subst F (sym c.in-Some-Some.ensures'.cases.0) (subst A (sym c.in-Some-Some.ensures.cases.0) found)
 
 pub greatest_total-requires-in-loop-end : goal.greatest_total-requires-in-loop-end
 greatest_total-requires-in-loop-end t c =
-    let at = (goal.at.greatest_total-requires-in-loop-end t c).After-places-places in
+    let at = (goal.at.greatest_total-requires-in-loop-end t c).After-ends_of_first-places in
     let begun = (goal.at.greatest_total-requires-in-loop-end t c).After-answer_is_unique in
     let p = c.args.known.now.lines.now in
     let end = c.loop-end.end in
@@ -92,7 +92,7 @@ fits_below z below = fits_signed_from_abs w64 z (omega arith)
 
 pub overflow_mul-factor : goal.overflow_mul-factor
 overflow_mul-factor t c =
-    let at = (goal.at.overflow_mul-factor t c).After-places-places in
+    let at = (goal.at.overflow_mul-factor t c).After-ends_of_first-places in
     let begun = (goal.at.overflow_mul-factor t c).After-answer_is_unique in
     let end = c.loop-end.end in
     let it = parts_low c.args.known.now.lines.now c.args.known.now.scores.now c.in-Some-Some.argument.now c.in-Some-Some.others.now c.in-Some-Some.factor.now c.in-Some-Some.factors.now c.args.from c.args.to (laid t begun) end (fits t at end c.loop-end.auto.end c.loop-end-test.true) (sound t begun)
@@ -103,7 +103,7 @@ overflow_mul-factor t c =
 
 pub overflow_add-factor : goal.overflow_add-factor
 overflow_add-factor t c =
-    let at = (goal.at.overflow_add-factor t c).After-places-places in
+    let at = (goal.at.overflow_add-factor t c).After-ends_of_first-places in
     let begun = (goal.at.overflow_add-factor t c).After-answer_is_unique in
     let end = c.loop-end.end in
     let it = parts_low c.args.known.now.lines.now c.args.known.now.scores.now c.in-Some-Some.argument.now c.in-Some-Some.others.now c.in-Some-Some.factor.now c.in-Some-Some.factors.now c.args.from c.args.to (laid t begun) end (fits t at end c.loop-end.auto.end c.loop-end-test.true) (sound t begun)
@@ -116,7 +116,7 @@ overflow_add-factor t c =
 
 pub loop-end-preserved : goal.loop-end-preserved
 loop-end-preserved t c =
-    let at = (goal.at.loop-end-preserved t c).After-places-places in
+    let at = (goal.at.loop-end-preserved t c).After-ends_of_first-places in
     let begun = (goal.at.loop-end-preserved t c).After-answer_is_unique in
     let p = c.args.known.now.lines.now in
     let table = c.args.known.now.scores.now in
@@ -139,7 +139,7 @@ loop-end-preserved t c =
 
 pub loop-end-preserved-in_default-argument_value : goal.loop-end-preserved-in_default-argument_value
 loop-end-preserved-in_default-argument_value t c =
-    let at = (goal.at.loop-end-preserved-in_default-argument_value t c).After-places-places in
+    let at = (goal.at.loop-end-preserved-in_default-argument_value t c).After-ends_of_first-places in
     let begun = (goal.at.loop-end-preserved-in_default-argument_value t c).After-answer_is_unique in
     let end = c.loop-end.end in
     unvalued_more c.args.known.now.lines.now c.args.known.now.scores.now c.in-Some-Some.argument.now c.in-Some-Some.others.now c.in-Some-Some.factor.now c.in-Some-Some.factors.now c.args.from c.args.to (laid t begun) end (fits t at end c.loop-end.auto.end c.loop-end-test.true)
@@ -147,7 +147,7 @@ loop-end-preserved-in_default-argument_value t c =
 
 pub loop-end-preserved-in_default-greatest_total : goal.loop-end-preserved-in_default-greatest_total
 loop-end-preserved-in_default-greatest_total t c =
-    let at = (goal.at.loop-end-preserved-in_default-greatest_total t c).After-places-places in
+    let at = (goal.at.loop-end-preserved-in_default-greatest_total t c).After-ends_of_first-places in
     let begun = (goal.at.loop-end-preserved-in_default-greatest_total t c).After-answer_is_unique in
     let end = c.loop-end.end in
     untotalled_more c.args.known.now.lines.now c.args.known.now.scores.now c.in-Some-Some.argument.now c.in-Some-Some.others.now c.in-Some-Some.factor.now c.in-Some-Some.factors.now c.args.from c.args.to (laid t begun) end (fits t at end c.loop-end.auto.end c.loop-end-test.true)

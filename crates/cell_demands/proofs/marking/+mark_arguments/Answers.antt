@@ -13,7 +13,6 @@ use Rattle.split_lines.specs.Laid.{Demands, IsCellOf}
 use Rattle.split_lines.specs.Lines.{IsLine}
 use Rattle.cell_tables.specs.Marks.{CellMarks, AreMarkedFrom}
 use Rattle.cell_demands.proofs.MarkSteps.{marked_in_rows}
-use Rattle.cell_demands.proofs.Lists.{split_at_first}
 use Rattle.cell_demands.proofs.LineDemands.{CoversBelow, DemandsBelow, line_now, line_later, marked_none, marked_some, covers_none, all_covered, all_marked}
 use Rattle.split_lines.specs.Ends.{IsEndTold}
 use Rattle.cell_demands.proofs.OneEnds.{none_ends, one_ends, cover_nowhere, cover_from, marked_nowhere, marked_behind, empty_without}
@@ -22,7 +21,7 @@ use Rattle.cell_demands.proofs.marking.+mark_arguments.Goals.{then-mark_argument
 
 pub mark_line-requires-clause-line : goal.mark_line-requires-clause-line
 mark_line-requires-clause-line t c =
-    line_now c.args.lines.now c.args.arguments.now (option_copied c.args.line) (option_copied c.line_here.result) c.args.ahead c.in-Some.line.now c.line_here.ensures (ap option_copied c.in-Some.is) c.requires.line
+    line_now c.args.lines.now c.args.arguments.now (option_copied c.args.line) (option_copied c.line_here.result) c.args.ahead c.in-Some-line_here.line.now c.line_here.ensures (ap option_copied c.in-Some-line_here.is) c.requires.line
 
 pub mark_arguments-requires-in-loop-end : goal.mark_arguments-requires-in-loop-end
 mark_arguments-requires-in-loop-end t c =
@@ -30,11 +29,10 @@ mark_arguments-requires-in-loop-end t c =
     let all = c.args.arguments.now in
     let end = c.loop-end.end in
     let to = c.args.to in
-    let argument = c.index-arguments-0.result in
-    let others : List Arg = take (length all - 1) (drop 1 all) in
-    let some : 0 < length all = search rules in
-    let split : all ≡ argument ∷ others = split_at_first all argument some c.index-arguments-0.is in
-    let places = c.places-ends.ensures argument others split in
+    let argument = c.in-Some.argument.now in
+    let others = c.in-Some.others.now in
+    let split : all ≡ argument ∷ others = c.in-Some.ensures.cases.0 in
+    let places = c.ends_of_first-ends.ensures argument others split in
     let fits = places.fit end c.loop-end.auto.end c.loop-end-test.true in
     let L : List Arg → Type 0 = λ xs. IfSome (option_copied c.args.line) (λ line. IsLine p (drop c.args.ahead xs) line) in
     let N : ℕ → Type 0 = λ n. IfSome (option_copied c.args.line) (λ line. IsLine p (drop n others) line) in
@@ -45,7 +43,7 @@ mark_arguments-requires-in-loop-end t c =
     let counted = subst D split c.requires.counted in (
       omega (arith, same_length, c.decreases),
       (
-        subst N (sym c.saturating_sub-ahead.ensures) (line_later p argument others (option_copied c.args.line) (option_copied c.line_here.result) c.args.ahead c.line_here.ensures (ap option_copied c.in_default.is) (subst L split c.requires.line)),
+        subst N (sym c.saturating_sub-ahead.ensures) (line_later p argument others (option_copied c.args.line) (option_copied c.line_here.result) c.args.ahead c.line_here.ensures (ap option_copied c.in_default-line_here.is) (subst L split c.requires.line)),
         (
           known.1,
           (
@@ -71,11 +69,10 @@ mark_argument-requires t c =
     let p = c.args.lines.now in
     let all = c.args.arguments.now in
     let end = c.loop-end.end in
-    let argument = c.index-arguments-0.result in
-    let others : List Arg = take (length all - 1) (drop 1 all) in
-    let some : 0 < length all = search rules in
-    let split : all ≡ argument ∷ others = split_at_first all argument some c.index-arguments-0.is in
-    let fits = (c.places-ends.ensures argument others split).fit end c.loop-end.auto.end c.loop-end-test.true in
+    let argument = c.in-Some.argument.now in
+    let others = c.in-Some.others.now in
+    let split : all ≡ argument ∷ others = c.in-Some.ensures.cases.0 in
+    let fits = (c.ends_of_first-ends.ensures argument others split).fit end c.loop-end.auto.end c.loop-end-test.true in
     let D : List Arg → Type 0 = λ xs. (it : Cell) → Demands p xs c.args.from c.args.to it → IsCounted p.grammar (length p.word) it in
     let counted = subst D split c.requires.counted in
     let C : PosedProblem → Type 0 = λ q. IsCounted q.grammar (length q.word) cell in
@@ -88,13 +85,12 @@ loop-end-preserved t c =
     let all = c.args.arguments.now in
     let from = c.args.from in
     let to = c.args.to in
-    let low = c.places-ends.result.start in
+    let low = c.ends_of_first-ends.result.start in
     let end = c.loop-end.end in
-    let argument = c.index-arguments-0.result in
-    let others : List Arg = take (length all - 1) (drop 1 all) in
-    let some : 0 < length all = search rules in
-    let split : all ≡ argument ∷ others = split_at_first all argument some c.index-arguments-0.is in
-    let fits = (c.places-ends.ensures argument others split).fit end c.loop-end.auto.end c.loop-end-test.true in
+    let argument = c.in-Some.argument.now in
+    let others = c.in-Some.others.now in
+    let split : all ≡ argument ∷ others = c.in-Some.ensures.cases.0 in
+    let fits = (c.ends_of_first-ends.ensures argument others split).fit end c.loop-end.auto.end c.loop-end-test.true in
     let above = c.loop-end.auto.end in
     let was = c.loop-end.invariant in
     let M : CellMarks → Type 0 = λ marks. AreMarkedFrom c.args.begin c.args.marks.now marks (DemandsBelow p argument others from to low (end + 1)) in
@@ -118,25 +114,23 @@ pub returns-clause-laid : goal.returns-clause-laid
 returns-clause-laid t c =
     let p = c.args.lines.now in
     let all = c.args.arguments.now in
-    let argument = c.index-arguments-0.result in
-    let others : List Arg = take (length all - 1) (drop 1 all) in
-    let some : 0 < length all = search rules in
-    let split : all ≡ argument ∷ others = split_at_first all argument some c.index-arguments-0.is in
-    let places = c.places-ends.ensures argument others split in
+    let argument = c.in-Some.argument.now in
+    let others = c.in-Some.others.now in
+    let split : all ≡ argument ∷ others = c.in-Some.ensures.cases.0 in
+    let places = c.ends_of_first-ends.ensures argument others split in
     let T : List Arg → Type 0 = λ xs. IsTrue c.loop-end.is_laid ↔ Cover p xs c.args.from c.args.to in
-    subst T (sym split) (all_covered p argument others c.args.from c.args.to c.places-ends.result c.loop-end.end places (omega arith) c.loop-end.is_laid c.loop-end.invariant.laid)
+    subst T (sym split) (all_covered p argument others c.args.from c.args.to c.ends_of_first-ends.result c.loop-end.end places (omega arith) c.loop-end.is_laid c.loop-end.invariant.laid)
 
 pub returns-clause-marked : goal.returns-clause-marked
 returns-clause-marked t c =
     let p = c.args.lines.now in
     let all = c.args.arguments.now in
-    let argument = c.index-arguments-0.result in
-    let others : List Arg = take (length all - 1) (drop 1 all) in
-    let some : 0 < length all = search rules in
-    let split : all ≡ argument ∷ others = split_at_first all argument some c.index-arguments-0.is in
-    let places = c.places-ends.ensures argument others split in
+    let argument = c.in-Some.argument.now in
+    let others = c.in-Some.others.now in
+    let split : all ≡ argument ∷ others = c.in-Some.ensures.cases.0 in
+    let places = c.ends_of_first-ends.ensures argument others split in
     let T : List Arg → Type 0 = λ xs. AreMarkedFrom c.args.begin c.args.marks.now c.loop-end.marks (Demands p xs c.args.from c.args.to) in
-    subst T (sym split) (all_marked p argument others c.args.from c.args.to c.places-ends.result c.loop-end.end places (omega arith) c.args.begin c.args.marks.now c.loop-end.marks c.loop-end.invariant.marked)
+    subst T (sym split) (all_marked p argument others c.args.from c.args.to c.ends_of_first-ends.result c.loop-end.end places (omega arith) c.args.begin c.args.marks.now c.loop-end.marks c.loop-end.invariant.marked)
 
 -- ---- a token in front
 
@@ -146,10 +140,9 @@ mark_arguments-requires t c =
     let all = c.args.arguments.now in
     let from = c.args.from in
     let to = c.args.to in
-    let argument = c.index-arguments-0.result in
-    let others : List Arg = take (length all - 1) (drop 1 all) in
-    let some : 0 < length all = search rules in
-    let split : all ≡ argument ∷ others = split_at_first all argument some c.index-arguments-0.is in
+    let argument = c.in-Some.argument.now in
+    let others = c.in-Some.others.now in
+    let split : all ≡ argument ∷ others = c.in-Some.ensures.cases.0 in
     let end = c.in-Some-token_end.end in
     let E : Option ℕ → Type 0 = IsEndTold p argument from to in
     let told : E (Some end) = subst E c.in-Some-token_end.is c.token_end.ensures in
@@ -164,7 +157,7 @@ mark_arguments-requires t c =
     let C : PosedProblem → Type 0 = λ q. q ≡ p in (
       omega (arith, same_length, c.decreases),
       (
-        subst N (sym c.saturating_sub-ahead.ensures) (line_later p argument others (option_copied c.args.line) (option_copied c.line_here.result) c.args.ahead c.line_here.ensures (ap option_copied c.in_default.is) (subst L split c.requires.line)),
+        subst N (sym c.saturating_sub-ahead.ensures) (line_later p argument others (option_copied c.args.line) (option_copied c.line_here.result) c.args.ahead c.line_here.ensures (ap option_copied c.in_default-line_here.is) (subst L split c.requires.line)),
         (
           known.1,
           (
@@ -190,10 +183,9 @@ returns-in-Some-token_end-clause-laid t c =
     let all = c.args.arguments.now in
     let from = c.args.from in
     let to = c.args.to in
-    let argument = c.index-arguments-0.result in
-    let others : List Arg = take (length all - 1) (drop 1 all) in
-    let some : 0 < length all = search rules in
-    let split : all ≡ argument ∷ others = split_at_first all argument some c.index-arguments-0.is in
+    let argument = c.in-Some.argument.now in
+    let others = c.in-Some.others.now in
+    let split : all ≡ argument ∷ others = c.in-Some.ensures.cases.0 in
     let end = c.in-Some-token_end.end in
     let E : Option ℕ → Type 0 = IsEndTold p argument from to in
     let told : E (Some end) = subst E c.in-Some-token_end.is c.token_end.ensures in
@@ -207,10 +199,9 @@ returns-in-Some-token_end-clause-marked t c =
     let all = c.args.arguments.now in
     let from = c.args.from in
     let to = c.args.to in
-    let argument = c.index-arguments-0.result in
-    let others : List Arg = take (length all - 1) (drop 1 all) in
-    let some : 0 < length all = search rules in
-    let split : all ≡ argument ∷ others = split_at_first all argument some c.index-arguments-0.is in
+    let argument = c.in-Some.argument.now in
+    let others = c.in-Some.others.now in
+    let split : all ≡ argument ∷ others = c.in-Some.ensures.cases.0 in
     let end = c.in-Some-token_end.end in
     let E : Option ℕ → Type 0 = IsEndTold p argument from to in
     let told : E (Some end) = subst E c.in-Some-token_end.is c.token_end.ensures in
@@ -225,10 +216,9 @@ returns-in-None-clause-laid t c =
     let all = c.args.arguments.now in
     let from = c.args.from in
     let to = c.args.to in
-    let argument = c.index-arguments-0.result in
-    let others : List Arg = take (length all - 1) (drop 1 all) in
-    let some : 0 < length all = search rules in
-    let split : all ≡ argument ∷ others = split_at_first all argument some c.index-arguments-0.is in
+    let argument = c.in-Some.argument.now in
+    let others = c.in-Some.others.now in
+    let split : all ≡ argument ∷ others = c.in-Some.ensures.cases.0 in
     let E : Option ℕ → Type 0 = IsEndTold p argument from to in
     let none = none_ends p argument others from to (subst E c.in-None.is c.token_end.ensures) in
     let T : List Arg → Type 0 = λ xs. IsTrue false ↔ Cover p xs from to in
@@ -240,10 +230,9 @@ returns-in-None-clause-marked t c =
     let all = c.args.arguments.now in
     let from = c.args.from in
     let to = c.args.to in
-    let argument = c.index-arguments-0.result in
-    let others : List Arg = take (length all - 1) (drop 1 all) in
-    let some : 0 < length all = search rules in
-    let split : all ≡ argument ∷ others = split_at_first all argument some c.index-arguments-0.is in
+    let argument = c.in-Some.argument.now in
+    let others = c.in-Some.others.now in
+    let split : all ≡ argument ∷ others = c.in-Some.ensures.cases.0 in
     let E : Option ℕ → Type 0 = IsEndTold p argument from to in
     let none = none_ends p argument others from to (subst E c.in-None.is c.token_end.ensures) in
     let T : List Arg → Type 0 = λ xs. AreMarkedFrom c.args.begin c.args.marks.now c.args.marks.now (Demands p xs from to) in
@@ -252,22 +241,20 @@ returns-in-None-clause-marked t c =
 -- ---- the last argument
 
 -- nothing stands behind it
-alone : (all : List Arg) (argument : Arg) → 0 < length all → argument ≡ get_or all 0 argument → length (take (length all - 1) (drop 1 all)) ≡ 0 → all ≡ argument ∷ []
-alone all argument some is none =
-    let others : List Arg = take (length all - 1) (drop 1 all) in
-    split_at_first all argument some is ∙ ap (λ xs. argument ∷ xs) (empty_without others none)
+alone : (all : List Arg) (argument : Arg) (others : List Arg) → all ≡ argument ∷ others → length others ≡ 0 → all ≡ argument ∷ []
+alone all argument others is none = is ∙ ap (λ xs. argument ∷ xs) (empty_without others none)
 
 pub mark_last-requires-clause-counted : goal.mark_last-requires-clause-counted
 mark_last-requires-clause-counted t c =
     let p = c.args.lines.now in
-    let one = alone c.args.arguments.now c.index-arguments-0.result (search rules) c.index-arguments-0.is (search rules) in
+    let one = alone c.args.arguments.now c.in-Some.argument.now c.in-Some.others.now c.in-Some.ensures.cases.0 (search rules) in
     let D : List Arg → Type 0 = λ xs. (cell : Cell) → Demands p xs c.args.from c.args.to cell → IsCounted p.grammar (length p.word) cell in
     subst D one c.requires.counted
 
-pub returns-then-is_empty-2 : goal.returns-then-is_empty-2
-returns-then-is_empty-2 t c =
+pub returns-then-is_empty : goal.returns-then-is_empty
+returns-then-is_empty t c =
     let p = c.args.lines.now in
-    let one = alone c.args.arguments.now c.index-arguments-0.result (search rules) c.index-arguments-0.is (search rules) in
+    let one = alone c.args.arguments.now c.in-Some.argument.now c.in-Some.others.now c.in-Some.ensures.cases.0 (search rules) in
     record {
       laid = subst (λ xs. IsTrue c.mark_last.result ↔ Cover p xs c.args.from c.args.to) (sym one) c.mark_last.ensures.laid;
       marked = subst (λ xs. AreMarkedFrom c.args.begin c.args.marks.now c.mark_last.new.marks (Demands p xs c.args.from c.args.to)) (sym one) c.mark_last.ensures.marked;

@@ -10,47 +10,47 @@ use Rattle.score_numbers.proofs.Greatest.{HasBefore}
 use Rattle.score_numbers.proofs.LargestSums.{AtPlace, IsLargest, SomePlace, all_scattered, largest_entry, least_entry, mark_cases, nothing_yet, read_number, scaled_marked, scaled_scored}
 use Rattle.score_numbers.proofs.sums.greatest_scaled.Goals as goal
 
-pub loop-place-init : goal.loop-place-init
-loop-place-init g c =
+pub loop-position-init : goal.loop-position-init
+loop-position-init g c =
     let Sum : ℕ → ℤ → Type 0 = HasScaledSum c.args.mark c.args.scales (map g.N.Number.value c.args.first.now) (map g.N.Number.value c.args.second.now) in
     let fits_mark : FitsSigned w64 c.args.mark = search rules in
-    simp to_z-of_z (nothing_yet least_entry (AtPlace c.args.places Sum) no_candidate (omega (arith, ints)))
+    simp to_z-of_z (nothing_yet least_entry (AtPlace c.args.positions Sum) no_candidate (omega (arith, ints)))
 
 pub overflow_sub-number : goal.overflow_sub-number
-overflow_sub-number g c = c.requires.have.from_first (get_or c.args.places.at.now c.loop-place.place-index 0) (Contains-get_or c.args.places.at.now c.loop-place.place-index 0 c.loop-place-test.true)
+overflow_sub-number g c = c.requires.have.from_first (get_or c.args.positions.at.now c.loop-position.position-index 0) (Contains-get_or c.args.positions.at.now c.loop-position.position-index 0 c.loop-position-test.true)
 
 pub bounds-second-number : goal.bounds-second-number
 bounds-second-number g c =
-    let place = get_or c.args.places.at.now c.loop-place.place-index 0 in
-    let stands = Contains-get_or c.args.places.at.now c.loop-place.place-index 0 c.loop-place-test.true in
-    omega (arith, c.requires.have.behind place stands, length-map c.args.second.now g.N.Number.value)
+    let position = get_or c.args.positions.at.now c.loop-position.position-index 0 in
+    let stands = Contains-get_or c.args.positions.at.now c.loop-position.position-index 0 c.loop-position-test.true in
+    omega (arith, c.requires.have.behind position stands, length-map c.args.second.now g.N.Number.value)
 
 pub sum-requires : goal.sum-requires
 sum-requires g c =
-    let places = c.args.places in
-    let place = get_or places.at.now c.loop-place.place-index 0 in
-    let stands = Contains-get_or places.at.now c.loop-place.place-index 0 c.loop-place-test.true in
-    let number = number_at places place in
+    let positions = c.args.positions in
+    let position = get_or positions.at.now c.loop-position.position-index 0 in
+    let stands = Contains-get_or positions.at.now c.loop-position.position-index 0 c.loop-position-test.true in
+    let number = number_at positions position in
     let a = c.wide-before.result in
     let b = c.wide-behind.result in
     let there : slice_get (map g.N.Number.value c.args.first.now) number ≡ Some a =
-    read_number g.N.Number.value c.args.first.now number c.index-first-number.result a (c.requires.have.before place stands) c.index-first-number.is c.wide-before.ensures in
+    read_number g.N.Number.value c.args.first.now number c.index-first-number.result a (c.requires.have.before position stands) c.index-first-number.is c.wide-before.ensures in
     let behind : slice_get (map g.N.Number.value c.args.second.now) number ≡ Some b =
-    read_number g.N.Number.value c.args.second.now number c.index-second-number.result b (c.requires.have.behind place stands) c.index-second-number.is c.wide-behind.ensures in
+    read_number g.N.Number.value c.args.second.now number c.index-second-number.result b (c.requires.have.behind position stands) c.index-second-number.is c.wide-behind.ensures in
     let fits_a : FitsSigned w64 a = search rules in
     let fits_b : FitsSigned w64 b = search rules in
     let fits_mark : FitsSigned w64 c.args.mark = search rules in
     simp to_z-of_z (record {
-      low = λ apart apart'. c.requires.low place ((c.args.scales.before *ℤ a) +ℤ (c.args.scales.behind *ℤ b)) stands
+      low = λ apart apart'. c.requires.low position ((c.args.scales.before *ℤ a) +ℤ (c.args.scales.behind *ℤ b)) stands
           (record { first = a; second = b; first_there = there; second_there = behind; first_scores = apart; second_scores = apart'; is = refl });
     })
 
-pub loop-place-preserved : goal.loop-place-preserved
-loop-place-preserved g c =
-    let places = c.args.places in
-    let place = get_or places.at.now c.loop-place.place-index 0 in
-    let stands = Contains-get_or places.at.now c.loop-place.place-index 0 c.loop-place-test.true in
-    let number = number_at places place in
+pub loop-position-preserved : goal.loop-position-preserved
+loop-position-preserved g c =
+    let positions = c.args.positions in
+    let position = get_or positions.at.now c.loop-position.position-index 0 in
+    let stands = Contains-get_or positions.at.now c.loop-position.position-index 0 c.loop-position-test.true in
+    let number = number_at positions position in
     let firsts = map g.N.Number.value c.args.first.now in
     let seconds = map g.N.Number.value c.args.second.now in
     let scales = c.args.scales in
@@ -58,28 +58,28 @@ loop-place-preserved g c =
     let a = c.wide-before.result in
     let b = c.wide-behind.result in
     let there : slice_get firsts number ≡ Some a =
-    read_number g.N.Number.value c.args.first.now number c.index-first-number.result a (c.requires.have.before place stands) c.index-first-number.is c.wide-before.ensures in
+    read_number g.N.Number.value c.args.first.now number c.index-first-number.result a (c.requires.have.before position stands) c.index-first-number.is c.wide-before.ensures in
     let behind : slice_get seconds number ≡ Some b =
-    read_number g.N.Number.value c.args.second.now number c.index-second-number.result b (c.requires.have.behind place stands) c.index-second-number.is c.wide-behind.ensures in
+    read_number g.N.Number.value c.args.second.now number c.index-second-number.result b (c.requires.have.behind position stands) c.index-second-number.is c.wide-behind.ensures in
     let fits_a : FitsSigned w64 a = search rules in
     let fits_b : FitsSigned w64 b = search rules in
     let fits_mark : FitsSigned w64 mark = search rules in
     let fits_entry : FitsSigned w64 c.sum.result = search rules in
     let fits_new : FitsSigned w64 c.max-greatest.result = search rules in
-    let old = to_z w64 c.loop-place.greatest-bits in
+    let old = to_z w64 c.loop-position.greatest-bits in
     let new = to_z w64 (of_z w64 c.max-greatest.result) in
     let max : c.max-greatest.result ≡ int_max old c.sum.result = simp to_z-of_z at c.max-greatest.ensures.value in
     let max_new : new ≡ int_max old c.sum.result = to_z-of_z w64 c.max-greatest.result fits_new ∙ max in
     let marked : (a ≡ mark) ⊎ (b ≡ mark) → c.sum.result ≡ no_candidate = simp to_z-of_z at c.sum.ensures.marked in
     let scored : (a ≡ mark → ⊥) → (b ≡ mark → ⊥) → c.sum.result ≡ ((scales.before *ℤ a) +ℤ (scales.behind *ℤ b)) = simp to_z-of_z at c.sum.ensures.scored in
-    let before : IsLargest least_entry (HasBefore (AtPlace places (HasScaledSum mark scales firsts seconds)) c.loop-place.place-index) old = simp to_z-of_z at c.loop-place.invariant in
-    let at : ℕ → ℕ = λ k. number_at places (get_or places.at.now k 0) in
-    let after : IsLargest least_entry (HasBefore (AtPlace places (HasScaledSum mark scales firsts seconds)) (c.loop-place.place-index + 1)) new =
+    let before : IsLargest least_entry (HasBefore (AtPlace positions (HasScaledSum mark scales firsts seconds)) c.loop-position.position-index) old = simp to_z-of_z at c.loop-position.invariant in
+    let at : ℕ → ℕ = λ k. number_at positions (get_or positions.at.now k 0) in
+    let after : IsLargest least_entry (HasBefore (AtPlace positions (HasScaledSum mark scales firsts seconds)) (c.loop-position.position-index + 1)) new =
     elim (mark_cases mark a b) [
-      | inl e ↦ scaled_marked mark scales firsts seconds at c.loop-place.place-index old new a b c.sum.result max_new there behind before e (marked e)
+      | inl e ↦ scaled_marked mark scales firsts seconds at c.loop-position.position-index old new a b c.sum.result max_new there behind before e (marked e)
       | inr e ↦
-          scaled_scored mark scales firsts seconds at c.loop-place.place-index old new a b c.sum.result max_new there behind before e.0 e.1 (scored e.0 e.1)
-          (c.requires.low place ((scales.before *ℤ a) +ℤ (scales.behind *ℤ b)) stands
+          scaled_scored mark scales firsts seconds at c.loop-position.position-index old new a b c.sum.result max_new there behind before e.0 e.1 (scored e.0 e.1)
+          (c.requires.low position ((scales.before *ℤ a) +ℤ (scales.behind *ℤ b)) stands
           (record { first = a; second = b; first_there = there; second_there = behind; first_scores = e.0; second_scores = e.1; is = refl }))
     ] in
     simp (to_z-of_z w64 c.args.mark) after
@@ -87,10 +87,10 @@ loop-place-preserved g c =
 pub returns : goal.returns
 returns g c =
     let Sum : ℕ → ℤ → Type 0 = HasScaledSum c.args.mark c.args.scales (map g.N.Number.value c.args.first.now) (map g.N.Number.value c.args.second.now) in
-    let all : c.loop-place.place-index ≡ length c.args.places.at.now = omega (arith, c.loop-place-test.false, c.loop-place.auto.place-index-end) in
-    let greatest = to_z w64 c.loop-place.greatest-bits in
+    let all : c.loop-position.position-index ≡ length c.args.positions.at.now = omega (arith, c.loop-position-test.false, c.loop-position.auto.position-index-end) in
+    let greatest = to_z w64 c.loop-position.greatest-bits in
     let fits_mark : FitsSigned w64 c.args.mark = search rules in
     let fits : FitsSigned w64 greatest = search rules in
-    let before : IsLargest least_entry (HasBefore (AtPlace c.args.places Sum) c.loop-place.place-index) greatest = simp to_z-of_z at c.loop-place.invariant in
-    subst (IsGreatestOf (SomePlace c.args.places Sum)) (sym c.score_of.ensures)
-    (largest_entry (SomePlace c.args.places Sum) greatest fits (all_scattered c.args.places Sum least_entry c.loop-place.place-index greatest all before))
+    let before : IsLargest least_entry (HasBefore (AtPlace c.args.positions Sum) c.loop-position.position-index) greatest = simp to_z-of_z at c.loop-position.invariant in
+    subst (IsGreatestOf (SomePlace c.args.positions Sum)) (sym c.score_of.ensures)
+    (largest_entry (SomePlace c.args.positions Sum) greatest fits (all_scattered c.args.positions Sum least_entry c.loop-position.position-index greatest all before))

@@ -6,7 +6,7 @@ use Rattle.score_numbers.proofs.LargestSums.{IsLargest}
 use Rattle.score_numbers.specs.Spaced.{least_sum}
 use Rattle.score_numbers.proofs.sums.greatest_scattered_medium.Given as goal
 
--- the greatest of the sums at the first places
-abbrev pub invariant-loop-place : goal.invariant-loop-place
-invariant-loop-place l =
-    IsLargest (least_sum medium) (HasBefore (λ k. HasSum medium l.first l.second (number_at l.places (get_or l.places.at.now k 0))) l.place-index) l.greatest
+-- the greatest of the sums at the first positions
+abbrev pub invariant-loop-position : goal.invariant-loop-position
+invariant-loop-position l =
+    IsLargest (least_sum medium) (HasBefore (λ k. HasSum medium l.first l.second (number_at l.positions (get_or l.positions.at.now k 0))) l.position-index) l.greatest

@@ -1,0 +1,55 @@
+//! What is worked out of a problem once, for all that evaluate it.
+
+ghost use Rattle.std.specs.Prelude.{◌≡◌, IfOk};
+
+use crate::lines::Lines;
+use adp_model::Problem;
+use cell_tables::Layout;
+use std::alloc::{AllocError, Global};
+use std::marker::Model;
+
+/// The lines of a problem's splits and the layout of its cells. Machines of one problem share it. Contracts see it as
+/// the problem.
+#[derive(Drop)]
+pub struct Prepared<'a> {
+    lines: Lines<'a>,
+    layout: Layout<'a>,
+}
+
+impl<'a> Model for Prepared<'a> {
+    ghost use Rattle.std.specs.Prelude.{◌≡◌};
+    ghost use Rattle.adp_model.specs.PosedProblem.{PosedProblem};
+
+    ghost Value = { PosedProblem };
+
+    ghost view = { λ prepared. prepared.lines };
+
+    ghost invariant = { λ prepared. prepared.layout ≡ prepared.lines };
+}
+
+impl<'a> Prepared<'a> {
+    /// Works both out, with the time and the memory of each. Fails for want of memory alone.
+    pub fn new(alloc: Global, problem: &'a Problem<'a>) -> Result<Prepared<'a>, AllocError>
+        ensures { IfOk result (λ prepared. prepared ≡ problem.now) }
+    {
+        let lines = Lines::new(alloc, problem)?;
+        let layout = Layout::new(alloc, problem)?;
+        Ok(Prepared { lines, layout })
+    }
+
+    /// The lines of its splits. Takes no memory.
+    #[inline(always)]
+    pub fn lines(&self) -> &Lines<'a>
+        ensures { result.now ≡ self.now }
+    {
+        &self.lines
+    }
+
+    /// The layout of its cells. Takes no memory.
+    #[inline(always)]
+    pub fn layout(&self) -> &Layout<'a>
+        ensures { result.now ≡ self.now }
+    {
+        &self.layout
+    }
+}
