@@ -1,9 +1,7 @@
 -- Keys and records are at most as many as demanded cells, and seats.
-use Rattle.std.proofs.Common.{◌≡◌, ℕ, zero, suc, ◌+◌, ◌<◌, ◌≤◌, ◌≢◌, min, List, [], ◌∷◌, length, get_or, sym, refl, ap, ◌∙◌, sum_by, Contains, arith}
+use Rattle.std.proofs.Common.{◌≡◌, ℕ, ◌+◌, ◌<◌, ◌≤◌, min, List, length, get_or, sym, ap, ◌∙◌, arith}
 use mathlib.Core.Logic.{dite}
 use native.Mathlib.Decide.{ℕ_discrete}
-use mathlib.Core.Option.{some}
-use lib.ListN.{get_elem?}
 use Rattle.std.proofs.lemmas.List.{get_or_default}
 use Rattle.atomic_table.specs.Table.{State}
 use Rattle.adp_model.specs.declared.cell.Cell.{Cell}
@@ -12,7 +10,7 @@ use Rattle.memo_words.specs.declared.view.View.{View}
 use Rattle.memo_words.specs.Codes.{cell_code}
 use Rattle.memo_words.specs.CodedCells.{IsCodeOf}
 use Rattle.memo_words.specs.Layout.{Plan, slots_of, counter, key, tally}
-use Rattle.memo_words.specs.Kept.{Kept, Fits, name, filled, share, count_owned}
+use Rattle.memo_words.specs.Kept.{Kept, name}
 use Rattle.memo_words.proofs.Tallies.{tally_le}
 use Rattle.memo_words.proofs.Room.{spread, few_owned}
 

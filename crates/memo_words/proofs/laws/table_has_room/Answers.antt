@@ -1,4 +1,4 @@
-use Rattle.std.proofs.Common.{◌≡◌, ℕ, ◌*◌, ◌≤◌, arith}
+use Rattle.std.proofs.Common.{arith}
 use Rattle.memo_words.proofs.Demands.{few_keys, few_records}
 use Rattle.memo_words.proofs.laws.table_has_room.Goals as goal
 
