@@ -1,7 +1,7 @@
 -- The parts of a closed table, as contracts see them.
-use Rattle.std.proofs.Common.{◌≡◌, ◌≢◌, ◌↔◌, ℕ, ◌+◌, ◌*◌, ◌<◌, ◌≤◌, ◌^◌, Option, Some, None, ℤ, refl, sym, ap, subst, ◌∙◌, arith}
+use Rattle.std.proofs.Common.{◌≡◌, ◌≢◌, ℕ, ◌+◌, ◌<◌, ◌≤◌, Option, Some, None, ℤ, sym, ap, subst, ◌∙◌, arith}
 use mathlib.Core.Logic.{dite}
-use native.Mathlib.Decide.{ℕ_discrete, dec_le}
+use native.Mathlib.Decide.{ℕ_discrete}
 use Rattle.std.proofs.Common.{◌⊎◌, inl, inr, min, add-one}
 use Rattle.adp_model.specs.declared.cell.Answer.{Answer}
 use Rattle.adp_model.specs.declared.cell.Cell.{Cell}
@@ -12,15 +12,14 @@ use Rattle.adp_model.specs.declared.cell.Choice.{Choice as Cuts}
 use Rattle.memo_words.specs.declared.part.Part.{Part}
 use Rattle.memo_words.specs.declared.part.Part.TheVariants as parts
 use Rattle.memo_words.specs.Codes.{HasCellCode, cell_code, HasScoreCode, HasChoiceCode, score_code, choice_code}
-use Rattle.memo_words.specs.CodedCells.{IsCodeOf, answer_word}
-use Rattle.memo_words.specs.Layout.{tally, slots_of, records_of, probed, key, record_word, arena_word}
+use Rattle.memo_words.specs.CodedCells.{answer_word}
+use Rattle.memo_words.specs.Layout.{tally, slots_of, probed, key, record_word, arena_word}
 use Rattle.memo_words.specs.Probes as probes
 use Rattle.memo_words.specs.Kept.{name, IsHeldAt}
 use Rattle.memo_words.specs.Passes.{plan_of, rest_words}
 use Rattle.memo_table.specs.declared.closed.Closed.TheInside.{Inside}
 use Rattle.memo_table.specs.AnswerWords.{HasAnswerWords, answer_of}
-use Rattle.memo_table.specs.ClosedTables.{ClosedTable, closed_table, IsClosedTable, IsSettled, IsAt, IsNowhere, AreWordsOf}
-use Rattle.memo_table.proofs.Places.{position_below}
+use Rattle.memo_table.specs.ClosedTables.{ClosedTable, closed_table, IsClosedTable, IsSettled, IsNowhere, AreWordsOf}
 
 -- a word of a record, read from the rest
 pub word_read : (inside : Inside) (now : ClosedTable) → closed_table inside ≡ now → IsClosedTable inside
@@ -28,7 +27,8 @@ pub word_read : (inside : Inside) (now : ClosedTable) → closed_table inside �
     → arena_word inside.rest.slots inside.rest.records (rest_words inside.rest) part number ≡ answer_word part answer
 word_read inside now here whole part number answer words =
     ap (λ (s : ℕ). arena_word s inside.rest.records (rest_words inside.rest) part number) whole.slots
-    ∙ ap (λ (r : ℕ). arena_word (slots_of (plan_of inside.made_for.value)) r (rest_words inside.rest) part number) whole.records
+    ∙ ap (λ (r : ℕ). arena_word (slots_of (plan_of inside.made_for.value)) r (rest_words inside.rest) part number)
+    whole.records
     ∙ subst (λ (t : ClosedTable). AreWordsOf t number answer) (sym here) words part
 
 pub score_there : (answer : Answer) (code : ℕ) → HasAnswerWords answer → code ≡ answer_word parts.Score answer
@@ -45,7 +45,8 @@ choice_there (Best score choice) code fits word = (Some choice, fits.1, sym word
 
 -- what was read is the answer
 pub read_right : (answer : Answer) (score_word choice_word : ℕ) (score : Option ℤ) (choice : Option Cuts)
-    → HasAnswerWords answer → score_word ≡ answer_word parts.Score answer → choice_word ≡ answer_word parts.Choice answer
+    → HasAnswerWords answer → score_word ≡ answer_word parts.Score answer → choice_word ≡ answer_word parts.Choice
+    answer
     → ((s : Option ℤ) → HasScoreCode s → score_code s ≡ score_word → score ≡ s)
     → ((c : Option Cuts) → HasChoiceCode c → choice_code c ≡ choice_word → choice ≡ c)
     → answer_of score choice ≡ answer
@@ -63,7 +64,8 @@ pub answered_at : (closed : ClosedTable) (cell : Cell) (position : ℕ) → IsSe
     → ((a b : Cell) → HasCellCode a → HasCellCode b → cell_code a ≡ cell_code b → a ≡ b) → HasCellCode cell
     → position < slots_of closed.plan → key closed.words position ≡ cell_code cell
     → 0 < name closed.plan closed.words position
-    → (answer : Answer) × IsAnswer closed.plan.problem cell answer × IsHeldAt closed.plan closed.words position cell answer
+    → (answer : Answer) × IsAnswer closed.plan.problem cell answer × IsHeldAt closed.plan closed.words position cell
+    answer
 answered_at closed cell position settled tell coded inside code some =
     let (other, answer, right, held) = settled.answered position inside some in
     let same : other ≡ cell = tell other cell held.key_is.coded coded (sym held.key_is.same ∙ code) in (
@@ -78,7 +80,8 @@ nowhere_demanded closed cell settled nowhere demanded =
     let (position, answer, held) = (settled.published cell).1 demanded in
     nowhere position held.inside held.key_is.same
 
-pub its_demand : (closed : ClosedTable) (cell : Cell) (position : ℕ) (answer : Answer) → IsSettled closed.plan closed.words
+pub its_demand : (closed : ClosedTable) (cell : Cell) (position : ℕ) (answer : Answer) → IsSettled closed.plan
+    closed.words
     → IsHeldAt closed.plan closed.words position cell answer → IsDemanded closed.plan.problem cell
 its_demand closed cell position answer settled held = (settled.published cell).0 (position, answer, held)
 
@@ -104,7 +107,8 @@ counted_on f position count count' value is (counted, low) (inr (none, same)) =
 -- the first positions of the search hold other codes
 abbrev pub AreOtherKeys : ClosedTable → ℕ → ℕ → Type 0
 AreOtherKeys closed code turn =
-    (j : ℕ) → j < turn → (0 < key closed.words (probed closed.plan code j)) × (key closed.words (probed closed.plan code j) ≢ code)
+    (j : ℕ) → j < turn → (0 < key closed.words (probed closed.plan code j)) ×
+    (key closed.words (probed closed.plan code j) ≢ code)
 
 pub more_others : (closed : ClosedTable) (code turn position found : ℕ) → AreOtherKeys closed code turn
     → position ≡ probed closed.plan code turn → found ≡ key closed.words position → (found ≡ code → ⊥) → (found ≡ 0 → ⊥)
@@ -138,7 +142,8 @@ ends_free closed code turn some settled others free position below here =
 
 -- and so does the last one
 pub ends_full : (closed : ClosedTable) (code turn : ℕ) → slots_of closed.plan ≤ turn → AreOtherKeys closed code turn
-    → ((position : ℕ) → position < slots_of closed.plan → (j : ℕ) × (j < slots_of closed.plan) × (probed closed.plan code j ≡ position))
+    → ((position : ℕ) → position < slots_of closed.plan → (j : ℕ) × (j < slots_of closed.plan) ×
+    (probed closed.plan code j ≡ position))
     → IsNowhere closed code
 ends_full closed code turn all others reached position below here =
     let j = reached position below in
@@ -151,7 +156,8 @@ pub key_read : (inside : Inside) (now : ClosedTable) → closed_table inside ≡
     → key (rest_words inside.rest) position ≡ key now.words position
 key_read inside now here position = ap (λ (t : ClosedTable). key t.words position) here
 
-pub name_read : (inside : Inside) (now : ClosedTable) → closed_table inside ≡ now → IsClosedTable inside → (position : ℕ)
+pub name_read : (inside : Inside) (now : ClosedTable) → closed_table inside ≡ now → IsClosedTable inside →
+    (position : ℕ)
     → record_word inside.rest.slots (rest_words inside.rest) position ≡ name now.plan now.words position
 name_read inside now here whole position =
     ap (λ (s : ℕ). record_word s (rest_words inside.rest) position) whole.slots

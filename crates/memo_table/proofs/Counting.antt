@@ -110,7 +110,8 @@ reached_apart p f count slots below some apart =
         (λ e.
         let y = one_if (p n) i e in
         let z = tally_none (λ k. if p k == i then 1 else 0) n
-        (λ k lt. none_if (p k) i (λ same. let equal = apart k n (omega arith) (omega arith) (same ∙ sym e) in omega (arith, equal, lt))) in
+        (λ k lt. none_if (p k) i (λ same. let equal = apart k n (omega arith) (omega arith) (same ∙ sym e) in omega
+        (arith, equal, lt))) in
         let least = some n (omega arith) in
         let at = ap f e in
         omega (arith, y, z, least, at))

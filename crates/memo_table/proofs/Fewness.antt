@@ -15,7 +15,11 @@ use Rattle.memo_words.specs.Steps.{AreKeys}
 use Rattle.memo_table.specs.Probes.{AreOthers}
 use Rattle.memo_table.proofs.Counting.{different_below}
 
-module _ (plan : Plan) (v : View) (cell : Cell) (turn : ℕ) (keys : AreKeys plan v.keys) (demanded : IsDemanded plan.problem cell) (coded : HasCellCode cell) (cells : List Cell) (all : AreAll (IsDemanded plan.problem) cells) (others : AreOthers plan v cell turn) (tried_once : (code bits i j : ℕ) → i < 2 ^ bits → j < 2 ^ bits → probes.probed code bits i ≡ probes.probed code bits j → i ≡ j) where
+module _ (plan : Plan) (v : View) (cell : Cell) (turn : ℕ) (keys : AreKeys plan v.keys)
+    (demanded : IsDemanded plan.problem cell) (coded : HasCellCode cell) (cells : List Cell)
+    (all : AreAll (IsDemanded plan.problem) cells) (others : AreOthers plan v cell turn)
+    (tried_once : (code bits i j : ℕ) → i < 2 ^ bits → j < 2 ^ bits → probes.probed code bits i ≡
+    probes.probed code bits j → i ≡ j) where
   code_at : ℕ → ℕ
   code_at j = seen_at v.keys (probed plan (cell_code cell) j)
 

@@ -1,5 +1,5 @@
 -- As many record words are filled as cells are demanded.
-use Rattle.std.proofs.Common.{◌≡◌, ◌≢◌, ℕ, zero, suc, ◌+◌, ◌-◌, ◌<◌, ◌≤◌, ◌⊎◌, inl, inr, min, List, length, slice_index_or, Contains, refl, sym, ap, subst, ◌∙◌, arith}
+use Rattle.std.proofs.Common.{◌≡◌, ℕ, zero, suc, ◌+◌, ◌-◌, ◌<◌, ◌≤◌, ◌⊎◌, inl, inr, min, List, length, slice_index_or, refl, sym, ap, subst, ◌∙◌, arith}
 use mathlib.Core.Logic.{dite}
 use native.Mathlib.Decide.{ℕ_discrete, dec_le}
 use Rattle.std.specs.List.{AllAdjacentBelow}
@@ -9,8 +9,8 @@ use Rattle.adp_model.specs.declared.cell.Cell.{Cell}
 use Rattle.adp_model.specs.Cells.{CellPrecedes, AreAll}
 use Rattle.adp_model.specs.Demand.{IsDemanded}
 use Rattle.memo_words.specs.Codes.{HasCellCode, cell_code}
-use Rattle.memo_words.specs.Layout.{Plan, slots_of, key, tally}
-use Rattle.memo_words.specs.Kept.{name, filled, IsHeldAt, IsPublished}
+use Rattle.memo_words.specs.Layout.{Plan, slots_of, key}
+use Rattle.memo_words.specs.Kept.{name, filled}
 use Rattle.memo_table.specs.ClosedTables.{IsSettled}
 use Rattle.memo_table.proofs.Counting.{tally_le, told_apart, reached_apart}
 
@@ -29,7 +29,8 @@ rises cells in_order d i zero low =
     (let e : i + 1 ≡ i + zero + 1 = omega arith in e) (in_order i d (omega arith))
 rises cells in_order d i (suc gap) low =
     let next : i + gap + 1 + 1 ≡ i + suc gap + 1 = omega arith in
-    precedes_on (slice_index_or cells i d) (slice_index_or cells (i + gap + 1) d) (slice_index_or cells (i + suc gap + 1) d)
+    precedes_on (slice_index_or cells i d) (slice_index_or cells (i + gap + 1) d)
+    (slice_index_or cells (i + suc gap + 1) d)
     (rises cells in_order d i gap (omega arith))
     (subst (λ (n : ℕ). CellPrecedes (slice_index_or cells (i + gap + 1) d) (slice_index_or cells n d)) next
     (in_order (i + gap + 1) d (omega arith)))
@@ -50,7 +51,9 @@ one_place cells in_order d i j ilt jlt same =
     let b : j < i → ⊥ = λ less. not_below cells in_order d j i less ilt (sym same) in
     omega (arith, a, b)
 
-module _ (plan : Plan) (words : List ℕ) (cells : List Cell) (all : AreAll (IsDemanded plan.problem) cells) (settled : IsSettled plan words) (tell : (a b : Cell) → HasCellCode a → HasCellCode b → cell_code a ≡ cell_code b → a ≡ b) where
+module _ (plan : Plan) (words : List ℕ) (cells : List Cell) (all : AreAll (IsDemanded plan.problem) cells)
+    (settled : IsSettled plan words) (tell : (a b : Cell) → HasCellCode a → HasCellCode b → cell_code a ≡ cell_code b
+    → a ≡ b) where
   -- the number of the cell, from 1 on, at a position with a record, and 0 elsewhere
   Numbered : ℕ → ℕ → Type 0
   Numbered i n =
@@ -86,22 +89,26 @@ module _ (plan : Plan) (words : List ℕ) (cells : List Cell) (all : AreAll (IsD
       omega (arith, row, apart)
     where
       counts : (i : ℕ) → ((name plan words i ≡ 0) × ((numbered i).0 ≡ 0))
-          ⊎ ((c : Cell) × (0 < (numbered i).0) × ((numbered i).0 ≤ length cells) × (slice_index_or cells ((numbered i).0 - 1) c ≡ c) × (key words i ≡ cell_code c))
+          ⊎ ((c : Cell) × (0 < (numbered i).0) × ((numbered i).0 ≤ length cells) ×
+          (slice_index_or cells ((numbered i).0 - 1) c ≡ c) × (key words i ≡ cell_code c))
           → min (name plan words i) 1 ≤ min (numbered i).0 1
       counts i (inl (none, nought)) = omega (arith, none)
       counts i (inr (c, some, few, at, code)) = omega (arith, some)
 
       low : (i : ℕ) → ((name plan words i ≡ 0) × ((numbered i).0 ≡ 0))
-          ⊎ ((c : Cell) × (0 < (numbered i).0) × ((numbered i).0 ≤ length cells) × (slice_index_or cells ((numbered i).0 - 1) c ≡ c) × (key words i ≡ cell_code c))
+          ⊎ ((c : Cell) × (0 < (numbered i).0) × ((numbered i).0 ≤ length cells) ×
+          (slice_index_or cells ((numbered i).0 - 1) c ≡ c) × (key words i ≡ cell_code c))
           → (numbered i).0 < length cells + 1
       low i (inl (none, nought)) = omega (arith, nought)
       low i (inr (c, some, few, at, code)) = omega (arith, few)
 
       one : (i j : ℕ) → i < slots_of plan → j < slots_of plan → 0 < (numbered i).0 → (numbered i).0 ≡ (numbered j).0
           → ((name plan words i ≡ 0) × ((numbered i).0 ≡ 0))
-          ⊎ ((c : Cell) × (0 < (numbered i).0) × ((numbered i).0 ≤ length cells) × (slice_index_or cells ((numbered i).0 - 1) c ≡ c) × (key words i ≡ cell_code c))
+          ⊎ ((c : Cell) × (0 < (numbered i).0) × ((numbered i).0 ≤ length cells) ×
+          (slice_index_or cells ((numbered i).0 - 1) c ≡ c) × (key words i ≡ cell_code c))
           → ((name plan words j ≡ 0) × ((numbered j).0 ≡ 0))
-          ⊎ ((c : Cell) × (0 < (numbered j).0) × ((numbered j).0 ≤ length cells) × (slice_index_or cells ((numbered j).0 - 1) c ≡ c) × (key words j ≡ cell_code c))
+          ⊎ ((c : Cell) × (0 < (numbered j).0) × ((numbered j).0 ≤ length cells) ×
+          (slice_index_or cells ((numbered j).0 - 1) c ≡ c) × (key words j ≡ cell_code c))
           → i ≡ j
       one i j ilt jlt some same (inl (none, nought)) other = absurd (omega (arith, nought, some))
       one i j ilt jlt some same (inr first) (inl (none, nought)) = absurd (omega (arith, nought, some, same))
@@ -116,7 +123,8 @@ module _ (plan : Plan) (words : List ℕ) (cells : List Cell) (all : AreAll (IsD
   Placed : ℕ → ℕ → Type 0
   Placed k p =
       k < length cells
-      → (c : Cell) × (slice_index_or cells k c ≡ c) × HasCellCode c × (p < slots_of plan) × (0 < name plan words p) × (key words p ≡ cell_code c)
+      → (c : Cell) × (slice_index_or cells k c ≡ c) × HasCellCode c × (p < slots_of plan) × (0 < name plan words p) ×
+      (key words p ≡ cell_code c)
 
   placed : (k : ℕ) → (p : ℕ) × Placed k p
   unfolding Placed
@@ -139,8 +147,10 @@ module _ (plan : Plan) (words : List ℕ) (cells : List Cell) (all : AreAll (IsD
       (λ i j ilt jlt same. one i j ilt jlt same ((placed i).1 ilt) ((placed j).1 jlt))
     where
       one : (i j : ℕ) → i < length cells → j < length cells → (placed i).0 ≡ (placed j).0
-          → (c : Cell) × (slice_index_or cells i c ≡ c) × HasCellCode c × ((placed i).0 < slots_of plan) × (0 < name plan words (placed i).0) × (key words (placed i).0 ≡ cell_code c)
-          → (c : Cell) × (slice_index_or cells j c ≡ c) × HasCellCode c × ((placed j).0 < slots_of plan) × (0 < name plan words (placed j).0) × (key words (placed j).0 ≡ cell_code c)
+          → (c : Cell) × (slice_index_or cells i c ≡ c) × HasCellCode c × ((placed i).0 < slots_of plan) ×
+          (0 < name plan words (placed i).0) × (key words (placed i).0 ≡ cell_code c)
+          → (c : Cell) × (slice_index_or cells j c ≡ c) × HasCellCode c × ((placed j).0 < slots_of plan) ×
+          (0 < name plan words (placed j).0) × (key words (placed j).0 ≡ cell_code c)
           → i ≡ j
       one i j ilt jlt same (a, at_a, coded_a, in_a, full_a, code_a) (b, at_b, coded_b, in_b, full_b, code_b) =
           let codes : cell_code a ≡ cell_code b = sym code_a ∙ ap (key words) same ∙ code_b in

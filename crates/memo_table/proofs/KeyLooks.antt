@@ -68,13 +68,18 @@ exchanged_key words before after position code found own own' e stays = record {
 abbrev pub IsSearching : Next → Type 0
 IsSearching next = (next ≡ Key) ⊎ (next ≡ Claim)
 
-module _ (words : Words) (before after : Pass) (was : Probe) (position found value : ℕ) (own : IsPassOf words before) (follows : Follows was before) (at : position ≡ probed (plan_of words) (cell_code was.cell) was.turn) (step : IsKeyStep words before after position found value) (few : (turn m : ℕ) → AreOthers (plan_of words) (view_of after) was.cell turn → IsDemandedCount (problem_of words) m → turn < m) where
+module _ (words : Words) (before after : Pass) (was : Probe) (position found value : ℕ) (own : IsPassOf words before)
+    (follows : Follows was before) (at : position ≡ probed (plan_of words) (cell_code was.cell) was.turn)
+    (step : IsKeyStep words before after position found value)
+    (few : (turn m : ℕ) → AreOthers (plan_of words) (view_of after) was.cell turn → IsDemandedCount
+    (problem_of words) m → turn < m) where
   inside : position < slots_of (plan_of words)
   inside =
       subst (λ (n : ℕ). n < slots_of (plan_of words)) (sym at)
       (position_below (plan_of words) (cell_code was.cell) was.turn)
 
-  outside : (key_place position < 1 + slots_of (plan_of words)) ⊎ (1 + 2 * slots_of (plan_of words) ≤ key_place position)
+  outside : (key_place position < 1 + slots_of (plan_of words)) ⊎
+      (1 + 2 * slots_of (plan_of words) ≤ key_place position)
   outside = inl (let i = inside in omega arith)
 
   others_before : IsSearching was.next → AreOthers (plan_of words) (view_of before) was.cell was.turn
@@ -101,7 +106,8 @@ module _ (words : Words) (before after : Pass) (was : Probe) (position found val
       → IsLooked words before after was (moved was turn next) Going
   go_on turn next is due still_open fewer some_left =
       going words before after was (moved was turn next) (key_place position) found step.own step.on step.quiet outside
-      refl (follows_now words before after was turn next own follows step.on due) (no_load is) fewer still_open some_left
+      refl (follows_now words before after was turn next own follows step.on due) (no_load is) fewer still_open
+      some_left
 
   -- the position is free
   pub free_position : was.next ≡ Key → IsLooked words before after was (moved was was.turn Claim) Going
@@ -116,7 +122,8 @@ module _ (words : Words) (before after : Pass) (was : Probe) (position found val
       → IsLooked words before after was (moved was was.turn RecordWord) Going
   own_position is code =
       let some : value ≢ 0 = λ none. omega arith in
-      let here : seen_at (view_of after).keys (probed (plan_of words) (cell_code was.cell) was.turn) ≡ cell_code was.cell =
+      let here : seen_at (view_of after).keys (probed (plan_of words) (cell_code was.cell) was.turn) ≡ cell_code
+      was.cell =
       ap (seen_at (view_of after).keys) (sym at) ∙ step.now some ∙ code in
       go_on was.turn RecordWord is here refl
       (λ m count. let low = at_least m is in let less = few was.turn m (others_after is) count in omega arith)

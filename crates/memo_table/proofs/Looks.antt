@@ -43,7 +43,12 @@ due_here words pass was next own follows is =
     (one_plan was.words.value words pass follows.own own)
     (subst (λ (n : Next). IsDue (plan_of was.words.value) pass was.cell was.turn n) is follows.due)
 
-module _ (words : Words) (before after : Pass) (was now : Probe) (word found : ℕ) (own : IsPassOf words after) (on : PassGoesOn before after) (quiet : IsQuiet (view_of before) (view_of after) word found) (outside : (word < 1 + slots_of (plan_of words)) ⊎ (1 + 2 * slots_of (plan_of words) ≤ word)) (same_cell : now.cell ≡ was.cell) (follows : Follows now after) (no_load : loads_record was.next ≡ false) (fewer : (m : ℕ) → IsDemandedCount (problem_of words) m → steps_left m now.turn now.next < steps_left m was.turn was.next) where
+module _ (words : Words) (before after : Pass) (was now : Probe) (word found : ℕ) (own : IsPassOf words after)
+    (on : PassGoesOn before after) (quiet : IsQuiet (view_of before) (view_of after) word found)
+    (outside : (word < 1 + slots_of (plan_of words)) ⊎ (1 + 2 * slots_of (plan_of words) ≤ word))
+    (same_cell : now.cell ≡ was.cell) (follows : Follows now after) (no_load : loads_record was.next ≡ false)
+    (fewer : (m : ℕ) → IsDemandedCount (problem_of words) m → steps_left m now.turn now.next < steps_left
+    m was.turn was.next) where
   off : (f : ℕ) → IsOnRecordWord table_meaning after was.cell f → ⊥
   off = off_record after (plan_of words) was.cell word found own.plan quiet.last outside
 

@@ -30,7 +30,11 @@ pub first_or_rest : (xs : List Cell) (y x : Cell) → Contains (y ∷ xs) x → 
 first_or_rest xs y x (zero, inside, here) = inl here
 first_or_rest xs y x (suc k, inside, here) = inr (k, omega arith, here)
 
-module _ (words : Words) (before after : Pass) (was : Probe) (position found : ℕ) (own : IsPassOf words before) (follows : Follows was before) (is : was.next ≡ RecordWord) (at : position ≡ probed (plan_of words) (cell_code was.cell) was.turn) (own' : IsPassOf words after) (e : view_of after ≡ record_loaded (plan_of words) position found (view_of before)) (stays : StaySeen (view_of before).names (view_of after).names) where
+module _ (words : Words) (before after : Pass) (was : Probe) (position found : ℕ) (own : IsPassOf words before)
+    (follows : Follows was before) (is : was.next ≡ RecordWord)
+    (at : position ≡ probed (plan_of words) (cell_code was.cell) was.turn) (own' : IsPassOf words after)
+    (e : view_of after ≡ record_loaded (plan_of words) position found (view_of before))
+    (stays : StaySeen (view_of before).names (view_of after).names) where
   inside : position < slots_of (plan_of words)
   inside =
       subst (λ (n : ℕ). n < slots_of (plan_of words)) (sym at)
@@ -132,7 +136,8 @@ module _ (words : Words) (before after : Pass) (was : Probe) (position found : �
         look = (
           refl,
           λ other has not. other_known other not
-              (first_or_rest (view_of before).known was.cell other (subst (λ (l : List Cell). Contains l other) known has)),
+              (first_or_rest (view_of before).known was.cell other
+              (subst (λ (l : List Cell). Contains l other) known has)),
         );
         loads = ((λ load. (found, there_now)), λ there'. loads);
         unpublished = ((λ e'. cc), λ there'. absurd (some (found_is 0 there')));

@@ -39,7 +39,8 @@ found_at (Some access) = access.found
 same_plan : (a b : Plan) → Some a ≡ Some b → a ≡ b
 same_plan a b e = cc
 
-module _ (pass : Pass) (plan : Plan) (cell : Cell) (word found : ℕ) (plan_is : (view_of pass).plan ≡ Some plan) (last : (view_of pass).last ≡ last_at word found) where
+module _ (pass : Pass) (plan : Plan) (cell : Cell) (word found : ℕ) (plan_is : (view_of pass).plan ≡ Some plan)
+    (last : (view_of pass).last ≡ last_at word found) where
   one_access : (access : Access) → access_of (view_of pass).last ≡ Some access
       → access_of (last_at word found) ≡ Some access
   one_access access e = sym (ap access_of last) ∙ e
@@ -65,8 +66,18 @@ module _ (pass : Pass) (plan : Plan) (cell : Cell) (word found : ℕ) (plan_is :
   -- a step on the cell's record word
   pub on_record : (position : ℕ) → word ≡ record_place (slots_of plan) position → position < slots_of plan
       → seen_at (view_of pass).keys position ≡ cell_code cell → IsOnRecordWord table_meaning pass cell found
-  on_record position at inside seen =
-      (word, record { plan = plan; plan_is = plan_is; position = position; inside = inside; seen = seen; word_is = at }, ap access_of last)
+  on_record position at inside seen = (
+    word,
+    record {
+      plan = plan;
+      plan_is = plan_is;
+      position = position;
+      inside = inside;
+      seen = seen;
+      word_is = at;
+    },
+    ap access_of last,
+  )
 
   -- and the value that it found
   pub found_there : (f : ℕ) → IsOnRecordWord table_meaning pass cell f → found ≡ f

@@ -34,7 +34,11 @@ use Rattle.memo_table.proofs.Looks.{moved, follows_now, due_here}
 use Rattle.memo_table.proofs.NameLooks.{there, first_or_rest}
 
 -- a step off the record words that goes on
-module _ (words : Words) (before after : Pass) (was : Probe) (next : Next) (word found : ℕ) (own : IsPassOf words before) (follows : Follows was before) (own' : IsPassOf words after) (on : PassGoesOn before after) (quiet : IsQuiet (view_of before) (view_of after) word found) (outside : (word < 1 + slots_of (plan_of words)) ⊎ (1 + 2 * slots_of (plan_of words) ≤ word)) (due : IsDue (plan_of words) after was.cell was.turn next) where
+module _ (words : Words) (before after : Pass) (was : Probe) (next : Next) (word found : ℕ)
+    (own : IsPassOf words before) (follows : Follows was before) (own' : IsPassOf words after)
+    (on : PassGoesOn before after) (quiet : IsQuiet (view_of before) (view_of after) word found)
+    (outside : (word < 1 + slots_of (plan_of words)) ⊎ (1 + 2 * slots_of (plan_of words) ≤ word))
+    (due : IsDue (plan_of words) after was.cell was.turn next) where
   off : (f : ℕ) → IsOnRecordWord table_meaning after was.cell f → ⊥
   off = off_record after (plan_of words) was.cell word found own'.plan quiet.last outside
 
@@ -81,7 +85,8 @@ reserved words before after was number own follows is own' e hand =
     subst (λ (v : View). 0 < owns number v.owned) (sym e) owned in
     goes_on words before after was StoreScore 0 number own follows own' on quiet (inl (omega arith))
     (stands, (number, record { hand = hand; owned = owned' })) refl
-    (λ m. let four : steps_left m was.turn was.next ≡ 4 = ap (steps_left m was.turn) is in omega arith) (λ m. omega arith)
+    (λ m. let four : steps_left m was.turn was.next ≡ 4 = ap (steps_left m was.turn) is in omega arith)
+    (λ m. omega arith)
 
 same_number : (m n : ℕ) → Some m ≡ Some n → m ≡ n
 same_number m n e = cc
@@ -141,14 +146,19 @@ arena_is_behind : (plan : Plan) (part : Part) (number : ℕ)
 arena_is_behind plan parts.Score number = omega arith
 arena_is_behind plan parts.Choice number = omega arith
 
-module _ (words : Words) (before after : Pass) (was : Probe) (part : Part) (number code : ℕ) (own : IsPassOf words before) (in_hand : IsHand before number) (follows : Follows was before) (own' : IsPassOf words after) (e : view_of after ≡ arena_stored (plan_of words) part number code (view_of before)) (hand : hand_of after ≡ hand_of before) where
-  quiet : IsQuiet (view_of before) (view_of after) (arena_place (slots_of (plan_of words)) (records_of (plan_of words)) part number) code
+module _ (words : Words) (before after : Pass) (was : Probe) (part : Part) (number code : ℕ)
+    (own : IsPassOf words before) (in_hand : IsHand before number) (follows : Follows was before)
+    (own' : IsPassOf words after) (e : view_of after ≡ arena_stored (plan_of words) part number code
+    (view_of before)) (hand : hand_of after ≡ hand_of before) where
+  quiet : IsQuiet (view_of before) (view_of after)
+      (arena_place (slots_of (plan_of words)) (records_of (plan_of words)) part number) code
   quiet = arena_store_is_quiet (view_of before) (view_of after) (plan_of words) part number code e
 
   on : PassGoesOn before after
   on =
       sees_nothing words before after own own'
-      (known_on (view_of before) (view_of after) (arena_place (slots_of (plan_of words)) (records_of (plan_of words)) part number) code quiet)
+      (known_on (view_of before) (view_of after)
+      (arena_place (slots_of (plan_of words)) (records_of (plan_of words)) part number) code quiet)
       (ap (λ (v : View). v.keys) e) (ap (λ (v : View). v.names) e)
 
   owned_is : (view_of after).owned ≡ with_stored part number code (view_of before).owned
@@ -210,7 +220,8 @@ score_stored words before after was number code answer own in_hand follows is ri
     let mine = some_owned number (view_of before).owned in_hand.owned in
     store_on words before after was parts.Score number code own in_hand follows own' e hand StoreChoice (
       stands_now words before after was parts.Score number code own in_hand follows own' e hand stands,
-      filled words before after was parts.Score number code own in_hand follows own' e hand IsScorePart answer mine.0 right mine.1 mine.2 (score_filled mine.0 code answer same),
+      filled words before after was parts.Score number code own in_hand follows own' e hand IsScorePart answer mine.0
+          right mine.1 mine.2 (score_filled mine.0 code answer same),
     )
     refl less (λ m. omega arith)
   where
@@ -244,10 +255,12 @@ choice_stored words before after was number code answer own in_hand follows is r
     let due = due_here words before was StoreChoice own follows is in
     let had = due.1 in
     let number_is = had.number_is ∙ same_number had.number number (sym had.hand.hand ∙ in_hand.hand) in
-    let score = had.words parts.Score tt ∙ ap (answer_word parts.Score) (unique had.answer answer had.is_answer right) in
+    let score = had.words parts.Score tt ∙ ap (answer_word parts.Score) (unique had.answer answer had.is_answer right)
+    in
     store_on words before after was parts.Choice number code own in_hand follows own' e hand Publish (
       stands_now words before after was parts.Choice number code own in_hand follows own' e hand due.0,
-      filled words before after was parts.Choice number code own in_hand follows own' e hand (λ part. Unit {0}) answer had.owned right had.mine number_is (both_filled had.owned code answer score same),
+      filled words before after was parts.Choice number code own in_hand follows own' e hand (λ part. Unit {0}) answer
+          had.owned right had.mine number_is (both_filled had.owned code answer score same),
     )
     refl
     (λ m. let two : steps_left m was.turn was.next ≡ 2 = ap (steps_left m was.turn) is in omega arith)
@@ -255,7 +268,10 @@ choice_stored words before after was number code answer own in_hand follows is r
 
 -- ---- the record word
 
-module _ (words : Words) (before after : Pass) (was : Probe) (position number found : ℕ) (own : IsPassOf words before) (follows : Follows was before) (is : was.next ≡ Publish) (at : position ≡ probed (plan_of words) (cell_code was.cell) was.turn) (own' : IsPassOf words after) (e : view_of after ≡ record_exchanged (plan_of words) position number found (view_of before)) where
+module _ (words : Words) (before after : Pass) (was : Probe) (position number found : ℕ) (own : IsPassOf words before)
+    (follows : Follows was before) (is : was.next ≡ Publish)
+    (at : position ≡ probed (plan_of words) (cell_code was.cell) was.turn) (own' : IsPassOf words after)
+    (e : view_of after ≡ record_exchanged (plan_of words) position number found (view_of before)) where
   position_inside : position < slots_of (plan_of words)
   position_inside =
       subst (λ (n : ℕ). n < slots_of (plan_of words)) (sym at)

@@ -69,7 +69,8 @@ own_on here v w before after words own = record {
   plan = after.plan ∙ sym before.plan ∙ own.plan;
 }
 
-module _ (words : Words) (v w : Pass) (before : IsPassOf words v) (after : IsPassOf words w) (known : (cell : Cell) → Contains (view_of v).known cell → Contains (view_of w).known cell) where
+module _ (words : Words) (v w : Pass) (before : IsPassOf words v) (after : IsPassOf words w)
+    (known : (cell : Cell) → Contains (view_of v).known cell → Contains (view_of w).known cell) where
   -- a step that sees a key
   pub sees_key : StaySeen (view_of v).keys (view_of w).keys → (view_of w).names ≡ (view_of v).names → PassGoesOn v w
   sees_key stays names = record {

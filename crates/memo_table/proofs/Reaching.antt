@@ -2,7 +2,6 @@
 use Rattle.std.proofs.Common.{◌≡◌, ℕ, ◌+◌, ◌-◌, ◌<◌, ◌≤◌, ◌%◌, ◌^◌, ◌⊎◌, inl, inr, sym, ap, ◌∙◌, arith}
 use Rattle.std.proofs.Math.Nat.{add-mod_right, mod-eq_of_lt, mod-lt}
 use native.Mathlib.Nat.{mod-add-mod}
-use Rattle.std.proofs.lemmas.Nat.{pow_pos}
 use Rattle.memo_words.specs.Probes.{home, probed}
 
 reach : (h m p : ℕ) → p < m → (j : ℕ) × (j < m) × ((h + j) % m ≡ p)
@@ -13,8 +12,12 @@ reach h m p below =
     let itself : p % m ≡ p = mod-eq_of_lt below in
     elim cases [
       | inl before ↦
-          let around : s + (p + (m - s)) ≡ p + m = omega arith in
-          (p + (m - s), omega arith, sym (mod-add-mod h m (p + (m - s))) ∙ ap (λ (n : ℕ). n % m) around ∙ add-mod_right p m ∙ itself)
+          let around : s + (p + (m - s)) ≡ p + m = omega arith in (
+            p + (m - s),
+            omega arith,
+            sym (mod-add-mod h m (p + (m - s))) ∙ ap (λ (n : ℕ). n % m) around ∙
+                add-mod_right p m ∙ itself,
+          )
       | inr behind ↦
           let there : s + (p - s) ≡ p = omega arith in
           (p - s, omega arith, sym (mod-add-mod h m (p - s)) ∙ ap (λ (n : ℕ). n % m) there ∙ itself)

@@ -66,7 +66,11 @@ arena_is_behind : (plan : Plan) (part : Part) (number : ℕ)
 arena_is_behind plan parts.Score number = omega arith
 arena_is_behind plan parts.Choice number = omega arith
 
-module _ (words : Words) (before after : Pass) (was : Probe) (part : Part) (number code : ℕ) (own : IsPassOf words before) (follows : Follows was before) (seen : IsSeenNamed (plan_of words) (view_of before) was.cell was.turn number) (no_load : loads_record was.next ≡ false) (own' : IsPassOf words after) (e : view_of after ≡ arena_loaded (plan_of words) part number code (view_of before)) where
+module _ (words : Words) (before after : Pass) (was : Probe) (part : Part) (number code : ℕ)
+    (own : IsPassOf words before) (follows : Follows was before)
+    (seen : IsSeenNamed (plan_of words) (view_of before) was.cell was.turn number)
+    (no_load : loads_record was.next ≡ false) (own' : IsPassOf words after)
+    (e : view_of after ≡ arena_loaded (plan_of words) part number code (view_of before)) where
   abbrev word : ℕ
   word = arena_place (slots_of (plan_of words)) (records_of (plan_of words)) part number
 

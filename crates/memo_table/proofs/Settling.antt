@@ -1,19 +1,18 @@
 -- What is left of the rule of a table when it is closed.
-use Rattle.std.proofs.Common.{◌≡◌, ◌≢◌, ◌↔◌, ℕ, zero, suc, ◌+◌, ◌-◌, ◌<◌, ◌≤◌, ◌==◌, ◌⊎◌, inl, inr, if◌then◌else◌, List, [], ◌∷◌, Contains, sum_by, refl, sym, ap, subst, ◌∙◌, arith}
+use Rattle.std.proofs.Common.{◌≡◌, ℕ, zero, suc, ◌+◌, ◌-◌, ◌<◌, ◌≤◌, ◌==◌, ◌⊎◌, inl, inr, if◌then◌else◌, List, [], ◌∷◌, Contains, sum_by, refl, sym, ap, subst, ◌∙◌, arith}
 use mathlib.Core.Logic.{dite}
 use native.Mathlib.Decide.{ℕ_discrete, dec_le}
 use mathlib.Core.Option.{some, some-injective, some-ne-none}
 use lib.ListN.{get_elem?}
 use Rattle.std.proofs.lemmas.List.Elements.{All-contains}
 use Rattle.std.proofs.lemmas.List.Sums.{sum_by-cons}
-use Rattle.adp_model.specs.declared.cell.Answer.{Answer}
 use Rattle.adp_model.specs.declared.cell.Cell.{Cell}
 use Rattle.adp_model.specs.PosedProblem.{PosedProblem, axiom_cell}
 use Rattle.adp_model.specs.Demand.{IsDemanded, IsDemandedChild, Axiom, Child}
 use Rattle.memo_words.specs.declared.view.View.{View}
 use Rattle.memo_words.specs.Codes.{HasCellCode, cell_code}
-use Rattle.memo_words.specs.Layout.{Plan, slots_of, records_of, key, counter, tally}
-use Rattle.memo_words.specs.Kept.{Kept, Fits, IsHeldAt, IsPublished, StandsAt, name, named, filled, wins_of}
+use Rattle.memo_words.specs.Layout.{Plan, slots_of, records_of, key, counter}
+use Rattle.memo_words.specs.Kept.{IsPublished, name, filled, wins_of}
 use Rattle.memo_words.specs.Steps.{IsClosing}
 use Rattle.memo_table.specs.ClosedTables.{ClosedTable, IsSettled, IsHeldOnce}
 use Rattle.memo_table.proofs.Counting.{one_if, tally_at}
@@ -47,10 +46,12 @@ only_one f (x ∷ xs) zero v mine others =
 only_one f (x ∷ xs) (suc at) v mine others =
     let s = sum_by-cons f x xs in
     let first = others zero x refl (λ e. let z : zero ≡ suc at = e in omega arith) in
-    let rest = only_one f xs at v mine (λ i w is other. others (suc i) w is (λ e. other (let z : suc i ≡ suc at = e in omega arith))) in
+    let rest = only_one f xs at v mine (λ i w is other. others (suc i) w is
+    (λ e. other (let z : suc i ≡ suc at = e in omega arith))) in
     omega (arith, s, first, rest)
 
-module _ (plan : Plan) (v : View) (words : List ℕ) (tell : (a b : Cell) → HasCellCode a → HasCellCode b → cell_code a ≡ cell_code b → a ≡ b) where
+module _ (plan : Plan) (v : View) (words : List ℕ)
+    (tell : (a b : Cell) → HasCellCode a → HasCellCode b → cell_code a ≡ cell_code b → a ≡ b) where
   module _ (closing : IsClosing plan v words) where
     few : (position : ℕ) → position < slots_of plan → name plan closing.state.words position ≤ records_of plan
     few position inside =
@@ -66,7 +67,8 @@ module _ (plan : Plan) (v : View) (words : List ℕ) (tell : (a b : Cell) → Ha
         let here : name plan closing.state.words position ≡ number + 1 =
         let n : (name plan closing.state.words position ≡ 0) → ⊥ = some in omega (arith, n) in
         let one = one_if (name plan closing.state.words position) (number + 1) here in
-        let some_name = tally_at (λ q. if name plan closing.state.words q == number + 1 then 1 else 0) position (slots_of plan) inside in
+        let some_name = tally_at (λ q. if name plan closing.state.words q == number + 1 then 1 else 0) position
+        (slots_of plan) inside in
         absurd (omega (arith, free, one, some_name))))
 
     demanded_if : (cell : Cell) → IsPublished plan closing.state.words cell → IsDemanded plan.problem cell
@@ -81,7 +83,8 @@ module _ (plan : Plan) (v : View) (words : List ℕ) (tell : (a b : Cell) → Ha
         → (cell : Cell) → IsDemanded plan.problem cell → IsPublished plan closing.state.words cell
     published_if (inl knows) cell demanded =
         reaches plan.problem (IsPublished plan closing.state.words)
-        (All-contains (IsPublished plan closing.state.words) v.known (axiom_cell plan.problem) (closing.kept.each closing.at v closing.mine).known knows)
+        (All-contains (IsPublished plan closing.state.words) v.known (axiom_cell plan.problem)
+        (closing.kept.each closing.at v closing.mine).known knows)
         closing.kept.closed cell demanded
     published_if (inr none) cell demanded = absurd (none cell demanded)
 
@@ -101,7 +104,8 @@ module _ (plan : Plan) (v : View) (words : List ℕ) (tell : (a b : Cell) → Ha
         (λ i w is other.
         let fits = closing.kept.each i w is in
         dite (ℕ_discrete w.weight 0) (λ none. (fits.spent none).1)
-        (λ some. let full : 0 < w.weight = let n : (w.weight ≡ 0) → ⊥ = some in omega (arith, n) in absurd (other (closing.alone i w is full)))))
+        (λ some. let full : 0 < w.weight = let n : (w.weight ≡ 0) → ⊥ = some in omega (arith, n) in absurd
+        (other (closing.alone i w is full)))))
         ∙ closing.kept.wins
 
   pub settled : IsClosing plan v words

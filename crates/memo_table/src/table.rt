@@ -6,8 +6,8 @@ use std::marker::Model;
 use std::snapshot::Snapshot;
 use std::sync::ledger::Ledger;
 
-/// A table of the answers of a problem's demanded cells, which several passes fill and read. A cell is found by its key,
-/// and its answer stands in a record. Contracts see the table's words.
+/// A table of the answers of a problem's demanded cells, which several passes fill and read. A cell is found by its
+/// key, and its answer stands in a record. Contracts see the table's words.
 #[derive(Drop)]
 pub struct Table {
     pub(crate) words: Words,

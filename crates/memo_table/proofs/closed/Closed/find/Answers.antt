@@ -1,6 +1,6 @@
-use Rattle.std.proofs.Common.{◌≡◌, ◌<◌, ◌≤◌, ℕ, ap, subst, sym, ◌∙◌, arith}
-use Rattle.memo_words.specs.Layout.{slots_of, probed, key}
-use Rattle.memo_words.specs.Passes.{plan_of, rest_words}
+use Rattle.std.proofs.Common.{◌≤◌, ℕ, ap, subst, sym, ◌∙◌}
+use Rattle.memo_words.specs.Layout.{key}
+use Rattle.memo_words.specs.Passes.{plan_of}
 use Rattle.memo_table.proofs.Places.{bits_fit}
 use Rattle.memo_table.proofs.ClosedParts.{key_read, position_read, slots_read, more_others, ends_free, ends_full}
 use Rattle.memo_table.proofs.closed.Closed.find.Goals as goal
@@ -12,8 +12,10 @@ nth_position-position-requires c =
 
 pub returns-then-key-eq0 : goal.returns-then-key-eq0
 returns-then-key-eq0 c =
-    let at = c.nth_position-position.ensures.probed ∙ position_read c.self.inside c.args.self.now c.self.view_is c.self.invariant c.args.code c.loop-turn.turn in
-    let found = c.key-key.ensures ∙ key_read c.self.inside c.args.self.now c.self.view_is c.nth_position-position.result in
+    let at = c.nth_position-position.ensures.probed ∙ position_read c.self.inside c.args.self.now c.self.view_is
+    c.self.invariant c.args.code c.loop-turn.turn in
+    let found = c.key-key.ensures ∙ key_read c.self.inside c.args.self.now c.self.view_is
+    c.nth_position-position.result in
     ends_free c.args.self.now c.args.code c.loop-turn.turn c.requires c.settled.ensures.settled c.loop-turn.invariant
     (ap (key c.args.self.now.words) (sym at) ∙ sym found ∙ c.if-key-eq0.true)
 
@@ -21,7 +23,8 @@ pub loop-turn-preserved : goal.loop-turn-preserved
 loop-turn-preserved c =
     more_others c.args.self.now c.args.code c.loop-turn.turn c.nth_position-position.result c.key-key.result
     c.loop-turn.invariant
-    (c.nth_position-position.ensures.probed ∙ position_read c.self.inside c.args.self.now c.self.view_is c.self.invariant c.args.code c.loop-turn.turn)
+    (c.nth_position-position.ensures.probed ∙ position_read c.self.inside c.args.self.now c.self.view_is
+    c.self.invariant c.args.code c.loop-turn.turn)
     (c.key-key.ensures ∙ key_read c.self.inside c.args.self.now c.self.view_is c.nth_position-position.result)
     c.if-key-code.false c.if-key-eq0.false
 

@@ -1,4 +1,4 @@
-use Rattle.std.proofs.Common.{◌≡◌, ◌<◌, ◌≤◌, ℕ, min}
+use Rattle.std.proofs.Common.{◌≡◌, ◌≤◌, min}
 use Rattle.memo_words.specs.Layout.{tally}
 use Rattle.memo_words.specs.Kept.{name}
 use Rattle.memo_table.proofs.closed.Closed.len.Given as goal

@@ -8,8 +8,10 @@ pub overflow_add-probe : goal.overflow_add-probe
 overflow_add-probe g c =
     let e = c.key_exchange_step-found.ensures in
     let r = c.requires in
-    let step = exchanged_here c.self.inside.words c.args.self.now c.self.view_is c.args.pass.now c.key_exchange_step-found.new.pass _ _ _ r.own e.own e.view e.stays in
-    let fits = next_turn c.self.inside.words c.args.self.now c.self.view_is c.args.pass.now c.key_exchange_step-found.new.pass c.args.probe.now r.own r.follows c.planned.ensures.planned
+    let step = exchanged_here c.self.inside.words c.args.self.now c.self.view_is c.args.pass.now
+    c.key_exchange_step-found.new.pass _ _ _ r.own e.own e.view e.stays in
+    let fits = next_turn c.self.inside.words c.args.self.now c.self.view_is c.args.pass.now
+    c.key_exchange_step-found.new.pass c.args.probe.now r.own r.follows c.planned.ensures.planned
     c.planned.ensures.admissible e.keys c.other_cells_are_fewer.ensures.limit step.on (inr r.claim) in
     omega arith
 
@@ -17,10 +19,13 @@ pub returns-then-found-cell_code-clause-looked : goal.returns-then-found-cell_co
 returns-then-found-cell_code-clause-looked g c =
     let e = c.key_exchange_step-found.ensures in
     let r = c.requires in
-    let step = exchanged_here c.self.inside.words c.args.self.now c.self.view_is c.args.pass.now c.key_exchange_step-found.new.pass _ _ _ r.own e.own e.view e.stays in
-    let few = few_here c.self.inside.words c.args.self.now c.self.view_is c.args.pass.now c.key_exchange_step-found.new.pass c.args.probe.now r.own r.follows c.planned.ensures.planned
+    let step = exchanged_here c.self.inside.words c.args.self.now c.self.view_is c.args.pass.now
+    c.key_exchange_step-found.new.pass _ _ _ r.own e.own e.view e.stays in
+    let few = few_here c.self.inside.words c.args.self.now c.self.view_is c.args.pass.now
+    c.key_exchange_step-found.new.pass c.args.probe.now r.own r.follows c.planned.ensures.planned
     e.keys c.other_cells_are_fewer.ensures.demanded in
-    own_position c.args.self.now c.args.pass.now c.key_exchange_step-found.new.pass c.args.probe.now _ _ _ r.own r.follows c.position-position.ensures.position step few (inr r.claim)
+    own_position c.args.self.now c.args.pass.now c.key_exchange_step-found.new.pass c.args.probe.now _ _ _ r.own
+    r.follows c.position-position.ensures.position step few (inr r.claim)
     (elim c.if-found-eq0.branch [
       | then-found-eq0 w ↦ if_equal _ 0 _ _ w.if-found-eq0.true
       | else-found-eq0 w ↦
@@ -32,18 +37,23 @@ pub returns-else-found-cell_code-clause-looked : goal.returns-else-found-cell_co
 returns-else-found-cell_code-clause-looked g c =
     let e = c.key_exchange_step-found.ensures in
     let r = c.requires in
-    let step = exchanged_here c.self.inside.words c.args.self.now c.self.view_is c.args.pass.now c.key_exchange_step-found.new.pass _ _ _ r.own e.own e.view e.stays in
-    let few = few_here c.self.inside.words c.args.self.now c.self.view_is c.args.pass.now c.key_exchange_step-found.new.pass c.args.probe.now r.own r.follows c.planned.ensures.planned
+    let step = exchanged_here c.self.inside.words c.args.self.now c.self.view_is c.args.pass.now
+    c.key_exchange_step-found.new.pass _ _ _ r.own e.own e.view e.stays in
+    let few = few_here c.self.inside.words c.args.self.now c.self.view_is c.args.pass.now
+    c.key_exchange_step-found.new.pass c.args.probe.now r.own r.follows c.planned.ensures.planned
     e.keys c.other_cells_are_fewer.ensures.demanded in
-    other_position c.args.self.now c.args.pass.now c.key_exchange_step-found.new.pass c.args.probe.now _ _ _ r.own r.follows c.position-position.ensures.position step few (inr r.claim)
+    other_position c.args.self.now c.args.pass.now c.key_exchange_step-found.new.pass c.args.probe.now _ _ _ r.own
+    r.follows c.position-position.ensures.position step few (inr r.claim)
     (elim c.if-found-eq0.branch [
       | then-found-eq0 w ↦
-          let both : true ≡ false = sym (eq-eqb _ 0 w.if-found-eq0.true) ∙ sym w.value-is ∙ c.if-found-cell_code.false in cc
+          let both : true ≡ false = sym (eq-eqb _ 0 w.if-found-eq0.true) ∙ sym w.value-is ∙ c.if-found-cell_code.false
+          in cc
       | else-found-eq0 w ↦ λ none. w.if-found-eq0.false (sym (if_other _ 0 _ _ w.if-found-eq0.false) ∙ none)
     ])
     (elim c.if-found-eq0.branch [
       | then-found-eq0 w ↦
-          let both : true ≡ false = sym (eq-eqb _ 0 w.if-found-eq0.true) ∙ sym w.value-is ∙ c.if-found-cell_code.false in cc
+          let both : true ≡ false = sym (eq-eqb _ 0 w.if-found-eq0.true) ∙ sym w.value-is ∙ c.if-found-cell_code.false
+          in cc
       | else-found-eq0 w ↦ λ same.
           let equal = sym (if_other _ 0 _ _ w.if-found-eq0.false) ∙ same ∙ sym w.cell_code.ensures in
           let both : true ≡ false = sym (eq-eqb _ _ equal) ∙ sym w.value-is ∙ c.if-found-cell_code.false in cc

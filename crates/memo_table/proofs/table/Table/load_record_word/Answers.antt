@@ -10,7 +10,8 @@ returns-then-found-eq0-clause-looked g c =
     let e = c.record_load_step-found.ensures in
     let r = c.requires in
     let own = subst (λ (w : Words). IsPassOf w c.record_load_step-found.new.pass) c.self.view_is e.own in
-    let view = subst (λ (w : Words). view_of c.record_load_step-found.new.pass ≡ record_loaded (plan_of w) c.position-position.result c.record_load_step-found.result (view_of c.args.pass.now)) c.self.view_is e.view in
+    let view = subst (λ (w : Words). view_of c.record_load_step-found.new.pass ≡ record_loaded (plan_of w)
+    c.position-position.result c.record_load_step-found.result (view_of c.args.pass.now)) c.self.view_is e.view in
     no_record c.args.self.now c.args.pass.now c.record_load_step-found.new.pass c.args.probe.now
     c.position-position.result c.record_load_step-found.result r.own r.follows r.record_word
     c.position-position.ensures.position own view e.stays c.if-found-eq0.true e.known
@@ -20,7 +21,8 @@ returns-else-found-eq0-clause-looked g c =
     let e = c.record_load_step-found.ensures in
     let r = c.requires in
     let own = subst (λ (w : Words). IsPassOf w c.record_load_step-found.new.pass) c.self.view_is e.own in
-    let view = subst (λ (w : Words). view_of c.record_load_step-found.new.pass ≡ record_loaded (plan_of w) c.position-position.result c.record_load_step-found.result (view_of c.args.pass.now)) c.self.view_is e.view in
+    let view = subst (λ (w : Words). view_of c.record_load_step-found.new.pass ≡ record_loaded (plan_of w)
+    c.position-position.result c.record_load_step-found.result (view_of c.args.pass.now)) c.self.view_is e.view in
     some_record c.args.self.now c.args.pass.now c.record_load_step-found.new.pass c.args.probe.now
     c.position-position.result c.record_load_step-found.result r.own r.follows r.record_word
     c.position-position.ensures.position own view e.stays c.if-found-eq0.false

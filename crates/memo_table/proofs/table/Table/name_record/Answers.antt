@@ -10,8 +10,11 @@ returns-then-found-eq0-clause-published g c =
     let e = c.record_exchange_step-found.ensures in
     let r = c.requires in
     let own = subst (λ (w : Words). IsPassOf w c.record_exchange_step-found.new.pass) c.self.view_is e.own in
-    let view = subst (λ (w : Words). view_of c.record_exchange_step-found.new.pass ≡ record_exchanged (plan_of w) c.position-position.result c.args.number c.record_exchange_step-found.result (view_of c.args.pass.now)) c.self.view_is e.view in
-    name_put c.args.self.now c.args.pass.now c.record_exchange_step-found.new.pass c.args.probe.now c.position-position.result c.args.number c.record_exchange_step-found.result
+    let view = subst (λ (w : Words). view_of c.record_exchange_step-found.new.pass ≡ record_exchanged (plan_of w)
+    c.position-position.result c.args.number c.record_exchange_step-found.result (view_of c.args.pass.now))
+    c.self.view_is e.view in
+    name_put c.args.self.now c.args.pass.now c.record_exchange_step-found.new.pass c.args.probe.now
+    c.position-position.result c.args.number c.record_exchange_step-found.result
     r.own r.follows r.publish c.position-position.ensures.position own view c.if-found-eq0.true
 
 pub returns-else-found-eq0-clause-published : goal.returns-else-found-eq0-clause-published
@@ -19,6 +22,9 @@ returns-else-found-eq0-clause-published g c =
     let e = c.record_exchange_step-found.ensures in
     let r = c.requires in
     let own = subst (λ (w : Words). IsPassOf w c.record_exchange_step-found.new.pass) c.self.view_is e.own in
-    let view = subst (λ (w : Words). view_of c.record_exchange_step-found.new.pass ≡ record_exchanged (plan_of w) c.position-position.result c.args.number c.record_exchange_step-found.result (view_of c.args.pass.now)) c.self.view_is e.view in
-    name_found c.args.self.now c.args.pass.now c.record_exchange_step-found.new.pass c.args.probe.now c.position-position.result c.args.number c.record_exchange_step-found.result
+    let view = subst (λ (w : Words). view_of c.record_exchange_step-found.new.pass ≡ record_exchanged (plan_of w)
+    c.position-position.result c.args.number c.record_exchange_step-found.result (view_of c.args.pass.now))
+    c.self.view_is e.view in
+    name_found c.args.self.now c.args.pass.now c.record_exchange_step-found.new.pass c.args.probe.now
+    c.position-position.result c.args.number c.record_exchange_step-found.result
     r.own r.follows r.publish c.position-position.ensures.position own view c.if-found-eq0.false

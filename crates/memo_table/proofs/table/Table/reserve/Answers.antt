@@ -9,5 +9,6 @@ returns-clause-published g c =
     let e = c.reserve_step-number.ensures in
     let r = c.requires in
     let own = subst (λ (w : Words). IsPassOf w c.reserve_step-number.new.pass) c.self.view_is e.own in
-    reserved c.args.self.now c.args.pass.now c.reserve_step-number.new.pass c.args.probe.now c.reserve_step-number.result
+    reserved c.args.self.now c.args.pass.now c.reserve_step-number.new.pass c.args.probe.now
+    c.reserve_step-number.result
     r.own r.follows r.reserve own e.view e.hand

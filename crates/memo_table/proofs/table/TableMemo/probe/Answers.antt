@@ -11,7 +11,8 @@ returns-clause-follows c pass =
         own = subst (λ (w : Words). IsPassOf w pass) (sym same) own;
         demanded = subst (λ (w : Words). IsDemanded (problem_of w) c.args.cell) (sym same) c.requires;
         coded =
-            c.demanded_cells_have_codes.ensures (problem_of c.args.self.now) c.planned.ensures.admissible c.args.cell c.requires;
+            c.demanded_cells_have_codes.ensures (problem_of c.args.self.now) c.planned.ensures.admissible c.args.cell
+            c.requires;
         due = λ j before. absurd (omega arith);
       },
       λ follows. subst (λ (w : Words). IsPassOf w pass) same follows.own,
