@@ -23,3 +23,6 @@ pub mod NextPlaces
 pub mod ViableCuts
 pub mod LineHere
 pub mod SkipSteps
+pub mod FreshMachines
+pub mod PassingNone
+pub mod Stepped

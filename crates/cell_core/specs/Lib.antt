@@ -4,3 +4,4 @@ pub mod FrameChanges
 pub mod PlainScores
 pub mod PlainMemos
 pub mod Skipping
+pub mod MachineViews

@@ -3,7 +3,8 @@ use Rattle.std.specs.Prelude.{◌≡◌, ℕ, ℤ, ◌+◌, ◌*◌, ◌≤◌, 
 use Rattle.adp_model.specs.declared.cell.Cell.{Cell}
 use Rattle.adp_model.specs.declared.visit.Frame.{Frame}
 use Rattle.adp_model.specs.declared.visit.Hand.{Hand}
-use Rattle.adp_model.specs.PosedProblem.{PosedProblem}
+use Rattle.adp_model.specs.PosedProblem.{PosedProblem, axiom_cell}
+use Rattle.adp_model.specs.Demand.{IsDemanded}
 use Rattle.adp_model.specs.SplitArguments.{SplitArgument}
 use Rattle.adp_model.specs.Memos.{Meaning}
 use Rattle.adp_model.specs.Machines.{IsGoing, IsAtEnd, AreFewOpened, KnowsSoMany}
@@ -67,6 +68,20 @@ module _ {Pass Probe : Type 0} (memo : Meaning Pass Probe) where
   abbrev pub work_left : PosedProblem → ℕ → List SplitArgument → Work Probe → Pass → ℕ
   work_left p m arguments work pass =
       steps_left memo p m arguments work.ended work.hand (frames_of work.top work.below.items) pass
+
+-- nothing has begun; where no cell is demanded the work has ended
+pub record IsFreshWork {Probe : Type 0} (p : PosedProblem) (work : Work Probe) : Type 0 where
+  pub room : (length p.word + 1) * length p.grammar.rules ≤ vec_capacity work.below
+  pub hand : work.hand ≡ None
+  pub top : work.top ≡ None
+  pub below : work.below.items ≡ []
+  pub ready : work.ready ≡ None
+  pub opened : work.opened ≡ 0
+  pub wins : work.wins ≡ 0
+  pub moves : work.moves ≡ 0
+  pub going : work.ended ≡ false → IsDemanded p (axiom_cell p)
+  pub at_end : work.ended ≡ true → IsDemanded p (axiom_cell p) → ⊥
+  pub score : work.score ≡ None
 
 -- the frame is on top of those that were there, and all else is as before
 pub record IsOpened {Probe : Type 0} (work work' : Work Probe) (frame : Frame Probe) : Type 0 where

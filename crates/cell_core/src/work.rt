@@ -1,14 +1,16 @@
-ghost use Rattle.std.specs.Prelude.{◌≡◌, ◌≢◌, ◌↔◌, ◌⊎◌, ◌+◌, ◌<◌, ◌≤◌, ◌^◌, ℕ, true, false, None, Some, List, [], ◌∷◌, IfSome, length, vec_capacity};
+ghost use Rattle.std.specs.Prelude.{◌≡◌, ◌≢◌, ◌↔◌, ◌⊎◌, ◌+◌, ◌<◌, ◌≤◌, ◌^◌, ℕ, true, false, None, Some, List, [], ◌∷◌, IfOk, IfSome, IsTrue, length, vec_capacity};
 ghost use Rattle.adp_model.specs.declared.cell.Cell.{Cell as AnyCell};
-ghost use Rattle.adp_model.specs.PosedProblem.{PosedProblem};
+ghost use Rattle.adp_model.specs.PosedProblem.{PosedProblem, axiom_cell};
 ghost use Rattle.adp_model.specs.Answers.{IsAnswer};
 ghost use Rattle.adp_model.specs.Demand.{IsDemanded, IsDemandedCount};
 ghost use Rattle.adp_model.specs.SplitArguments.{SplitArgument, AreRuleArguments};
 ghost use Rattle.adp_model.specs.StepsMade.{steps_made};
 ghost use Rattle.adp_model.specs.Visits.{IsWalk};
 ghost use Rattle.adp_model.specs.Memos.{IsScoreOf, StayKnown};
+ghost use Rattle.adp_model.specs.Machines.{IsUnderWay};
+ghost use Rattle.rand_pcg.specs.Lcg.{Lcg};
 ghost use Rattle.random_orders.specs.Draws.{drawn_turns};
-ghost use Rattle.cell_core.specs.Working.{all_frames, with_hand, with_top, IsSound, IsOpened, IsClosed, IsTurn, work_left};
+ghost use Rattle.cell_core.specs.Working.{all_frames, with_hand, with_top, IsSound, IsOpened, IsClosed, IsFreshWork, work_left};
 ghost use Rattle.cell_core.specs.FrameChanges.{standing, turn_bounds, ChangesFrames, GainsWins};
 
 use crate::notes::Notes;
@@ -18,6 +20,7 @@ use adp_model::laws::heights::heights_fall;
 use adp_model::laws::well_formed::numbers_fit_together;
 use adp_model::{Answer, Cell, Frame, Hand, Look, Memo, Problem, Publish, Steps, Visit};
 use random_orders::Orders;
+use std::alloc::{AllocError, Global};
 use std::sync::ledger::Ledger;
 
 /// What a step of a machine tells: that it goes on, or that it has ended, with the score of the axiom's answer.
@@ -43,40 +46,83 @@ pub struct Work<P> {
     pub score: Option<i64>,
 }
 
-/// Takes the probe of the axiom's cell in hand.
-pub fn begin<M: Memo, N: Notes>(
+/// Whether the axiom's cell is demanded: whether the word's length lies between the axiom's sizes.
+fn demands_axiom(problem: &Problem<'_>) -> bool
+    ensures { IsTrue result ↔ IsDemanded problem.now (axiom_cell problem.now) }
+{
+    problem.admissible();
+    demanded_cells_are_counted();
+    numbers_fit_together();
+    let cell = problem.axiom_cell();
+    let letters = u32::from(cell.to);
+    let (least, greatest) = problem.sizes(cell.rule);
+    if letters < least {
+        return false;
+    }
+    match greatest {
+        Some(greatest) => {
+            if greatest < letters {
+                return false;
+            }
+            true
+        }
+        None => true,
+    }
+}
+
+/// The work of a fresh machine: nothing has begun, and there is room for all frames. Where no cell is demanded it has
+/// ended. Fails for want of memory alone.
+pub fn fresh_work<P: Drop>(alloc: Global, problem: &Problem<'_>) -> Result<Work<P>, AllocError>
+    ensures { IfOk result (IsFreshWork problem.now) }
+{
+    problem.admissible();
+    numbers_fit_together();
+    let ended = !demands_axiom(problem);
+    let room = (problem.letters().len() + 1) * problem.grammar.rules.as_slice().len();
+    let below = Vec::with_capacity(alloc, room)?;
+    Ok(Work {
+        hand: None,
+        top: None,
+        below,
+        ready: None,
+        opened: 0,
+        wins: 0,
+        moves: 0,
+        ended,
+        score: None,
+    })
+}
+
+/// The look for the axiom's cell, by which a fresh machine begins.
+fn first_look<M: Memo, N: Notes>(
     problem: &Problem<'_>,
     notes: &N,
     memo: &M,
     pass: &M::Pass,
-    work: &mut Work<M::Probe>,
-)
+    work: &Work<M::Probe>,
+) -> Hand<M::Probe>
     requires memo { M.problem memo.now ≡ problem.now }
     requires own { M.is_of memo.now pass.now }
-    requires going { work.old.ended ≡ false }
-    requires no_hand { work.old.hand ≡ None }
-    requires no_answer { work.old.ready ≡ None }
-    requires fresh { work.old.top ≡ None }
-    requires sound { IsSound M.meaning problem.now (N.noted notes.now) work.old pass.now }
-    ensures going { work.new.ended ≡ false }
-    ensures at_hand { work.new.hand ≢ None }
-    ensures rest { (work.new.ready ≡ None) × (work.new.top ≡ None) × (work.new.below ≡ work.old.below) }
-    ensures numbers { (work.new.opened ≡ work.old.opened) × (work.new.wins ≡ work.old.wins) × (work.new.moves ≡ work.old.moves) }
-    ensures sound { IsSound M.meaning problem.now (N.noted notes.now) work.new pass.now }
+    requires going { work.now.ended ≡ false }
+    requires no_hand { work.now.hand ≡ None }
+    requires no_answer { work.now.ready ≡ None }
+    requires fresh { work.now.top ≡ None }
+    requires sound { IsSound M.meaning problem.now (N.noted notes.now) work.now pass.now }
+    ensures sound { IsSound M.meaning problem.now (N.noted notes.now) (with_hand work.now result) pass.now }
     ensures lower { (m : ℕ) (arguments : List SplitArgument) → IsDemandedCount problem.now m
-        → work_left M.meaning problem.now m arguments work.new pass.now
-        ≤ work_left M.meaning problem.now m arguments work.old pass.now }
+        → work_left M.meaning problem.now m arguments (with_hand work.now result) pass.now
+        ≤ work_left M.meaning problem.now m arguments work.now pass.now }
 {
     problem.admissible();
     heights_fall();
     let cell = problem.axiom_cell();
     let probe = memo.probe(cell);
-    work.hand = Some(Hand { cell, probe });
+    Hand { cell, probe }
 }
 
 /// Takes a probe in hand for the next argument of the top frame's visit, or finds the answer of its cell where none is
 /// left.
-pub fn advance<M: Memo, N: Notes>(
+fn advance<M: Memo, N: Notes>(
     problem: &Problem<'_>,
     notes: &N,
     memo: &M,
@@ -92,8 +138,8 @@ pub fn advance<M: Memo, N: Notes>(
     requires begun { work.old.top ≢ None }
     requires sound { IsSound M.meaning problem.now (N.noted notes.now) work.old pass.now }
     ensures going { work.new.ended ≡ false }
-    ensures at_hand { (work.new.hand ≢ None) ⊎ (work.new.ready ≢ None) }
-    ensures stands { (orders : _) → standing (all_frames work.new) work.new.opened orders
+    ensures under_way { IsUnderWay work.new.hand work.new.ready (all_frames work.new) }
+    ensures stands { (orders : Lcg) → standing (all_frames work.new) work.new.opened orders
         ≡ standing (all_frames work.old) work.old.opened orders }
     ensures numbers { (work.new.wins ≡ work.old.wins) × (work.new.moves ≡ work.old.moves) }
     ensures sound { IsSound M.meaning problem.now (N.noted notes.now) work.new pass.now }
@@ -161,7 +207,7 @@ fn open<P: Drop>(work: &mut Work<P>, frame: Frame<P>)
 }
 
 /// Makes one step of the look in hand.
-pub fn look<M: Memo, N: Notes, L: Ledger>(
+fn look<M: Memo, N: Notes, L: Ledger>(
     problem: &Problem<'_>,
     orders: &mut Orders,
     notes: &mut N,
@@ -255,7 +301,7 @@ fn close<N: Notes, P: Drop>(notes: &mut N, work: &mut Work<P>, cell: Cell, score
 }
 
 /// Makes one step of the top frame's publication.
-pub fn publish<M: Memo, N: Notes, L: Ledger>(
+fn publish<M: Memo, N: Notes, L: Ledger>(
     problem: &Problem<'_>,
     orders: &Orders,
     notes: &mut N,
@@ -302,5 +348,96 @@ pub fn publish<M: Memo, N: Notes, L: Ledger>(
             close(notes, work, top.visit.cell, score);
         }
         Publish::Lost => close(notes, work, top.visit.cell, score),
+    }
+}
+
+/// Seeks the next argument where neither a look is made nor an answer is there.
+fn settle<M: Memo, N: Notes>(
+    problem: &Problem<'_>,
+    notes: &N,
+    memo: &M,
+    pass: &M::Pass,
+    work: &mut Work<M::Probe>,
+)
+    requires memo { M.problem memo.now ≡ problem.now }
+    requires notes { N.problem notes.now ≡ problem.now }
+    requires own { M.is_of memo.now pass.now }
+    requires begun { (work.old.hand ≡ None) → (work.old.ready ≡ None) → work.old.ended ≡ false → work.old.top ≢ None }
+    requires sound { IsSound M.meaning problem.now (N.noted notes.now) work.old pass.now }
+    ensures under_way { IsUnderWay work.new.hand work.new.ready (all_frames work.new) }
+    ensures stands { (orders : Lcg) → standing (all_frames work.new) work.new.opened orders
+        ≡ standing (all_frames work.old) work.old.opened orders }
+    ensures numbers { (work.new.wins ≡ work.old.wins) × (work.new.moves ≡ work.old.moves) }
+    ensures sound { IsSound M.meaning problem.now (N.noted notes.now) work.new pass.now }
+    ensures lower { (m : ℕ) (arguments : List SplitArgument) → IsDemandedCount problem.now m
+        → AreRuleArguments problem.now arguments
+        → work_left M.meaning problem.now m arguments work.new pass.now
+        ≤ work_left M.meaning problem.now m arguments work.old pass.now }
+{
+    if work.ended {
+        return;
+    }
+    if work.hand.is_some() {
+        return;
+    }
+    if work.ready.is_some() {
+        return;
+    }
+    advance(problem, notes, memo, pass, work);
+}
+
+/// Makes one step of the memo: of the look that is being made, of the top frame's publication, or, where nothing has
+/// begun, of the look for the axiom's cell. Then seeks the next argument.
+pub fn make_step<M: Memo, N: Notes, L: Ledger>(
+    problem: &Problem<'_>,
+    orders: &mut Orders,
+    notes: &mut N,
+    memo: &M,
+    pass: &mut M::Pass,
+    work: &mut Work<M::Probe>,
+    steps: &mut Steps<L>,
+)
+    requires memo { M.problem memo.now ≡ problem.now }
+    requires notes { N.problem notes.old ≡ problem.now }
+    requires own { M.is_of memo.now pass.old }
+    requires going { work.old.ended ≡ false }
+    requires under_way { IsUnderWay work.old.hand work.old.ready (all_frames work.old) }
+    requires sound { IsSound M.meaning problem.now (N.noted notes.old) work.old pass.old }
+    ensures notes { N.problem notes.new ≡ problem.now }
+    ensures own { M.is_of memo.now pass.new }
+    ensures share { M.meaning.share pass.new ≡ M.meaning.share pass.old }
+    ensures known { StayKnown (M.meaning.known pass.old) (M.meaning.known pass.new) }
+    ensures wins { GainsWins M.meaning pass.old pass.new work.old.wins work.new.wins }
+    ensures moves { work.new.moves ≡ work.old.moves }
+    ensures frames { ChangesFrames M.meaning problem.now pass.old pass.new
+        (standing (all_frames work.old) work.old.opened orders.old)
+        (standing (all_frames work.new) work.new.opened orders.new) }
+    ensures steps { steps_made steps.new ≡ steps_made steps.old + 1 }
+    ensures under_way { IsUnderWay work.new.hand work.new.ready (all_frames work.new) }
+    ensures sound { IsSound M.meaning problem.now (N.noted notes.new) work.new pass.new }
+    ensures lower { (m : ℕ) (arguments : List SplitArgument) → IsDemandedCount problem.now m
+        → AreRuleArguments problem.now arguments
+        → work_left M.meaning problem.now m arguments work.new pass.new
+        < work_left M.meaning problem.now m arguments work.old pass.old }
+{
+    match work.hand.take() {
+        Some(hand) => {
+            look(problem, orders, notes, memo, pass, work, hand, steps);
+            settle(problem, notes, memo, pass, work);
+        }
+        None => match work.ready {
+            Some(answer) => match work.top.take() {
+                Some(top) => {
+                    publish(problem, orders, notes, memo, pass, work, top, answer, steps);
+                    settle(problem, notes, memo, pass, work);
+                }
+                None => unreachable!(),
+            },
+            None => {
+                let hand = first_look(problem, notes, memo, pass, work);
+                look(problem, orders, notes, memo, pass, work, hand, steps);
+                settle(problem, notes, memo, pass, work);
+            }
+        },
     }
 }

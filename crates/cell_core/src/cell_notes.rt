@@ -1,0 +1,148 @@
+//! The notes of a machine, in rows and columns.
+
+ghost use Rattle.std.specs.Prelude.{◌≡◌, IfOk};
+ghost use Rattle.std.specs.Arc.{arc_value};
+ghost use Rattle.adp_model.specs.declared.cell.Cell.{Cell as AnyCell};
+ghost use Rattle.cell_tables.specs.Noted.{IsNoted};
+
+use crate::noted_cells::NotedCells;
+use crate::notes::Notes;
+use crate::prepared::Prepared;
+use crate::seeking::seek;
+use adp_model::laws::demand::demanded_cells_are_counted;
+use adp_model::{Answer, Cell, Position, Problem, Visit};
+use cell_answers::{Scores, cell_answer};
+use cell_tables::Noted;
+use split_lines::Lines;
+use std::alloc::{AllocError, Global};
+use std::marker::Model;
+use std::sync::Arc;
+
+impl<'a> NotedCells for Noted<'a> {
+    ghost use Rattle.cell_tables.specs.Noted.{IsNoted};
+
+    ghost is_noted = { IsNoted };
+
+    fn has(&self, cell: Cell) -> bool {
+        Noted::has(self, cell)
+    }
+}
+
+/// Tells of no cell that it is noted.
+struct NothingNoted;
+
+impl NotedCells for NothingNoted {
+    ghost is_noted = { λ _ _. ⊥ };
+
+    fn has(&self, _cell: Cell) -> bool {
+        false
+    }
+}
+
+/// Which cells a machine has noted, and their scores. Where `skips` isn't set the search for the next argument doesn't
+/// pass over noted ones. Contracts see the notes as the problem and the bits.
+#[derive(Drop)]
+pub struct CellNotes<'a> {
+    prepared: Arc<Prepared<'a>, Global>,
+    noted: Noted<'a>,
+    scores: Scores<'a>,
+    skips: bool,
+}
+
+impl<'a> Model for CellNotes<'a> {
+    ghost use Rattle.std.specs.Prelude.{◌≡◌};
+    ghost use Rattle.std.specs.Arc.{arc_value as shared};
+    ghost use Rattle.adp_model.specs.declared.cell.Cell.{Cell as OfRule};
+    ghost use Rattle.cell_tables.specs.Noted.{Notes as NoteBits, IsNoted};
+    ghost use Rattle.cell_answers.specs.Entries.{HasEntry};
+
+    ghost Value = { NoteBits };
+
+    ghost view = { λ notes. notes.noted };
+
+    ghost invariant = { λ notes. (shared notes.prepared ≡ notes.noted.problem) × (notes.scores.problem ≡ notes.noted.problem)
+        × ((cell : OfRule) → IsNoted notes.noted cell → HasEntry notes.scores cell) };
+}
+
+impl<'a> CellNotes<'a> {
+    /// No cell is noted. Fails for want of memory alone.
+    pub fn new(
+        alloc: Global,
+        prepared: &Arc<Prepared<'a>, Global>,
+    ) -> Result<CellNotes<'a>, AllocError>
+        ensures problem { IfOk result (λ notes. notes.problem ≡ arc_value prepared.now) }
+        ensures none { IfOk result (λ notes. (cell : AnyCell) → IsNoted notes cell → ⊥) }
+    {
+        let layout = prepared.layout();
+        let noted = Noted::new(alloc, layout)?;
+        let scores = Scores::new(alloc, layout)?;
+        let prepared = Arc::try_clone(prepared)?;
+        Ok(CellNotes {
+            prepared,
+            noted,
+            scores,
+            skips: true,
+        })
+    }
+
+    /// Sets whether the search for the next argument passes over noted ones. Takes no memory.
+    pub fn set_skips(&mut self, skips: bool)
+        ensures { self.new ≡ self.old }
+    {
+        self.skips = skips;
+    }
+
+    /// The problem. Takes no memory.
+    pub fn problem(&self) -> &'a Problem<'a>
+        ensures { result.now ≡ self.now.problem }
+    {
+        self.prepared.problem()
+    }
+
+    /// The lines of its splits. Takes no memory.
+    fn lines(&self) -> &Lines<'a>
+        ensures { result.now ≡ self.now.problem }
+    {
+        self.prepared.lines()
+    }
+
+    /// Which cells are noted. Takes no memory.
+    fn noted(&self) -> &Noted<'a>
+        ensures { result.now ≡ self.now }
+    {
+        &self.noted
+    }
+}
+
+impl<'a> Notes for CellNotes<'a> {
+    ghost use Rattle.cell_tables.specs.Noted.{IsNoted};
+
+    ghost problem = { λ notes. notes.problem };
+
+    ghost noted = { IsNoted };
+
+    fn note(&mut self, cell: Cell, score: Option<i64>) {
+        self.problem().admissible();
+        demanded_cells_are_counted();
+        self.scores.keep(cell, score);
+        self.noted.note(cell);
+    }
+
+    fn answer(&self, cell: Cell) -> Answer {
+        self.problem().admissible();
+        demanded_cells_are_counted();
+        cell_answer(self.prepared.lines(), &self.scores, cell)
+    }
+
+    fn next_argument(&self, visit: Visit) -> Option<(Position, Cell)> {
+        let problem = self.problem();
+        problem.admissible();
+        demanded_cells_are_counted();
+        let lines = self.lines();
+        let noted = self.noted();
+        if self.skips {
+            return seek(lines, problem, noted, visit);
+        }
+        seek(lines, problem, &NothingNoted, visit)
+    }
+}

@@ -1,0 +1,194 @@
+//! A machine: a top-down computation of the answer of the axiom's cell that shares its results by a memo.
+
+ghost use Rattle.std.specs.Prelude.{◌≡◌, ◌+◌, ◌-◌, ◌<◌, ◌≤◌, ◌^◌, ℕ, List, IfOk, false, length, if◌then◌else◌, min};
+ghost use Rattle.std.specs.Arc.{arc_value};
+ghost use Rattle.adp_model.specs.Demand.{IsDemandedCount};
+ghost use Rattle.adp_model.specs.SplitArguments.{SplitArgument, AreRuleArguments};
+ghost use Rattle.adp_model.specs.StepsMade.{steps_made};
+ghost use Rattle.adp_model.specs.Memos.{StayKnown};
+ghost use Rattle.adp_model.specs.Machines.{IsMachine};
+ghost use Rattle.adp_model.specs.StepBound.{step_bound, remaining_bound};
+ghost use Rattle.cell_core.specs.Working.{IsTurn};
+ghost use Rattle.cell_core.specs.FrameChanges.{standing, ChangesFrames, GainsWins};
+ghost use Rattle.cell_core.specs.MachineViews.{IsNotedIn, IsFresh, next_loads};
+
+use crate::cell_notes::CellNotes;
+use crate::prepared::Prepared;
+use crate::work::{Turn, Work, fresh_work, make_step};
+use adp_model::{Memo, Problem, Steps};
+use random_orders::Orders;
+use std::alloc::{AllocError, Global};
+use std::marker::Model;
+use std::sync::Arc;
+use std::sync::ledger::Ledger;
+
+/// A machine over a memo. Contracts see its state and its orders.
+#[derive(Drop)]
+pub struct Machine<'a, M: Memo> {
+    problem: &'a Problem<'a>,
+    orders: Orders,
+    notes: Option<CellNotes<'a>>,
+    work: Work<M::Probe>,
+}
+
+impl<'a, M: Memo> Model for Machine<'a, M> {
+    ghost use Rattle.std.specs.Prelude.{◌≡◌, false, IsSome, IfSome};
+    ghost use Rattle.adp_model.specs.PosedProblem.{axiom_cell};
+    ghost use Rattle.adp_model.specs.Demand.{IsDemanded};
+    ghost use Rattle.cell_core.specs.Working.{HasRoom};
+    ghost use Rattle.cell_core.specs.MachineViews.{MachineView, state_of};
+
+    ghost Value = { MachineView M.Probe };
+
+    ghost view = { λ machine.
+        record { machine = state_of machine.problem.now machine.notes machine.work; orders = machine.orders } };
+
+    ghost invariant = { λ machine. HasRoom machine.problem.now machine.work
+        × (machine.work.ended ≡ false → IsSome machine.notes × IsDemanded machine.problem.now (axiom_cell machine.problem.now))
+        × IfSome machine.notes (λ notes. notes.problem ≡ machine.problem.now) };
+}
+
+impl<'a, M: Memo> Machine<'a, M> {
+    /// A machine of a problem, which works out what is shared for itself alone. Fails for want of memory alone.
+    pub fn new(
+        alloc: Global,
+        problem: &'a Problem<'a>,
+        orders: Orders,
+    ) -> Result<Machine<'a, M>, AllocError>
+        ensures fresh { IfOk result (λ machine. IsFresh problem.now orders machine) }
+        ensures machine { IfOk result (λ machine. (pass : M.Pass)
+            → IsMachine M.meaning IsNotedIn machine.machine pass) }
+        ensures bound { IfOk result (λ machine. (pass : M.Pass) (m : ℕ) (arguments : List SplitArgument)
+            → IsDemandedCount problem.now m → AreRuleArguments problem.now arguments
+            → remaining_bound M.meaning m arguments machine.machine pass ≤ step_bound m (length arguments)) }
+    {
+        let prepared = Prepared::new(alloc, problem)?;
+        let prepared = Arc::new(alloc, prepared)?;
+        Machine::on(alloc, &prepared, orders)
+    }
+
+    /// A machine of a problem that others share. Fails for want of memory alone.
+    pub fn on(
+        alloc: Global,
+        prepared: &Arc<Prepared<'a>, Global>,
+        orders: Orders,
+    ) -> Result<Machine<'a, M>, AllocError>
+        ensures fresh { IfOk result (λ machine. IsFresh (arc_value prepared.now) orders machine) }
+        ensures machine { IfOk result (λ machine. (pass : M.Pass)
+            → IsMachine M.meaning IsNotedIn machine.machine pass) }
+        ensures bound { IfOk result (λ machine. (pass : M.Pass) (m : ℕ) (arguments : List SplitArgument)
+            → IsDemandedCount (arc_value prepared.now) m → AreRuleArguments (arc_value prepared.now) arguments
+            → remaining_bound M.meaning m arguments machine.machine pass ≤ step_bound m (length arguments)) }
+    {
+        let problem = prepared.problem();
+        let work = fresh_work(alloc, problem)?;
+        let notes = CellNotes::new(alloc, prepared)?;
+        Ok(Machine {
+            problem,
+            orders,
+            notes: Some(notes),
+            work,
+        })
+    }
+
+    /// Makes one step of the memo, or none where the machine has ended. Takes no memory.
+    pub fn step<L: Ledger>(
+        &mut self,
+        memo: &M,
+        pass: &mut M::Pass,
+        steps: &mut Steps<L>,
+    ) -> Turn
+        requires memo { M.problem memo.now ≡ self.old.machine.problem }
+        requires own { M.is_of memo.now pass.old }
+        requires machine { IsMachine M.meaning IsNotedIn self.old.machine pass.old }
+        ensures problem { self.new.machine.problem ≡ self.old.machine.problem }
+        ensures own { M.is_of memo.now pass.new }
+        ensures share { M.meaning.share pass.new ≡ M.meaning.share pass.old }
+        ensures known { StayKnown (M.meaning.known pass.old) (M.meaning.known pass.new) }
+        ensures machine { IsMachine M.meaning IsNotedIn self.new.machine pass.new }
+        ensures steps { steps_made steps.new
+            ≡ (if self.old.machine.ended then steps_made steps.old else steps_made steps.old + 1) }
+        ensures moves { self.new.machine.moves
+            ≡ (if self.old.machine.ended then self.old.machine.moves else min (self.old.machine.moves + 1) (2 ^ 64 - 1)) }
+        ensures wins { GainsWins M.meaning pass.old pass.new self.old.machine.wins self.new.machine.wins }
+        ensures frames { ChangesFrames M.meaning self.old.machine.problem pass.old pass.new
+            (standing self.old.machine.frames self.old.machine.opened self.old.orders)
+            (standing self.new.machine.frames self.new.machine.opened self.new.orders) }
+        ensures turn { IsTurn self.new.machine.ended self.new.machine.score result }
+        ensures bound { self.old.machine.ended ≡ false → (m : ℕ) (arguments : List SplitArgument)
+            → IsDemandedCount self.old.machine.problem m → AreRuleArguments self.old.machine.problem arguments
+            → remaining_bound M.meaning m arguments self.new.machine pass.new
+            < remaining_bound M.meaning m arguments self.old.machine pass.old }
+    {
+        if self.work.ended {
+            return Turn::Ended(self.work.score);
+        }
+        let Some(notes) = &mut self.notes else {
+            unreachable!();
+        };
+        make_step(
+            self.problem,
+            &mut self.orders,
+            notes,
+            memo,
+            pass,
+            &mut self.work,
+            steps,
+        );
+        self.work.moves = self.work.moves.saturating_add(1);
+        if !self.work.ended {
+            return Turn::Going;
+        }
+        self.notes = None;
+        Turn::Ended(self.work.score)
+    }
+
+    /// Sets whether the machine passes over noted arguments, as it does at first; where it doesn't, each rule argument
+    /// costs its own look. Takes no memory.
+    pub fn set_skips(&mut self, skips: bool)
+        ensures { self.new ≡ self.old }
+    {
+        if let Some(notes) = &mut self.notes {
+            notes.set_skips(skips);
+        }
+    }
+
+    /// Whether the machine has ended. Takes no memory.
+    pub fn ended(&self) -> bool
+        ensures { result ≡ self.now.machine.ended }
+    {
+        self.work.ended
+    }
+
+    /// Whether the next step loads a record word. Takes no memory.
+    pub fn loads_record_word(&self, memo: &M) -> bool
+        requires memo { M.problem memo.now ≡ self.now.machine.problem }
+        ensures { result ≡ next_loads M.meaning (M.fresh_loads memo.now) self.now.machine }
+    {
+        if self.work.ended {
+            return false;
+        }
+        if let Some(hand) = &self.work.hand {
+            return memo.loads_record_word(&hand.probe);
+        }
+        if self.work.ready.is_some() {
+            return false;
+        }
+        let probe = memo.probe(self.problem.axiom_cell());
+        memo.loads_record_word(&probe)
+    }
+
+    /// How many of its publications were won. Takes no memory.
+    pub fn wins(&self) -> u64
+        ensures { result ≡ self.now.machine.wins }
+    {
+        self.work.wins
+    }
+
+    /// How many steps of the memo it made; it stays at 2^64 - 1 once it is there. Takes no memory.
+    pub fn moves(&self) -> u64
+        ensures { result ≡ self.now.machine.moves }
+    {
+        self.work.moves
+    }
+}
