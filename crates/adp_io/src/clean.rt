@@ -1,4 +1,4 @@
-// A source and a sink that never fail.
+//! A source and a sink that never fail.
 ghost use Rattle.std.specs.Prelude.{◌≡◌, ◌+◌, ◌-◌, ◌^◌, ◌<◌, ◌≤◌, [], ◌++◌, List, ℕ, length, take, drop, min, None, Some, IsOk, IfOk, vec_len};
 
 use crate::stream::{Failed, Sink, Source};

@@ -1,4 +1,4 @@
-// A whole job text from a source, up to the greatest length that a job may have.
+//! A whole job text from a source, up to the greatest length that a job may have.
 ghost use Rattle.std.specs.Prelude.{◌≡◌, ◌+◌, ◌-◌, ◌<◌, ◌≤◌, length, vec_len, IfOk, IfSome, OnOk, OnErr, IsErrOf};
 ghost use Rattle.std.specs.Io.KnownBytes.{IsAtEnd, Keeps};
 ghost use Rattle.adp_io.specs.Causes.{RisesWhere};
@@ -38,8 +38,11 @@ pub fn read_job<S: Source>(alloc: Global, source: &mut S) -> Result<Vec<u8>, Job
     ensures end { OnOk result (IsAtEnd (S.left source.new)) }
     ensures fits { IfOk result (λ bytes. vec_len bytes ≤ job_limit) }
 
-    // Each read but the last gave a byte: nothing is read behind the end.
+    // Each read but the last gave a byte, however the reads ended.
     ensures calls { IfOk result (λ bytes. CallsAtMost (S.calls source.old) (S.calls source.new) (vec_len bytes + 1)) }
+    ensures most_calls { CallsAtMost (S.calls source.old) (S.calls source.new) (job_limit + 1) }
+    ensures told_calls { IfSome (S.left source.old) (λ left.
+        CallsAtMost (S.calls source.old) (S.calls source.new) (length left + 1)) }
 
     ensures read_fault { IsErrOf result JobFault.ReadFault
         → LosesAtMost (S.left source.old) (S.left source.new) job_limit }
@@ -59,14 +62,14 @@ pub fn read_job<S: Source>(alloc: Global, source: &mut S) -> Result<Vec<u8>, Job
     Err(JobFault::TooLong)
 }
 
-// A buffer of this length.
+/// A buffer of this length.
 fn zeros(alloc: Global, len: usize) -> Result<Vec<u8>, AllocError>
     ensures { IfOk result (λ buffer. vec_len buffer ≡ len) }
 {
     vec![in alloc; 0; len]
 }
 
-// Reads one piece, adds it to the bytes and answers how many there were: none only at the end.
+/// Reads one piece, adds it to the bytes and answers how many there were: none only at the end.
 fn read_piece<S: Source>(
     source: &mut S,
     piece: &mut [u8],

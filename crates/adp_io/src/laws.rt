@@ -1,4 +1,4 @@
-// Laws on the bytes that a sink takes in several calls.
+//! Laws on the bytes that a sink takes in several calls.
 ghost use Rattle.std.specs.Prelude.{◌++◌, List, ℕ, Option};
 ghost use Rattle.std.specs.Io.KnownBytes.{Appends};
 ghost use Rattle.adp_io.specs.Streams.{AppendsProperPrefix};

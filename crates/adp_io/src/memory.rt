@@ -1,4 +1,4 @@
-// A source and a sink in memory, which fail at the calls that they are told to fail at.
+//! A source and a sink in memory, which fail at the calls that they are told to fail at.
 ghost use Rattle.std.specs.Prelude.{◌≡◌, ◌+◌, ◌-◌, ◌<◌, ◌≤◌, ◌⊎◌, ◌↔◌, [], ◌++◌, length, take, drop, min, max, Some, IfOk, OnErr, IsErr, Contains, vec_len, vec_capacity};
 ghost use Rattle.adp_io.specs.Causes.{IsFailedWrite, RisesWhere, next_count};
 ghost use Rattle.adp_io.specs.Memory.{SourceState, SinkState};

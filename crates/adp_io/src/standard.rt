@@ -1,4 +1,4 @@
-// The adapters over std's readers and writers. What those do outside is not known, so they tell no bytes.
+//! The adapters over std's readers and writers. What those do outside is not known, so they tell no bytes.
 ghost use Rattle.std.specs.Prelude.{◌≡◌, None, IsErr};
 ghost use Rattle.std.specs.Io.{ReadsAtMost, WritesAtMost};
 ghost use Rattle.std.specs.Io.KnownBytes.{ReadConsumes, WriteAppends};

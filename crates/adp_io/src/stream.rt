@@ -1,4 +1,4 @@
-// Where bytes come from and where they go, as a call above sees it.
+//! Where bytes come from and where they go, as a call above sees it.
 ghost use Rattle.std.specs.Prelude.{◌≡◌, ◌<◌, List, ℕ, Option, None, length, take, IfOk, OnErr, IsErr};
 ghost use Rattle.std.specs.Io.{ReadsAtMost, WritesAtMost};
 ghost use Rattle.std.specs.Io.KnownBytes.{Appends, Consumes, IsAtEnd, Keeps};

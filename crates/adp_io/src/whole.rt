@@ -1,4 +1,4 @@
-// A whole text to a sink, however few bytes the sink takes at a time.
+//! A whole text to a sink, however few bytes the sink takes at a time.
 ghost use Rattle.std.specs.Prelude.{IsErr, OnErr, OnOk, length};
 ghost use Rattle.std.specs.Io.KnownBytes.{Appends};
 ghost use Rattle.adp_io.specs.Causes.{RisesWhere};

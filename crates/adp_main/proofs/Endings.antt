@@ -7,7 +7,7 @@ use Rattle.adp_io.specs.declared.job.JobFault.{JobFault}
 use Rattle.adp_io.specs.declared.job.JobFault.TheVariants as job_faults
 use Rattle.adp_io.specs.declared.whole.WriteFault.{WriteFault as Unwritten}
 use Rattle.adp_io.specs.Causes.{RisesWhere, Rose}
-use Rattle.adp_io.specs.Streams.{AppendsProperPrefix, LosesAtMost, SameTold, job_limit}
+use Rattle.adp_io.specs.Streams.{AppendsProperPrefix, AsksForAtMost, CallsAtMost, LosesAtMost, SameTold, job_limit, piece_limit}
 use Rattle.adp_model.specs.Command.{HasCommand}
 use Rattle.adp_model.specs.Verdict.{Verdict, IsVerdict}
 use Rattle.adp_model.specs.Verdict as verdicts
@@ -32,15 +32,30 @@ weaker (Some x) P Q then holds = then x holds
 stood : (count : ℕ) (failed : Type 0) → (failed → ⊥) → RisesWhere count count failed
 stood count failed not_failed = record { later = omega arith; rises = λ h. absurd (not_failed h); stands = λ _. refl }
 
+-- a source that was not called
+calls_none : (calls : Option ℕ) (limit : ℕ) → CallsAtMost calls calls limit
+calls_none None limit = tt
+calls_none (Some x) limit = omega arith
+
+asked_none : (asked : Option ℕ) → AsksForAtMost asked asked piece_limit
+asked_none None = tt
+asked_none (Some x) = (omega arith, omega arith)
+
+-- how often a source was called and asked for how much while a job was read
+pub record IsRead {S : Type 0} (left : S → Option (List ℕ)) (calls asked : S → Option ℕ) (old new : S) : Type 0 where
+  pub few_calls : CallsAtMost (calls old) (calls new) (job_limit + 1)
+  pub told_calls : IfSome (left old) (λ bytes. CallsAtMost (calls old) (calls new) (length bytes + 1))
+  pub asked_little : AsksForAtMost (asked old) (asked new) piece_limit
+
 -- nothing was written
 pub unwritten : {K : Type 0} (held : K → Option (List ℕ)) (write_faults : K → ℕ) (out : K) (status : Status) → (status ≡ WriteFault → ⊥)
     → OutputAfter held write_faults out out status
 unwritten held write_faults out status no_write = record { write_fault = stood _ _ no_write; told = refl; grew = ([], Appends-nil _); untouched = λ _. refl }
 
 -- the words are no command
-pub ends_usage : {S K : Type 0} (left : S → Option (List ℕ)) (read_faults : S → ℕ) (held : K → Option (List ℕ)) (write_faults : K → ℕ)
-    (words : List (List ℕ)) (input : S) (out : K) → (HasCommand words → ⊥) → Ending left read_faults held write_faults words input input out out Usage
-ends_usage left read_faults held write_faults words input out no_command = record {
+pub ends_usage : {S K : Type 0} (left : S → Option (List ℕ)) (read_faults : S → ℕ) (calls asked : S → Option ℕ) (held : K → Option (List ℕ)) (write_faults : K → ℕ)
+    (words : List (List ℕ)) (input : S) (out : K) → (HasCommand words → ⊥) → Ending left read_faults calls asked held write_faults words input input out out Usage
+ends_usage left read_faults calls asked held write_faults words input out no_command = record {
   usage = (λ _. no_command, λ _. refl);
   reading = record {
     read_fault = stood _ _ (λ e. cc);
@@ -49,6 +64,9 @@ ends_usage left read_faults held write_faults words input out no_command = recor
     taken_at_fault = λ e. cc;
     read_to_end = λ e. cc;
     nothing_read = λ _. refl;
+    few_calls = calls_none (calls input) (job_limit + 1);
+    told_calls = always (left input) (λ bytes. CallsAtMost (calls input) (calls input) (length bytes + 1)) (λ bytes. calls_none (calls input) (length bytes + 1));
+    asked_little = asked_none (asked input);
   };
   writing = unwritten held write_faults out Usage (λ e. cc);
   verdict = λ _. always (left input) (λ bytes. ShowsVerdict words bytes Usage (held out) (held out))
@@ -59,13 +77,14 @@ ends_usage left read_faults held write_faults words input out no_command = recor
 }
 
 -- the input is not read whole
-pub ends_unread : {S K T : Type 0} (left : S → Option (List ℕ)) (read_faults : S → ℕ) (held : K → Option (List ℕ)) (write_faults : K → ℕ)
+pub ends_unread : {S K T : Type 0} (left : S → Option (List ℕ)) (read_faults : S → ℕ) (calls asked : S → Option ℕ) (held : K → Option (List ℕ)) (write_faults : K → ℕ)
     (words : List (List ℕ)) (input input' : S) (out : K) (fault : JobFault) → HasCommand words
     → RisesWhere (read_faults input) (read_faults input') (IsErrOf {T = T} (Err fault) job_faults.ReadFault) → SameTold (left input) (left input')
     → LosesAtMost (left input) (left input') (job_limit + 1) → (IsErrOf {T = T} (Err fault) job_faults.ReadFault → LosesAtMost (left input) (left input') job_limit)
     → (IsErrOf {T = T} (Err fault) job_faults.TooLong → IfSome (left input) (λ bytes. job_limit < length bytes))
-    → Ending left read_faults held write_faults words input input' out out (status_of (reading_fault fault))
-ends_unread left read_faults held write_faults words input input' out job_faults.ReadFault command counted same lost within long = record {
+    → IsRead left calls asked input input'
+    → Ending left read_faults calls asked held write_faults words input input' out out (status_of (reading_fault fault))
+ends_unread left read_faults calls asked held write_faults words input input' out job_faults.ReadFault command counted same lost within long read = record {
   usage = (λ e. cc, λ no_command. absurd (no_command command));
   reading = record {
     read_fault = record { later = counted.later; rises = λ _. counted.rises refl; stands = λ no. absurd (no refl) };
@@ -74,6 +93,9 @@ ends_unread left read_faults held write_faults words input input' out job_faults
     taken_at_fault = λ _. within refl;
     read_to_end = λ e. cc;
     nothing_read = λ e. cc;
+    few_calls = read.few_calls;
+    told_calls = read.told_calls;
+    asked_little = read.asked_little;
   };
   writing = unwritten held write_faults out ReadFault (λ e. cc);
   verdict = λ of. absurd of;
@@ -81,7 +103,7 @@ ends_unread left read_faults held write_faults words input input' out job_faults
   first = λ e. cc;
   complete = λ not_rose _. absurd (not_rose (omega (arith, counted.rises refl)));
 }
-ends_unread left read_faults held write_faults words input input' out job_faults.TooLong command counted same lost within long = record {
+ends_unread left read_faults calls asked held write_faults words input input' out job_faults.TooLong command counted same lost within long read = record {
   usage = (λ e. cc, λ no_command. absurd (no_command command));
   reading = record {
     read_fault = record { later = counted.later; rises = λ e. cc; stands = λ _. counted.stands (λ e. cc) };
@@ -90,6 +112,9 @@ ends_unread left read_faults held write_faults words input input' out job_faults
     taken_at_fault = λ e. cc;
     read_to_end = λ e. cc;
     nothing_read = λ e. cc;
+    few_calls = read.few_calls;
+    told_calls = read.told_calls;
+    asked_little = read.asked_little;
   };
   writing = unwritten held write_faults out Text (λ e. cc);
   verdict = λ _. weaker (left input) (λ bytes. job_limit < length bytes) (λ bytes. ShowsVerdict words bytes Text (held out) (held out))
@@ -98,7 +123,7 @@ ends_unread left read_faults held write_faults words input input' out job_faults
   first = λ e. cc;
   complete = λ _ _. inl tt;
 }
-ends_unread left read_faults held write_faults words input input' out job_faults.Memory command counted same lost within long = record {
+ends_unread left read_faults calls asked held write_faults words input input' out job_faults.Memory command counted same lost within long read = record {
   usage = (λ e. cc, λ no_command. absurd (no_command command));
   reading = record {
     read_fault = record { later = counted.later; rises = λ e. cc; stands = λ _. counted.stands (λ e. cc) };
@@ -107,6 +132,9 @@ ends_unread left read_faults held write_faults words input input' out job_faults
     taken_at_fault = λ e. cc;
     read_to_end = λ e. cc;
     nothing_read = λ e. cc;
+    few_calls = read.few_calls;
+    told_calls = read.told_calls;
+    asked_little = read.asked_little;
   };
   writing = unwritten held write_faults out Memory (λ e. cc);
   verdict = λ of. absurd of;
@@ -122,10 +150,10 @@ consumes_all (Some xs) None bytes same whole end = cc
 consumes_all (Some xs) (Some ys) bytes same whole end = sym whole ∙ sym (append-nil bytes) ∙ ap (λ rest. bytes ++ rest) (sym end)
 
 -- a run that read its input to the end
-reads_all : {S : Type 0} (left : S → Option (List ℕ)) (read_faults : S → ℕ) (old new : S) (status : Status) (bytes : List ℕ)
+reads_all : {S : Type 0} (left : S → Option (List ℕ)) (read_faults : S → ℕ) (calls asked : S → Option ℕ) (old new : S) (status : Status) (bytes : List ℕ)
     → read_faults new ≡ read_faults old → SameTold (left old) (left new) → IfSome (left old) (λ left. bytes ≡ left) → IsAtEnd (left new) → length bytes ≤ job_limit
-    → (status ≡ Usage → ⊥) → (status ≡ ReadFault → ⊥) → InputAfter left read_faults old new status
-reads_all left read_faults old new status bytes stands same whole end fits no_usage no_read =
+    → (status ≡ Usage → ⊥) → (status ≡ ReadFault → ⊥) → IsRead left calls asked old new → InputAfter left read_faults calls asked old new status
+reads_all left read_faults calls asked old new status bytes stands same whole end fits no_usage no_read read =
     let all = consumes_all (left old) (left new) bytes same whole end in
     record {
       read_fault = record { later = omega arith; rises = λ e. absurd (no_read e); stands = λ _. stands };
@@ -134,6 +162,9 @@ reads_all left read_faults old new status bytes stands same whole end fits no_us
       taken_at_fault = λ e. absurd (no_read e);
       read_to_end = λ _. end;
       nothing_read = λ e. absurd (no_usage e);
+      few_calls = read.few_calls;
+      told_calls = read.told_calls;
+      asked_little = read.asked_little;
     }
 
 -- a run in which no count rose comes to a verdict, or lacks memory
@@ -192,17 +223,17 @@ by_memory (Err (faults.Limit word fault)) e = cc
 by_memory (Err faults.Memory) e = refl
 
 -- the words are taken, the input is read, and then the reports are written
-pub ends : {S K : Type 0} (left : S → Option (List ℕ)) (read_faults : S → ℕ) (held : K → Option (List ℕ)) (write_faults : K → ℕ)
+pub ends : {S K : Type 0} (left : S → Option (List ℕ)) (read_faults : S → ℕ) (calls asked : S → Option ℕ) (held : K → Option (List ℕ)) (write_faults : K → ℕ)
     (words : List (List ℕ)) (came bytes : List ℕ) (input input' : S) (out out' : K) (result : Result (Unit {0}) Fault)
     → HasCommand words → bytes ≡ came
-    → read_faults input' ≡ read_faults input → SameTold (left input) (left input') → IfSome (left input) (λ left. came ≡ left) → IsAtEnd (left input') → length came ≤ job_limit
+    → read_faults input' ≡ read_faults input → SameTold (left input) (left input') → IfSome (left input) (λ left. came ≡ left) → IsAtEnd (left input') → length came ≤ job_limit → IsRead left calls asked input input'
     → (IsErrOf result faults.Usage → ⊥) → (IsErrOf result faults.Read → ⊥)
     → OutputAfter held write_faults out out' (status_after result)
     → (IsOfVerdict (status_after result) → ShowsVerdict words bytes (status_after result) (held out) (held out'))
     → (IsErrOf result faults.Write → ShowsPart words bytes (held out) (held out'))
     → (IsErrOf result faults.Memory → ShowsFirst words bytes (held out) (held out'))
-    → Ending left read_faults held write_faults words input input' out out' (status_after result)
-ends left read_faults held write_faults words came bytes input input' out out' result command same stands same_told whole end fits no_usage no_read writing verdict part first =
+    → Ending left read_faults calls asked held write_faults words input input' out out' (status_after result)
+ends left read_faults calls asked held write_faults words came bytes input input' out out' result command same stands same_told whole end fits asks no_usage no_read writing verdict part first =
     let status = status_after result in
     let usage : status ≡ Usage → ⊥ = not_usage result no_usage in
     let read : status ≡ ReadFault → ⊥ = not_read result no_read in
@@ -211,7 +242,7 @@ ends left read_faults held write_faults words came bytes input input' out out' r
     let F : List ℕ → Type 0 = λ bytes. ShowsFirst words bytes (held out) (held out') in
     record {
       usage = (λ e. absurd (usage e), λ no_command. absurd (no_command command));
-      reading = reads_all left read_faults input input' status came stands same_told whole end fits usage read;
+      reading = reads_all left read_faults calls asked input input' status came stands same_told whole end fits usage read asks;
       writing = writing;
       verdict = λ of. told (left input) came V whole (subst V same (verdict of));
       part = λ e. told (left input) came P whole (subst P same (part (by_write result e)));

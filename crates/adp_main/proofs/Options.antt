@@ -2,7 +2,7 @@
 use Rattle.std.proofs.Common.{◌≡◌, ℕ, ◌+◌, ◌-◌, ◌/◌, ◌%◌, ◌<◌, ◌≤◌, suc, zero, Bool, true, false, IsTrue, not, ◌&&◌, List, [], ◌∷◌, length, drop, map, get_or, Option, Some, None, unwrap_or, Result, Ok, Err, IfOk, OnErr, refl, sym, ap, ◌∙◌, subst, arith, codes, nat_eq}
 use Rattle.std.specs.List.{list_any}
 use lib.Pointwise.{pointwise}
-use Rattle.adp_model.specs.Command.{Setting, Algebra, Workers, Seed, AreSettings, AreSetOnce, IsValue, IsCommand, HasCommand, algebra_set, workers_set, seed_set, mode_word, option_word}
+use Rattle.adp_model.specs.Command.{Setting, Algebra, Workers, Seed, AreSettings, AreSetOnce, IsValue, IsCommand, HasCommand, algebra_set, workers_set, seed_set, size_set, mode_word, option_word}
 use Rattle.adp_model.specs.Command as asked
 use Rattle.adp_main.specs.declared.words.Settings.{Settings}
 use Rattle.adp_main.specs.declared.words.Mode.{Mode}
@@ -75,6 +75,10 @@ seed_is [] = refl
 seed_is (Seed seed ∷ settings) = refl
 seed_is (Algebra place ∷ settings) = seed_is settings
 seed_is (Workers workers ∷ settings) = seed_is settings
+
+size_is : (settings : List Setting) → 0 ≡ size_set settings
+size_is [] = refl
+size_is (setting ∷ settings) = size_is settings
 
 -- an option without a value is not set
 abbrev occurs : Setting → List Setting → Bool
@@ -271,10 +275,10 @@ no_option words place option value before odd e read refuses has =
     refused_last place option value (drop (place + 2) words) before found.settings read refuses found.set found.once
 
 -- all options are read
-pub all_read : (words : List (List ℕ)) (first : List ℕ) (mode : Mode) (state : Settings) (workers seed size : ℕ) → words ≡ first ∷ drop 1 words → first ≡ mode_word (mode_of mode)
+pub all_read : (words : List (List ℕ)) (first : List ℕ) (mode : Mode) (state : Settings) (workers seed : ℕ) → words ≡ first ∷ drop 1 words → first ≡ mode_word (mode_of mode)
     → AreRead 1 (drop 1 words) state → workers ≡ unwrap_or state.workers 1 → seed ≡ unwrap_or state.seed 0
-    → IsCommandOf words (record { mode = mode; algebra = state.algebra; workers = workers; seed = seed; size = size })
-all_read words first mode state workers seed size e is read w s = record {
+    → IsCommandOf words (record { mode = mode; algebra = state.algebra; workers = workers; seed = seed; size = 0 })
+all_read words first mode state workers seed e is read w s = record {
   options = drop 1 words;
   settings = read.settings;
   words_are = e ∙ ap (λ (first : List ℕ). first ∷ drop 1 words) is;
@@ -283,6 +287,7 @@ all_read words first mode state workers seed size e is read w s = record {
   algebra_is = read.algebra;
   workers_are = w ∙ ap (λ (o : Option ℕ). unwrap_or o 1) read.workers ∙ workers_is read.settings;
   seed_is = s ∙ ap (λ (o : Option ℕ). unwrap_or o 0) read.seed ∙ seed_is read.settings;
+  size_is = size_is read.settings;
 }
 
 -- the word at an index, and the words behind it
@@ -330,11 +335,11 @@ stop f words place a b option value before more odd within is_a is_b is_option i
     no_option (map f words) (place - 2) option value before (omega arith) (texts ∙ sym same) (subst B back read) refuses has
 
 -- all options are read
-pub finish : {A : Type 0} (f : A → List ℕ) (words : List A) (first : A) (text : List ℕ) (mode : Mode) (place : ℕ) (state : Settings) (workers seed size : ℕ)
+pub finish : {A : Type 0} (f : A → List ℕ) (words : List A) (first : A) (text : List ℕ) (mode : Mode) (place : ℕ) (state : Settings) (workers seed : ℕ)
     → 0 < length words → first ≡ get_or words 0 first → text ≡ f first → text ≡ mode_word (mode_of mode) → place % 2 ≡ 1 → place ≤ 1
     → AreRead place (drop place (map f words)) state → workers ≡ unwrap_or state.workers 1 → seed ≡ unwrap_or state.seed 0
-    → IsCommandOf (map f words) (record { mode = mode; algebra = state.algebra; workers = workers; seed = seed; size = size })
-finish f words first text mode place state workers seed size some is is_text is_mode odd last read w s =
+    → IsCommandOf (map f words) (record { mode = mode; algebra = state.algebra; workers = workers; seed = seed; size = 0 })
+finish f words first text mode place state workers seed some is is_text is_mode odd last read w s =
     let one : place ≡ 1 = omega arith in
     let B : ℕ → Type 0 = λ place. AreRead place (drop place (map f words)) state in
-    all_read (map f words) (f first) mode state workers seed size (drop_one f words 0 first some is) (sym is_text ∙ is_mode) (subst B one read) w s
+    all_read (map f words) (f first) mode state workers seed (drop_one f words 0 first some is) (sym is_text ∙ is_mode) (subst B one read) w s

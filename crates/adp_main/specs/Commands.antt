@@ -19,6 +19,7 @@ asked_command command = record {
   algebra = command.algebra;
   workers = command.workers;
   seed = command.seed;
+  size = command.size;
 }
 
 -- the words are this command

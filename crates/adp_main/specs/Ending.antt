@@ -1,9 +1,9 @@
 -- How a run ends: its status, and what it did to the input, the output and the error output.
-use Rattle.std.specs.Prelude.{◌≡◌, ◌↔◌, ◌⊎◌, ℕ, ◌+◌, List, [], take, Option, IfSome}
+use Rattle.std.specs.Prelude.{◌≡◌, ◌↔◌, ◌⊎◌, ℕ, ◌+◌, List, [], length, take, Option, IfSome}
 use Rattle.std.specs.List.{concat}
 use Rattle.std.specs.Io.KnownBytes.{Appends, IsAtEnd}
 use Rattle.adp_io.specs.Causes.{RisesWhere, Rose, next_count}
-use Rattle.adp_io.specs.Streams.{AppendsProperPrefix, LosesAtMost, SameTold, job_limit}
+use Rattle.adp_io.specs.Streams.{AppendsProperPrefix, AsksForAtMost, CallsAtMost, LosesAtMost, SameTold, job_limit, piece_limit}
 use Rattle.adp_model.specs.Command.{HasCommand}
 use Rattle.adp_model.specs.Verdict.{Verdict, IsVerdict}
 use Rattle.adp_model.specs.Verdict as verdicts
@@ -74,9 +74,10 @@ ShowsFirst words bytes old new =
     ⊎ ((reports : List (List ℕ)) × (count : ℕ) × IsVerdict words bytes (verdicts.Reports reports)
     × Appends old new (concat (take count reports)))
 
--- what a run with this status did to its input, of which its bytes left and its count of faults are seen
-pub record InputAfter {S : Type 0} (left : S → Option (List ℕ)) (faults : S → ℕ) (old new : S) (status : Status)
-    : Type 0 where
+-- what a run with this status did to its input, of which its bytes left, its count of faults, its calls and the most
+-- that it was asked for are seen
+pub record InputAfter {S : Type 0} (left : S → Option (List ℕ)) (faults : S → ℕ) (calls asked : S → Option ℕ)
+    (old new : S) (status : Status) : Type 0 where
   -- its count rose by one at ReadFault, and stood still otherwise
   pub read_fault : RisesWhere (faults old) (faults new) (status ≡ ReadFault)
   pub told : SameTold (left old) (left new)
@@ -85,6 +86,10 @@ pub record InputAfter {S : Type 0} (left : S → Option (List ℕ)) (faults : S 
   pub taken_at_fault : status ≡ ReadFault → LosesAtMost (left old) (left new) job_limit
   pub read_to_end : status ≡ Done → IsAtEnd (left new)
   pub nothing_read : status ≡ Usage → new ≡ old
+  -- it was called no more often than `read_job` calls it: once for each byte, and once at the end
+  pub few_calls : CallsAtMost (calls old) (calls new) (job_limit + 1)
+  pub told_calls : IfSome (left old) (λ bytes. CallsAtMost (calls old) (calls new) (length bytes + 1))
+  pub asked_little : AsksForAtMost (asked old) (asked new) piece_limit
 
 -- what a run with this status did to its output, of which the bytes that it holds and its count of faults are seen
 pub record OutputAfter {K : Type 0} (held : K → Option (List ℕ)) (faults : K → ℕ) (old new : K) (status : Status)
@@ -96,10 +101,10 @@ pub record OutputAfter {K : Type 0} (held : K → Option (List ℕ)) (faults : K
   pub untouched : IsBeforeWriting status → new ≡ old
 
 -- how a run on these words ended with this status
-pub record Ending {S K : Type 0} (left : S → Option (List ℕ)) (read_faults : S → ℕ) (held : K → Option (List ℕ))
-    (write_faults : K → ℕ) (words : List (List ℕ)) (input input' : S) (out out' : K) (status : Status) : Type 0 where
+pub record Ending {S K : Type 0} (left : S → Option (List ℕ)) (read_faults : S → ℕ) (calls asked : S → Option ℕ)
+    (held : K → Option (List ℕ)) (write_faults : K → ℕ) (words : List (List ℕ)) (input input' : S) (out out' : K) (status : Status) : Type 0 where
   pub usage : (status ≡ Usage) ↔ (HasCommand words → ⊥)
-  pub reading : InputAfter left read_faults input input' status
+  pub reading : InputAfter left read_faults calls asked input input' status
   pub writing : OutputAfter held write_faults out out' status
   -- where the input tells its bytes: the status and the reports are those of the verdict on them
   pub verdict : IsOfVerdict status

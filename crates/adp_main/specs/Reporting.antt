@@ -1,5 +1,5 @@
 -- The reports of a job's words, and what was written of them.
-use Rattle.std.specs.Prelude.{◌≡◌, ℕ, ◌+◌, ◌≤◌, ◌⊎◌, List, [], ◌∷◌, length, map, take, Option, Result, Ok, Err}
+use Rattle.std.specs.Prelude.{◌≡◌, ℕ, ◌+◌, ◌<◌, ◌≤◌, ◌⊎◌, List, [], ◌∷◌, length, map, slice_index_or, take, Option, Result, Ok, Err}
 use Rattle.std.specs.List.{concat}
 use Rattle.std.specs.Io.KnownBytes.{Appends}
 use Rattle.adp_io.specs.Streams.{AppendsProperPrefix}
@@ -41,6 +41,11 @@ IsJobRefusal words bytes (faults.Grammar fault) =
     IsVerdict words bytes (verdicts.Grammar fault) × (length fault.name ≤ 32)
 IsJobRefusal words bytes faults.Memory = Unit {0}
 IsJobRefusal words bytes fault = ⊥
+
+-- no word is longer than so many letters
+abbrev pub AreShort : ℕ → List (List ℕ) → Type 0
+AreShort longest words =
+    (place : ℕ) → place < length words → length (slice_index_or words place []) ≤ longest
 
 -- what is asked about each word
 abbrev pub posed_words : Grammar → ℕ → List (List ℕ) → List PosedProblem

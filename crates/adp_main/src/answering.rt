@@ -11,15 +11,16 @@ ghost use Rattle.adp_main.specs.declared.status.Status.TheVariants.{WriteFault};
 ghost use Rattle.report.specs.Faults.{HasShortName};
 
 use crate::checked_job::{CheckedJob, checked_job};
-use crate::limits::admit_words;
+use crate::limits::judge_words;
 use crate::words::Command;
 use crate::writing::write_words;
 use adp_io::Sink;
 use report::Fault;
 use std::alloc::Global;
 
-// Writes the reports of the words of the job that the bytes spell, each by one `write_whole`.
-pub(crate) fn write_reports<K: Sink>(
+/// Reads the job that the bytes spell, checks its grammar, judges its words, and writes their reports, each by one
+/// `write_whole`.
+pub(crate) fn answer_bytes<K: Sink>(
     alloc: Global,
     words: &[String],
     command: &Command,
@@ -45,7 +46,7 @@ pub(crate) fn write_reports<K: Sink>(
     write_job(alloc, &job, out)
 }
 
-// Writes the reports of the words of a checked job, where each word keeps the limits.
+/// Writes the reports of the words of a checked job, where each word keeps the limits.
 fn write_job<K: Sink>(alloc: Global, job: &CheckedJob, out: &mut K) -> Result<(), Fault>
     requires { length job.now.words ≤ 65536 }
     ensures told { SameTold (K.held out.old) (K.held out.new) }
@@ -54,6 +55,7 @@ fn write_job<K: Sink>(alloc: Global, job: &CheckedJob, out: &mut K) -> Result<()
     ensures ending { IsJobEnding job.now.checked.grammar job.now.checked.algebra job.now.words result
         (K.held out.old) (K.held out.new) }
 {
-    let problems = admit_words(alloc, &job.checked, job.words.as_slice())?;
-    write_words(alloc, &problems, out)
+    let words = job.words.as_slice();
+    let rows = judge_words(alloc, &job.checked, words)?;
+    write_words(alloc, &job.checked, &rows, words, out)
 }

@@ -1,4 +1,4 @@
-// A job whose grammar passed its checks under the algebra that the command asks for.
+//! A job whose grammar passed its checks under the algebra that the command asks for.
 ghost use Rattle.std.specs.Prelude.{◌≡◌, ◌≤◌, map, length, IfOk, IfErr, IsTrue};
 ghost use Rattle.std.specs.String.{string_bytes};
 ghost use Rattle.adp_model.specs.Verdict.{asked_name, greatest_length};
@@ -15,14 +15,14 @@ use grammar_text::read_text;
 use report::Fault;
 use std::alloc::{AllocError, Global};
 
-// The checked grammar and the words.
+/// The checked grammar and the words.
 #[derive(Drop)]
 pub(crate) struct CheckedJob {
     pub(crate) checked: Checked,
     pub(crate) words: Sequence<Text>,
 }
 
-// Reads the job that the bytes spell, and checks its grammar under the algebra that the command asks for.
+/// Reads the job that the bytes spell, and checks its grammar under the algebra that the command asks for.
 pub(crate) fn checked_job(
     alloc: Global,
     words: &[String],
@@ -47,7 +47,7 @@ pub(crate) fn checked_job(
     })
 }
 
-// The name of the algebra that the command asks for, or of the grammar's first.
+/// The name of the algebra that the command asks for, or of the grammar's first.
 fn named_algebra<'a>(words: &'a [String], command: &Command, grammar: &'a Grammar) -> &'a [u8]
     requires command { IsCommandOf (map string_bytes words.now) command.now }
     requires formed { IsTrue (is_well_formed grammar.now) }

@@ -9,7 +9,7 @@ use grammar_check::CheckError;
 use grammar_text::TextError;
 use report::Fault;
 
-// The status that a run with this fault ends with.
+/// The status that a run with this fault ends with.
 pub(crate) fn status_of(fault: &Fault) -> Status
     ensures { result ≡ status_of fault.now }
 {
@@ -24,7 +24,7 @@ pub(crate) fn status_of(fault: &Fault) -> Status
     }
 }
 
-// The fault of an input that was not read.
+/// The fault of an input that was not read.
 pub(crate) fn reading_fault(fault: JobFault) -> Fault
     ensures { result ≡ reading_fault fault }
 {
@@ -35,7 +35,7 @@ pub(crate) fn reading_fault(fault: JobFault) -> Fault
     }
 }
 
-// The fault of bytes that were not read as a job.
+/// The fault of bytes that were not read as a job.
 pub(crate) fn text_refusal(error: TextError) -> Fault
     ensures { result ≡ text_refusal error }
 {
@@ -45,7 +45,7 @@ pub(crate) fn text_refusal(error: TextError) -> Fault
     }
 }
 
-// The fault of a grammar that was not checked.
+/// The fault of a grammar that was not checked.
 pub(crate) fn grammar_refusal(error: CheckError) -> Fault
     ensures { result ≡ grammar_refusal error }
 {

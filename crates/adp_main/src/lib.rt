@@ -1,10 +1,10 @@
 //! The engine's top call: from the words of the command line and the bytes of a job to reports and a status.
 #![tactic(auto)]
 
+mod answering;
 mod checked_job;
 mod fault;
 mod limits;
-mod reports;
 mod status;
 mod top_call;
 mod words;

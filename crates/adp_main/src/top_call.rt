@@ -5,8 +5,8 @@ ghost use Rattle.adp_main.specs.Ending.{Ending, ShowsFault};
 ghost use Rattle.adp_main.specs.Faults.{fault_verdict, status_after};
 ghost use Rattle.report.specs.Faults.{HasShortName};
 
+use crate::answering::answer_bytes;
 use crate::fault::{reading_fault, status_of};
-use crate::reports::write_reports;
 use crate::status::Status;
 use crate::words::read_words;
 use adp_io::{Sink, Source, read_job, write_whole};
@@ -22,7 +22,7 @@ pub fn run<S: Source, K: Sink, E: Sink>(
     out: &mut K,
     err: &mut E,
 ) -> Status
-    ensures ending { Ending S.left S.faults K.held K.faults (map string_bytes words.now)
+    ensures ending { Ending S.left S.faults S.calls S.asked K.held K.faults (map string_bytes words.now)
         input.old input.new out.old out.new result }
     ensures silent { result ≡ Status.Done → err.new ≡ err.old }
     ensures fault { (result ≡ Status.Done → ⊥) → ShowsFault (S.left input.old) (map string_bytes words.now) result
@@ -38,14 +38,14 @@ pub fn run<S: Source, K: Sink, E: Sink>(
     }
 }
 
-// Reads the job and writes its reports.
+/// Reads the job and writes its reports.
 fn answer<S: Source, K: Sink>(
     alloc: Global,
     words: &[String],
     input: &mut S,
     out: &mut K,
 ) -> Result<(), Fault>
-    ensures ending { Ending S.left S.faults K.held K.faults (map string_bytes words.now)
+    ensures ending { Ending S.left S.faults S.calls S.asked K.held K.faults (map string_bytes words.now)
         input.old input.new out.old out.new (status_after result) }
     ensures short { IfErr result HasShortName }
     ensures fault { IfErr result (λ fault. IfSome (fault_verdict fault)
@@ -56,5 +56,5 @@ fn answer<S: Source, K: Sink>(
         Ok(bytes) => bytes,
         Err(fault) => return Err(reading_fault(fault)),
     };
-    write_reports(alloc, words, &command, &bytes, out)
+    answer_bytes(alloc, words, &command, &bytes, out)
 }

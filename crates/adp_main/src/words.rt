@@ -38,7 +38,7 @@ pub fn read_words(words: &[String]) -> Result<Command, Usage>
     ensures taken { IsOk result ↔ HasCommand (map string_bytes words.now) }
     ensures command { IfOk result (IsCommandOf (map string_bytes words.now)) }
 {
-    // A mode, and two words for each option.
+    /// A mode, and two words for each option.
     if words.len() % 2 == 0 {
         return Err(Usage);
     }
@@ -75,7 +75,7 @@ fn read_mode(word: &str) -> Result<Mode, Usage>
     Err(Usage)
 }
 
-// The values of the options that are set.
+/// The values of the options that are set.
 #[derive(Clone, Copy)]
 struct Settings {
     algebra: Option<usize>,
@@ -84,7 +84,7 @@ struct Settings {
 }
 
 impl Settings {
-    // One more option with its value, which stands at this place among the words. It is an error where the option is
+    /// One more option with its value, which stands at this place among the words. It is an error where the option is
     // set already.
     fn add(self, option: &str, value: &str, place: usize) -> Result<Settings, Usage>
         ensures added { IfOk result (λ after. (setting : asked.Setting)
@@ -147,7 +147,7 @@ impl Settings {
     }
 }
 
-// The number that the digits of a word write, without a sign.
+/// The number that the digits of a word write, without a sign.
 fn number(word: &str) -> Option<u64>
     ensures { SomeIff result (IsNumeral 10 word.now × (digits_value 10 word.now < 2 ^ 64)) (digits_value 10 word.now) }
 {

@@ -43,3 +43,4 @@ pub mod FittingTerms
 pub mod FormedNames
 pub mod PlacedChildren
 pub mod LimitsKept
+pub mod OneVerdict

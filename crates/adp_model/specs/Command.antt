@@ -62,12 +62,18 @@ seed_set [] = 0
 seed_set (Seed seed ∷ settings) = seed
 seed_set (setting ∷ settings) = seed_set settings
 
--- what the words of a command line say
+-- no option that there is sets a size
+abbrev pub size_set : List Setting → ℕ
+size_set [] = 0
+size_set (setting ∷ settings) = size_set settings
+
+-- what the words of a command line say; the size is 0 where none is set
 pub record Command : Type 0 where
   pub mode : Mode
   pub algebra : Option ℕ
   pub workers : ℕ
   pub seed : ℕ
+  pub size : ℕ
 
 -- the words are this command
 pub record IsCommand (words : List (List ℕ)) (command : Command) : Type 0 where
@@ -79,6 +85,7 @@ pub record IsCommand (words : List (List ℕ)) (command : Command) : Type 0 wher
   pub algebra_is : command.algebra ≡ algebra_set settings
   pub workers_are : command.workers ≡ workers_set settings
   pub seed_is : command.seed ≡ seed_set settings
+  pub size_is : command.size ≡ size_set settings
 
 -- the words are some command
 abbrev pub HasCommand : List (List ℕ) → Type 0

@@ -45,3 +45,4 @@ pub mod StepsMade
 pub mod Memos
 pub mod Machines
 pub mod StepBound
+pub mod CheckableJobs

@@ -15,4 +15,5 @@ pub mod splits;
 pub mod strict;
 pub mod terms;
 pub mod text;
+pub mod verdict;
 pub mod well_formed;

@@ -5,5 +5,5 @@ use Rattle.adp_main.proofs.limits.longest.Given as goal
 abbrev pub invariant-loop-word : goal.invariant-loop-word
 invariant-loop-word l = record {
   most : l.longest ≤ 4000;
-  each : (place : ℕ) → place < l.word-index → length (get_or l.words place []) ≤ 4000 → length (get_or l.words place []) ≤ l.longest;
+  each : (place : ℕ) → place < l.word-index → length (get_or l.words place []) ≤ l.longest;
 }

@@ -32,7 +32,7 @@ loop-place-preserved c = record {
 
 pub returns-clause-command : goal.returns-clause-command
 returns-clause-command c =
-    finish string_bytes c.args.words.now c.index-words-0.result c.as_str.result.now c.in_ok-mode.mode c.loop-place.place c.loop-place.set _ _ 0
+    finish string_bytes c.args.words.now c.index-words-0.result c.as_str.result.now c.in_ok-mode.mode c.loop-place.place c.loop-place.set _ _
     (omega (arith, c.if-words-eq0.false)) c.index-words-0.is c.as_str.ensures.value c.in_ok-mode.ensures.known c.loop-place.invariant.odd c.loop-place-test.false
     c.loop-place.invariant.read c.unwrap_or.ensures c.unwrap_or-2.ensures
 

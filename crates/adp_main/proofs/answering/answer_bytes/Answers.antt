@@ -1,6 +1,6 @@
 use Rattle.std.proofs.lemmas.Result.{err_from_is_err_and}
 use Rattle.adp_main.proofs.Reported.{fault_of, first_of, grew_of, refused, shows_part, verdict_of}
-use Rattle.adp_main.proofs.reports.write_reports.Goals as goal
+use Rattle.adp_main.proofs.answering.answer_bytes.Goals as goal
 
 pub returns-clause-fault : goal.returns-clause-fault
 returns-clause-fault g c = fault_of _ _ c.in_ok-job.job c.in_ok-job.ensures.job c.write_job.result _ _ c.write_job.ensures.ending
