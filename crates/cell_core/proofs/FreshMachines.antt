@@ -68,10 +68,10 @@ module _ {Pass Probe : Type 0} (memo : Meaning Pass Probe) (p : PosedProblem) (n
       go : (ended : Bool) → work.ended ≡ ended → steps_left memo p m arguments work.ended work.hand (frames_of work.top work.below.items) pass ≤ step_bound m (length arguments)
       go true e =
           let f : steps_left memo p m arguments work.ended work.hand (frames_of work.top work.below.items) pass ≡ steps_left memo p m arguments true work.hand (frames_of work.top work.below.items) pass =
-              λ i. steps_left memo p m arguments (e i) work.hand (frames_of work.top work.below.items) pass in
+          λ i. steps_left memo p m arguments (e i) work.hand (frames_of work.top work.below.items) pass in
           omega arith
       go false e =
           let f : steps_left memo p m arguments work.ended work.hand (frames_of work.top work.below.items) pass ≡ steps_left memo p m arguments false None [] pass =
-              λ i. steps_left memo p m arguments (e i) (fresh.hand i) (no_frames i) pass in
+          λ i. steps_left memo p m arguments (e i) (fresh.hand i) (no_frames i) pass in
           let l = fresh_within memo p m arguments pass in
           omega arith

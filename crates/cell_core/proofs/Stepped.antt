@@ -12,8 +12,17 @@ use Rattle.cell_core.specs.MachineViews.{state_of, IsNotedIn}
 
 -- the work with another number of steps
 abbrev pub with_moves : {Probe : Type 0} → Work Probe → ℕ → Work Probe
-with_moves work moves = record { hand = work.hand; top = work.top; below = work.below; ready = work.ready;
-    opened = work.opened; wins = work.wins; moves = moves; ended = work.ended; score = work.score }
+with_moves work moves = record {
+  hand = work.hand;
+  top = work.top;
+  below = work.below;
+  ready = work.ready;
+  opened = work.opened;
+  wins = work.wins;
+  moves = moves;
+  ended = work.ended;
+  score = work.score;
+}
 
 module _ {Pass Probe : Type 0} (memo : Meaning Pass Probe) (p : PosedProblem) (pass : Pass) where
   pub sound_from : (notes : Notes) (work : Work Probe) → HasRoom p work

@@ -92,12 +92,7 @@ impl<'a, M: Memo> Machine<'a, M> {
     }
 
     /// Makes one step of the memo, or none where the machine has ended. Takes no memory.
-    pub fn step<L: Ledger>(
-        &mut self,
-        memo: &M,
-        pass: &mut M::Pass,
-        steps: &mut Steps<L>,
-    ) -> Turn
+    pub fn step<L: Ledger>(&mut self, memo: &M, pass: &mut M::Pass, steps: &mut Steps<L>) -> Turn
         requires memo { M.problem memo.now ≡ self.old.machine.problem }
         requires own { M.is_of memo.now pass.old }
         requires machine { IsMachine M.meaning IsNotedIn self.old.machine pass.old }

@@ -10,13 +10,12 @@ use Rattle.cell_core.proofs.work.demands_axiom.Goals as goal
 pub returns-then-letters-least : goal.returns-then-letters-least
 returns-then-letters-least c =
     let letters = ap (λ (cell : Cell). cell.to) c.axiom_cell-cell.ensures in
-    let rule = ap (λ (cell : Cell). cell.rule) c.axiom_cell-cell.ensures in
-    (
+    let rule = ap (λ (cell : Cell). cell.rule) c.axiom_cell-cell.ensures in (
       λ t. absurd (false≢true t),
       λ demanded.
           let parts = (c.sizes-least.ensures (length c.args.problem.now.word)).0
-              (subst (λ (rule : ℕ). IsWithinSizes c.args.problem.now.grammar rule (length c.args.problem.now.word)) (sym rule)
-              (axiom_within c.args.problem.now (λ cell demanded. c.demanded_cells_are_counted.ensures c.args.problem.now c.admissible.ensures.checked.well_formed cell demanded) demanded)) in
+          (subst (λ (rule : ℕ). IsWithinSizes c.args.problem.now.grammar rule (length c.args.problem.now.word)) (sym rule)
+          (axiom_within c.args.problem.now (λ cell demanded. c.demanded_cells_are_counted.ensures c.args.problem.now c.admissible.ensures.checked.well_formed cell demanded) demanded)) in
           let least = parts.0 in
           absurd (omega (arith, c.if-letters-least.true)),
     )
@@ -24,15 +23,14 @@ returns-then-letters-least c =
 pub returns-then-greatest-letters : goal.returns-then-greatest-letters
 returns-then-greatest-letters c =
     let letters = ap (λ (cell : Cell). cell.to) c.axiom_cell-cell.ensures in
-    let rule = ap (λ (cell : Cell). cell.rule) c.axiom_cell-cell.ensures in
-    (
+    let rule = ap (λ (cell : Cell). cell.rule) c.axiom_cell-cell.ensures in (
       λ t. absurd (false≢true t),
       λ demanded.
           let parts = (c.sizes-least.ensures (length c.args.problem.now.word)).0
-              (subst (λ (rule : ℕ). IsWithinSizes c.args.problem.now.grammar rule (length c.args.problem.now.word)) (sym rule)
-              (axiom_within c.args.problem.now (λ cell demanded. c.demanded_cells_are_counted.ensures c.args.problem.now c.admissible.ensures.checked.well_formed cell demanded) demanded)) in
+          (subst (λ (rule : ℕ). IsWithinSizes c.args.problem.now.grammar rule (length c.args.problem.now.word)) (sym rule)
+          (axiom_within c.args.problem.now (λ cell demanded. c.demanded_cells_are_counted.ensures c.args.problem.now c.admissible.ensures.checked.well_formed cell demanded) demanded)) in
           let most : length c.args.problem.now.word ≤ c.in-Some.greatest =
-              subst (λ greatest. IfSome greatest (λ most. length c.args.problem.now.word ≤ most)) c.in-Some.is parts.1 in
+          subst (λ greatest. IfSome greatest (λ most. length c.args.problem.now.word ≤ most)) c.in-Some.is parts.1 in
           absurd (omega (arith, c.if-greatest-letters.true)),
     )
 
@@ -41,8 +39,7 @@ returns-else-greatest-letters c =
     let letters = ap (λ (cell : Cell). cell.to) c.axiom_cell-cell.ensures in
     let rule = ap (λ (cell : Cell). cell.rule) c.axiom_cell-cell.ensures in
     let more : length c.args.problem.now.word ≤ c.in-Some.greatest = omega (arith, c.if-greatest-letters.false) in
-    let less : c.sizes-least.result.0 ≤ length c.args.problem.now.word = omega (arith, c.if-letters-least.false) in
-    (
+    let less : c.sizes-least.result.0 ≤ length c.args.problem.now.word = omega (arith, c.if-letters-least.false) in (
       λ t.
           Axiom (subst (λ (rule : ℕ). IsWithinSizes c.args.problem.now.grammar rule (length c.args.problem.now.word)) rule
           ((c.sizes-least.ensures (length c.args.problem.now.word)).1
@@ -54,8 +51,7 @@ pub returns-in-None : goal.returns-in-None
 returns-in-None c =
     let letters = ap (λ (cell : Cell). cell.to) c.axiom_cell-cell.ensures in
     let rule = ap (λ (cell : Cell). cell.rule) c.axiom_cell-cell.ensures in
-    let less : c.sizes-least.result.0 ≤ length c.args.problem.now.word = omega (arith, c.if-letters-least.false) in
-    (
+    let less : c.sizes-least.result.0 ≤ length c.args.problem.now.word = omega (arith, c.if-letters-least.false) in (
       λ t.
           Axiom (subst (λ (rule : ℕ). IsWithinSizes c.args.problem.now.grammar rule (length c.args.problem.now.word)) rule
           ((c.sizes-least.ensures (length c.args.problem.now.word)).1

@@ -11,15 +11,15 @@ pub returns-then-self : goal.returns-then-self
 returns-then-self c =
     subst
     (λ (notes : Notes).
-        MatchOption c.seek.result (IsNoneSought c.args.self.now.problem (IsNoted notes) c.args.visit)
-        (λ found. IsSplitArgument c.args.self.now.problem (argument_at c.args.visit.cell found.0)
-        × IsNextSought c.args.self.now.problem (IsNoted notes) c.args.visit found.0 found.1))
+    MatchOption c.seek.result (IsNoneSought c.args.self.now.problem (IsNoted notes) c.args.visit)
+    (λ found. IsSplitArgument c.args.self.now.problem (argument_at c.args.visit.cell found.0)
+    × IsNextSought c.args.self.now.problem (IsNoted notes) c.args.visit found.0 found.1))
     c.noted-noted.ensures
     (subst
     (λ q.
-        MatchOption c.seek.result (IsNoneSought q (IsNoted c.noted-noted.result.now) c.args.visit)
-        (λ found. IsSplitArgument q (argument_at c.args.visit.cell found.0)
-        × IsNextSought q (IsNoted c.noted-noted.result.now) c.args.visit found.0 found.1))
+    MatchOption c.seek.result (IsNoneSought q (IsNoted c.noted-noted.result.now) c.args.visit)
+    (λ found. IsSplitArgument q (argument_at c.args.visit.cell found.0)
+    × IsNextSought q (IsNoted c.noted-noted.result.now) c.args.visit found.0 found.1))
     c.problem-problem.ensures c.seek.ensures)
 
 pub returns : goal.returns
@@ -27,7 +27,7 @@ returns c =
     nothing_passed c.args.self.now.problem (IsNoted c.args.self.now) c.args.visit c.seek-2.result
     (subst
     (λ q.
-        MatchOption c.seek-2.result (IsNoneSought q (λ _. ⊥) c.args.visit)
-        (λ found. IsSplitArgument q (argument_at c.args.visit.cell found.0)
-        × IsNextSought q (λ _. ⊥) c.args.visit found.0 found.1))
+    MatchOption c.seek-2.result (IsNoneSought q (λ _. ⊥) c.args.visit)
+    (λ found. IsSplitArgument q (argument_at c.args.visit.cell found.0)
+    × IsNextSought q (λ _. ⊥) c.args.visit found.0 found.1))
     c.problem-problem.ensures c.seek-2.ensures)

@@ -11,12 +11,11 @@ keep-requires-clause-right c =
     (sym (c.self.invariant.1 ∙ ap (λ (notes : Notes). notes.problem) c.self.view_is)) c.requires.score
 
 pub invariant_of-self : goal.invariant_of-self
-invariant_of-self c =
-    (
-      c.self.invariant.0 ∙ sym c.note.ensures.problem,
-      c.keep.ensures.problem ∙ c.self.invariant.1 ∙ sym c.note.ensures.problem,
-      λ other noted. entered other ((c.note.ensures.noted other).0 noted),
-    )
+invariant_of-self c = (
+  c.self.invariant.0 ∙ sym c.note.ensures.problem,
+  c.keep.ensures.problem ∙ c.self.invariant.1 ∙ sym c.note.ensures.problem,
+  λ other noted. entered other ((c.note.ensures.noted other).0 noted),
+)
   where
     entered : (other : Cell) → IsNoted c.self.inside.noted other ⊎ (other ≡ c.args.cell) → HasEntry c.keep.new.self other
     entered other (inl was) = c.keep.ensures.others other (c.self.invariant.2 other was)

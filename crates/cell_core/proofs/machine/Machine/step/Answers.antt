@@ -10,7 +10,7 @@ make_step-requires-clause-sound g c =
     c.self.invariant.0
     (subst
     (λ notes.
-        IsMachine g.M.Memo.meaning IsNotedIn (state_of c.self.inside.problem.now notes c.self.inside.work) c.args.pass.now)
+    IsMachine g.M.Memo.meaning IsNotedIn (state_of c.self.inside.problem.now notes c.self.inside.work) c.args.pass.now)
     c.in-Some.is
     (subst (λ (view : MachineView _). IsMachine g.M.Memo.meaning IsNotedIn view.machine c.args.pass.now) (sym c.self.view_is)
     c.requires.machine))
