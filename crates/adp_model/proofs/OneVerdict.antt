@@ -1,5 +1,5 @@
 -- A command line and bytes have one verdict.
-use Rattle.std.proofs.Common.{◌≡◌, ℕ, zero, suc, ◌+◌, ◌<◌, ◌≤◌, ◌⊎◌, inl, inr, Bool, true, false, not, ◌&&◌, IsTrue, nat_eq, Option, Some, None, Result, Ok, Err, List, [], ◌∷◌, length, map, drop, codes, get_or, slice_index_or, refl, sym, ap, ap₂, subst, ◌∙◌, arith}
+use Rattle.std.proofs.Common.{◌≡◌, ℕ, zero, suc, ◌+◌, ◌^◌, ◌<◌, ◌≤◌, ◌⊎◌, inl, inr, Bool, true, false, not, ◌&&◌, IsTrue, nat_eq, Option, Some, None, Result, Ok, Err, List, [], ◌∷◌, length, map, drop, codes, get_or, slice_index_or, refl, sym, ap, ap₂, subst, ◌∙◌, arith}
 use Rattle.std.specs.List.{list_any}
 use Rattle.std.proofs.lemmas.List.{get_or-map, length-map}
 use Rattle.std.proofs.lemmas.List.Folds.{list_any_at}
@@ -14,7 +14,7 @@ use Rattle.adp_model.specs.declared.fault.GrammarFault.{GrammarFault}
 use Rattle.adp_model.specs.declared.fault.LimitFault.{LimitFault}
 use Rattle.adp_model.specs.Parts.{algebra_at, sign_at}
 use Rattle.adp_model.specs.WellFormed.{are_distinct, is_well_formed, counts_fit, names_differ, parts_fit}
-use Rattle.adp_model.specs.Command.{Mode, Best, Serial, mode_word, Setting, Algebra as ByAlgebra, Workers, Seed, option_word, IsValue, AreSettings, algebra_set, workers_set, seed_set, size_set, Command, IsCommand, HasCommand}
+use Rattle.adp_model.specs.Command.{Mode, Best, Serial, Wins, Big, mode_word, Setting, Algebra as ByAlgebra, Workers, Seed, Size, option_word, IsValue, AreSettings, algebra_set, workers_set, seed_set, size_set, greatest_size, Command, IsCommand, HasCommand, ReadsJob, ShowsWins, AsksForJob}
 use Rattle.adp_model.specs.JobText.{Accepted, text_verdict, IsText, IsFaultOf}
 use Rattle.adp_model.specs.Lengths.{IsProductive}
 use Rattle.adp_model.specs.Loops.{IsOnLoop}
@@ -22,10 +22,13 @@ use Rattle.adp_model.specs.GrammarFaults.{rule_name, IsNamed, IsFirstFaulty, IsU
 use Rattle.adp_model.specs.Checks.{IsChecked}
 use Rattle.adp_model.specs.CheckableJobs.{AreCheckable}
 use Rattle.adp_model.specs.PosedProblem.{PosedProblem}
-use Rattle.adp_model.specs.Verdict.{AsksFor, AsksUnder, asked_name, greatest_length, KeepLimits, IsFirstLimit, AreReports, Verdict, Usage, TooLong, Text, Grammar as OfGrammar, Limit, Reports, IsVerdict}
+use Rattle.adp_model.specs.Verdict.{AsksFor, AsksUnder, asked_name, greatest_length, KeepLimits, IsFirstLimit, AreReports, Verdict, Usage, TooLong, Text, Grammar as OfGrammar, Limit, Reports, AskForReports, AskForBigReport, AreOfWins, IsLimit, IsReports, IsVerdict}
 use Rattle.adp_model.proofs.WellFormedParts.{and_first, and_second}
 use Rattle.adp_model.proofs.LimitsKept.{kept_not_passed, one_fault}
-use Rattle.adp_model.proofs.Reports.{IsReport_unique}
+use Rattle.adp_model.specs.Report.{IsReport}
+use Rattle.adp_model.specs.BigReport.{made_problem, IsBigReport}
+use Rattle.adp_model.specs.Verdict.{IsReportIn}
+use Rattle.adp_model.proofs.Reports.{IsReport_unique, IsBigReport_unique}
 
 -- ---- the command
 
@@ -33,24 +36,37 @@ algebra≢workers : codes "--algebra" ≡ codes "--workers" → ⊥
 algebra≢workers e = omega (arith, ap (λ (w : List ℕ). get_or w 2 0) e)
 
 algebra≢seed : codes "--algebra" ≡ codes "--seed" → ⊥
-algebra≢seed e = omega (arith, ap (λ (w : List ℕ). get_or w 2 0) e)
+algebra≢seed e = omega (arith, ap length e)
+
+algebra≢size : codes "--algebra" ≡ codes "--size" → ⊥
+algebra≢size e = omega (arith, ap length e)
 
 workers≢seed : codes "--workers" ≡ codes "--seed" → ⊥
-workers≢seed e = omega (arith, ap (λ (w : List ℕ). get_or w 2 0) e)
+workers≢seed e = omega (arith, ap length e)
 
-best≢serial : codes "best" ≡ codes "serial" → ⊥
-best≢serial e = omega (arith, ap length e)
+workers≢size : codes "--workers" ≡ codes "--size" → ⊥
+workers≢size e = omega (arith, ap length e)
+
+seed≢size : codes "--seed" ≡ codes "--size" → ⊥
+seed≢size e = omega (arith, ap (λ (w : List ℕ). get_or w 3 0) e)
 
 setting_unique : (place : ℕ) (value : List ℕ) (a b : Setting) → option_word a ≡ option_word b → IsValue place value a → IsValue place value b → a ≡ b
 setting_unique place value (ByAlgebra m) (ByAlgebra n) e v w = ap ByAlgebra (v.1 ∙ sym w.1)
 setting_unique place value (ByAlgebra m) (Workers n) e v w = absurd (algebra≢workers e)
 setting_unique place value (ByAlgebra m) (Seed n) e v w = absurd (algebra≢seed e)
+setting_unique place value (ByAlgebra m) (Size n) e v w = absurd (algebra≢size e)
 setting_unique place value (Workers m) (ByAlgebra n) e v w = absurd (algebra≢workers (sym e))
 setting_unique place value (Workers m) (Workers n) e v w = ap Workers (v.0.1 ∙ sym w.0.1)
 setting_unique place value (Workers m) (Seed n) e v w = absurd (workers≢seed e)
+setting_unique place value (Workers m) (Size n) e v w = absurd (workers≢size e)
 setting_unique place value (Seed m) (ByAlgebra n) e v w = absurd (algebra≢seed (sym e))
 setting_unique place value (Seed m) (Workers n) e v w = absurd (workers≢seed (sym e))
 setting_unique place value (Seed m) (Seed n) e v w = ap Seed (v.0.1 ∙ sym w.0.1)
+setting_unique place value (Seed m) (Size n) e v w = absurd (seed≢size e)
+setting_unique place value (Size m) (ByAlgebra n) e v w = absurd (algebra≢size (sym e))
+setting_unique place value (Size m) (Workers n) e v w = absurd (workers≢size (sym e))
+setting_unique place value (Size m) (Seed n) e v w = absurd (seed≢size (sym e))
+setting_unique place value (Size m) (Size n) e v w = ap Size (v.0.1 ∙ sym w.0.1)
 
 settings_unique : (place : ℕ) (words : List (List ℕ)) (a b : List Setting) → AreSettings place words a → AreSettings place words b → a ≡ b
 settings_unique place [] [] [] h k = refl
@@ -63,11 +79,41 @@ settings_unique place (option ∷ value ∷ words) (s ∷ a) [] h k = absurd k
 settings_unique place (option ∷ value ∷ words) (s ∷ a) (t ∷ b) h k =
     ap₂ (λ x xs. x ∷ xs) (setting_unique (place + 1) value s t (sym h.0 ∙ k.0) h.1 k.1) (settings_unique (place + 2) words a b h.2 k.2)
 
+best≢serial : codes "best" ≡ codes "serial" → ⊥
+best≢serial e = omega (arith, ap length e)
+
+best≢wins : codes "best" ≡ codes "wins" → ⊥
+best≢wins e = omega (arith, ap (λ (w : List ℕ). get_or w 0 0) e)
+
+best≢big : codes "best" ≡ codes "big" → ⊥
+best≢big e = omega (arith, ap length e)
+
+serial≢wins : codes "serial" ≡ codes "wins" → ⊥
+serial≢wins e = omega (arith, ap length e)
+
+serial≢big : codes "serial" ≡ codes "big" → ⊥
+serial≢big e = omega (arith, ap length e)
+
+wins≢big : codes "wins" ≡ codes "big" → ⊥
+wins≢big e = omega (arith, ap length e)
+
 mode_unique : (a b : Mode) → mode_word a ≡ mode_word b → a ≡ b
 mode_unique Best Best e = refl
 mode_unique Best Serial e = absurd (best≢serial e)
+mode_unique Best Wins e = absurd (best≢wins e)
+mode_unique Best Big e = absurd (best≢big e)
 mode_unique Serial Best e = absurd (best≢serial (sym e))
 mode_unique Serial Serial e = refl
+mode_unique Serial Wins e = absurd (serial≢wins e)
+mode_unique Serial Big e = absurd (serial≢big e)
+mode_unique Wins Best e = absurd (best≢wins (sym e))
+mode_unique Wins Serial e = absurd (serial≢wins (sym e))
+mode_unique Wins Wins e = refl
+mode_unique Wins Big e = absurd (wins≢big e)
+mode_unique Big Best e = absurd (best≢big (sym e))
+mode_unique Big Serial e = absurd (serial≢big (sym e))
+mode_unique Big Wins e = absurd (wins≢big (sym e))
+mode_unique Big Big e = refl
 
 pub command_unique : (words : List (List ℕ)) (a b : Command) → IsCommand words a → IsCommand words b → a ≡ b
 command_unique words a b h k =
@@ -79,7 +125,45 @@ command_unique words a b h k =
     let workers = h.workers_are ∙ ap workers_set settings ∙ sym k.workers_are in
     let seed = h.seed_is ∙ ap seed_set settings ∙ sym k.seed_is in
     let size = h.size_is ∙ ap size_set settings ∙ sym k.size_is in
-    λ i. record { mode = mode i; algebra = algebra i; workers = workers i; seed = seed i; size = size i }
+    λ i. record {
+      mode = mode i;
+      algebra = algebra i;
+      workers = workers i;
+      seed = seed i;
+      size = size i;
+    }
+
+-- the numbers of settings are in range
+numbers_in_range : (place : ℕ) (words : List (List ℕ)) (settings : List Setting) → AreSettings place words settings
+    → (1 ≤ workers_set settings) × (workers_set settings ≤ 32) × (seed_set settings < 2 ^ 64)
+    × (size_set settings ≤ greatest_size)
+numbers_in_range place words [] h = (omega arith, omega arith, omega arith, omega arith)
+numbers_in_range place [] (setting ∷ settings) h = absurd h
+numbers_in_range place (option ∷ []) (setting ∷ settings) h = absurd h
+numbers_in_range place (option ∷ value ∷ words) (ByAlgebra named ∷ settings) h =
+    numbers_in_range (place + 2) words settings h.2
+numbers_in_range place (option ∷ value ∷ words) (Workers workers ∷ settings) h =
+    let rest = numbers_in_range (place + 2) words settings h.2 in
+    (h.1.1, h.1.2, rest.2, rest.3)
+numbers_in_range place (option ∷ value ∷ words) (Seed seed ∷ settings) h =
+    let rest = numbers_in_range (place + 2) words settings h.2 in
+    (rest.0, rest.1, h.1.1, rest.3)
+numbers_in_range place (option ∷ value ∷ words) (Size size ∷ settings) h =
+    let rest = numbers_in_range (place + 2) words settings h.2 in
+    (rest.0, rest.1, rest.2, h.1.2)
+
+module _ (words : List (List ℕ)) (command : Command) (is : IsCommand words command) where
+  pub some_workers : 1 ≤ command.workers
+  some_workers = subst (λ n. 1 ≤ n) (sym is.workers_are) (numbers_in_range 1 is.options is.settings is.set).0
+
+  pub few_workers : command.workers ≤ 32
+  few_workers = subst (λ n. n ≤ 32) (sym is.workers_are) (numbers_in_range 1 is.options is.settings is.set).1
+
+  pub seed_in_range : command.seed < 2 ^ 64
+  seed_in_range = subst (λ n. n < 2 ^ 64) (sym is.seed_is) (numbers_in_range 1 is.options is.settings is.set).2
+
+  pub size_in_range : command.size ≤ greatest_size
+  size_in_range = subst (λ n. n ≤ greatest_size) (sym is.size_is) (numbers_in_range 1 is.options is.settings is.set).3
 
 -- ---- the text
 
@@ -198,14 +282,32 @@ module _ (grammar : Grammar) (algebra : ℕ) (least : List ℕ) (greatest : List
   kept_or_limit number (word ∷ words) first fault kept (inl h) = kept_not_passed grammar algebra least greatest ranks checked (length word) fault kept.0 h.1
   kept_or_limit number (word ∷ words) first fault kept (inr h) = kept_or_limit (number + 1) words first fault kept.1 h.1
 
-reports_unique : (grammar : Grammar) → IsTrue (is_well_formed grammar) → (algebra number : ℕ) (words a b : List (List ℕ)) → AreReports grammar algebra number words a → AreReports grammar algebra number words b → a ≡ b
-reports_unique grammar formed algebra number [] [] [] h k = refl
-reports_unique grammar formed algebra number [] [] (y ∷ b) h k = absurd k
-reports_unique grammar formed algebra number [] (x ∷ a) b h k = absurd h
-reports_unique grammar formed algebra number (word ∷ words) [] b h k = absurd h
-reports_unique grammar formed algebra number (word ∷ words) (x ∷ a) [] h k = absurd k
-reports_unique grammar formed algebra number (word ∷ words) (x ∷ a) (y ∷ b) h k =
-    ap₂ (λ r rs. r ∷ rs) (IsReport_unique number (record { grammar = grammar; algebra = algebra; word = word }) x y formed h.0 k.0) (reports_unique grammar formed algebra (number + 1) words a b h.1 k.1)
+-- reports of one mode that tells no wins are the same, and so they are of two modes
+abbrev PlainOrWins : Mode → Type 0
+PlainOrWins mode = ShowsWins mode ⊎ ((workers number : ℕ) (p : PosedProblem) (report : List ℕ)
+    → IsReportIn mode workers number p report → IsReport number p report)
+
+plain_or_wins : (mode : Mode) → PlainOrWins mode
+plain_or_wins Best = inr (λ workers number p report is. is)
+plain_or_wins Serial = inr (λ workers number p report is. is)
+plain_or_wins Wins = inl refl
+plain_or_wins Big = inr (λ workers number p report is. absurd is)
+
+module _ (command : Command) (plain : (workers number : ℕ) (p : PosedProblem) (report : List ℕ)
+    → IsReportIn command.mode workers number p report → IsReport number p report) where
+  reports_unique : (grammar : Grammar) → IsTrue (is_well_formed grammar) → (algebra number : ℕ)
+      (words a b : List (List ℕ)) → AreReports command grammar algebra number words a
+      → AreReports command grammar algebra number words b → a ≡ b
+  reports_unique grammar formed algebra number [] [] [] h k = refl
+  reports_unique grammar formed algebra number [] [] (y ∷ b) h k = absurd k
+  reports_unique grammar formed algebra number [] (x ∷ a) b h k = absurd h
+  reports_unique grammar formed algebra number (word ∷ words) [] b h k = absurd h
+  reports_unique grammar formed algebra number (word ∷ words) (x ∷ a) [] h k = absurd k
+  reports_unique grammar formed algebra number (word ∷ words) (x ∷ a) (y ∷ b) h k =
+      let p : PosedProblem = record { grammar = grammar; algebra = algebra; word = word } in
+      ap₂ (λ r rs. r ∷ rs)
+      (IsReport_unique number p x y formed (plain command.workers number p x h.0) (plain command.workers number p y k.0))
+      (reports_unique grammar formed algebra (number + 1) words a b h.1 k.1)
 
 -- ---- the verdict
 
@@ -228,67 +330,181 @@ module _ (words : List (List ℕ)) (bytes : List ℕ) where
   has_command : (c : Command) (a : Job) → AsksFor words bytes c a → HasCommand words
   has_command c a h = (c, h.is_command)
 
+  -- a word is made by no command that reads a job
+  not_made : AsksForJob words → (reports : List (List ℕ)) → AskForBigReport words reports → ⊥
+  not_made h reports k = subst (λ (c : Command). ReadsJob c.mode) (command_unique words h.0 k.0 h.1 k.1) h.2 k.2
+
+  for_job : (c : Command) (a : Job) → AsksFor words bytes c a → AsksForJob words
+  for_job c a h = (c, h.is_command, h.reads)
+
+  pub asked_grammar : (a b : Job) (m n : ℕ) → AsksUnder words bytes a m → AsksUnder words bytes b n → a.grammar ≡ b.grammar
+  asked_grammar a b m n h k = same_grammar bytes a b h.asks.is_text k.asks.is_text
+
+  pub asked_algebra : (a b : Job) (m n : ℕ) → AsksUnder words bytes a m → AsksUnder words bytes b n → m ≡ n
+  asked_algebra a b m n h k = sym (same_algebra a b m n h k)
+
   limit_of_first : (a b : Job) (m n word : ℕ) (fault : LimitFault) → AsksUnder words bytes a m → AsksUnder words bytes b n → IsFirstLimit b.grammar n 1 b.words word fault → IsFirstLimit a.grammar m 1 a.words word fault
   limit_of_first a b m n word fault h k is =
       subst (λ algebra. IsFirstLimit a.grammar algebra 1 a.words word fault) (same_algebra a b m n h k)
       (subst (λ (ws : List (List ℕ)). IsFirstLimit a.grammar n 1 ws word fault) (same_words bytes b a k.asks.is_text h.asks.is_text)
       (subst (λ g. IsFirstLimit g n 1 b.words word fault) (same_grammar bytes b a k.asks.is_text h.asks.is_text) is))
 
-  reports_of_first : (a b : Job) (m n : ℕ) (reports : List (List ℕ)) → AsksUnder words bytes a m → AsksUnder words bytes b n → AreReports b.grammar n 1 b.words reports → AreReports a.grammar m 1 a.words reports
-  reports_of_first a b m n reports h k is =
-      subst (λ algebra. AreReports a.grammar algebra 1 a.words reports) (same_algebra a b m n h k)
-      (subst (λ (ws : List (List ℕ)). AreReports a.grammar n 1 ws reports) (same_words bytes b a k.asks.is_text h.asks.is_text)
-      (subst (λ g. AreReports g n 1 b.words reports) (same_grammar bytes b a k.asks.is_text h.asks.is_text) is))
+  reports_of_first : (command : Command) (a b : Job) (m n : ℕ) (reports : List (List ℕ)) → AsksUnder words bytes a m
+      → AsksUnder words bytes b n → AreReports command b.grammar n 1 b.words reports
+      → AreReports command a.grammar m 1 a.words reports
+  reports_of_first command a b m n reports h k is =
+      subst (λ algebra. AreReports command a.grammar algebra 1 a.words reports) (same_algebra a b m n h k)
+      (subst (λ (ws : List (List ℕ)). AreReports command a.grammar n 1 ws reports)
+      (same_words bytes b a k.asks.is_text h.asks.is_text)
+      (subst (λ g. AreReports command g n 1 b.words reports) (same_grammar bytes b a k.asks.is_text h.asks.is_text) is))
+
+  both_reported : (a b : List (List ℕ)) → AskForReports words bytes a → AskForReports words bytes b
+      → (Reports a ≡ Reports b) ⊎ AreOfWins words (Reports a) (Reports b)
+  both_reported a b h k = by (plain_or_wins h.2.command.mode)
+    where
+      same : h.2.command ≡ k.2.command
+      same = command_unique words h.2.command k.2.command h.2.asks.is_command k.2.asks.is_command
+
+      others : AreReports h.2.command h.0.grammar h.1 1 h.0.words b
+      others = reports_of_first h.2.command h.0 k.0 h.1 k.1 b h.2 k.2
+          (subst (λ (c : Command). AreReports c k.0.grammar k.1 1 k.0.words b) (sym same) k.4)
+
+      by : PlainOrWins h.2.command.mode → (Reports a ≡ Reports b) ⊎ AreOfWins words (Reports a) (Reports b)
+      by (inl wins) = inr (h.2.command, h.2.asks.is_command, wins)
+      by (inr plain) =
+          inl (ap Reports (reports_unique h.2.command plain h.0.grammar h.0.well_formed h.1 1 h.0.words a b h.4 others))
+
+  both_made : (a b : List (List ℕ)) → AskForBigReport words a → AskForBigReport words b → Reports a ≡ Reports b
+  both_made a b h k =
+      let same = command_unique words k.0 h.0 k.1 h.1 in
+      let other = subst (λ (c : Command). IsBigReport c.seed c.size k.3) same k.4 in
+      ap Reports (h.5 ∙ ap (λ r. r ∷ []) (IsBigReport_unique h.0.seed h.0.size h.3 k.3 h.4 other) ∙ sym k.5)
 
   too_long : greatest_length < length bytes → length bytes ≤ greatest_length → ⊥
   too_long long short = omega arith
 
-  pub one_verdict : AreCheckable words bytes → (a b : Verdict) → IsVerdict words bytes a → IsVerdict words bytes b → a ≡ b
-  one_verdict checks Usage Usage h k = refl
-  one_verdict checks Usage TooLong h k = absurd (h k.0)
-  one_verdict checks Usage (Text fault) h k = absurd (h k.0)
-  one_verdict checks Usage (OfGrammar fault) h k = absurd (h (has_command k.0 k.1 k.2))
-  one_verdict checks Usage (Limit word fault) h k = absurd (h (has_command k.2.command k.0 k.2.asks))
-  one_verdict checks Usage (Reports reports) h k = absurd (h (has_command k.2.command k.0 k.2.asks))
-  one_verdict checks TooLong Usage h k = absurd (k h.0)
-  one_verdict checks TooLong TooLong h k = refl
-  one_verdict checks TooLong (Text fault) h k = absurd (too_long h.1 k.1)
-  one_verdict checks TooLong (OfGrammar fault) h k = absurd (too_long h.1 k.2.short_enough)
-  one_verdict checks TooLong (Limit word fault) h k = absurd (too_long h.1 k.2.asks.short_enough)
-  one_verdict checks TooLong (Reports reports) h k = absurd (too_long h.1 k.2.asks.short_enough)
-  one_verdict checks (Text fault) Usage h k = absurd (k h.0)
-  one_verdict checks (Text fault) TooLong h k = absurd (too_long k.1 h.1)
-  one_verdict checks (Text fault) (Text fault') h k = ap Text (same_fault bytes fault fault' h.2 k.2)
-  one_verdict checks (Text fault) (OfGrammar fault') h k = absurd (text_or_fault bytes fault k.1 h.2 k.2.is_text)
-  one_verdict checks (Text fault) (Limit word fault') h k = absurd (text_or_fault bytes fault k.0 h.2 k.2.asks.is_text)
-  one_verdict checks (Text fault) (Reports reports) h k = absurd (text_or_fault bytes fault k.0 h.2 k.2.asks.is_text)
-  one_verdict checks (OfGrammar fault) Usage h k = absurd (k (has_command h.0 h.1 h.2))
-  one_verdict checks (OfGrammar fault) TooLong h k = absurd (too_long k.1 h.2.short_enough)
-  one_verdict checks (OfGrammar fault) (Text fault') h k = absurd (text_or_fault bytes fault' h.1 k.2 h.2.is_text)
+  made_or_not : (verdict : Verdict) (reports : List (List ℕ)) → AskForBigReport words reports → IsVerdict words bytes verdict
+      → (HasCommand words → ⊥) ⊎ (AsksForJob words ⊎ ((others : List (List ℕ)) × (verdict ≡ Reports others) × AskForBigReport words others))
+  made_or_not Usage reports big h = inl h
+  made_or_not TooLong reports big h = inr (inl h.0)
+  made_or_not (Text fault) reports big h = inr (inl h.0)
+  made_or_not (OfGrammar fault) reports big h = inr (inl (for_job h.0 h.1 h.2))
+  made_or_not (Limit word fault) reports big h = inr (inl (for_job h.2.command h.0 h.2.asks))
+  made_or_not (Reports others) reports big (inl h) = inr (inl (for_job h.2.command h.0 h.2.asks))
+  made_or_not (Reports others) reports big (inr h) = inr (inr (others, refl, h))
+
+  -- a word is made in one way, and nothing else is asked then
+  of_made : (verdict : Verdict) (reports : List (List ℕ)) → AskForBigReport words reports → IsVerdict words bytes verdict
+      → Reports reports ≡ verdict
+  of_made verdict reports big h = by (made_or_not verdict reports big h)
+    where
+      by : (HasCommand words → ⊥) ⊎ (AsksForJob words ⊎ ((others : List (List ℕ)) × (verdict ≡ Reports others) × AskForBigReport words others))
+          → Reports reports ≡ verdict
+      by (inl none) = absurd (none (big.0, big.1))
+      by (inr (inl job)) = absurd (not_made job reports big)
+      by (inr (inr it)) = both_made reports it.0 big it.2 ∙ sym it.1
+
+  pub one_verdict : AreCheckable words bytes → (a b : Verdict) → IsVerdict words bytes a → IsVerdict words bytes b
+      → (a ≡ b) ⊎ AreOfWins words a b
+  one_verdict checks Usage Usage h k =
+      inl refl
+  one_verdict checks Usage TooLong h k =
+      absurd (h (k.0.0, k.0.1))
+  one_verdict checks Usage (Text fault) h k =
+      absurd (h (k.0.0, k.0.1))
+  one_verdict checks Usage (OfGrammar fault) h k =
+      absurd (h (has_command k.0 k.1 k.2))
+  one_verdict checks Usage (Limit word fault) h k =
+      absurd (h (has_command k.2.command k.0 k.2.asks))
+  one_verdict checks Usage (Reports reports) h (inl k) =
+      absurd (h (has_command k.2.command k.0 k.2.asks))
+  one_verdict checks Usage (Reports reports) h (inr k) = inl (sym (of_made Usage reports k h))
+  one_verdict checks TooLong Usage h k =
+      absurd (k (h.0.0, h.0.1))
+  one_verdict checks TooLong TooLong h k =
+      inl refl
+  one_verdict checks TooLong (Text fault) h k =
+      absurd (too_long h.1 k.1)
+  one_verdict checks TooLong (OfGrammar fault) h k =
+      absurd (too_long h.1 k.2.short_enough)
+  one_verdict checks TooLong (Limit word fault) h k =
+      absurd (too_long h.1 k.2.asks.short_enough)
+  one_verdict checks TooLong (Reports reports) h (inl k) =
+      absurd (too_long h.1 k.2.asks.short_enough)
+  one_verdict checks TooLong (Reports reports) h (inr k) = inl (sym (of_made TooLong reports k h))
+  one_verdict checks (Text fault) Usage h k =
+      absurd (k (h.0.0, h.0.1))
+  one_verdict checks (Text fault) TooLong h k =
+      absurd (too_long k.1 h.1)
+  one_verdict checks (Text fault) (Text fault') h k =
+      inl (ap Text (same_fault bytes fault fault' h.2 k.2))
+  one_verdict checks (Text fault) (OfGrammar fault') h k =
+      absurd (text_or_fault bytes fault k.1 h.2 k.2.is_text)
+  one_verdict checks (Text fault) (Limit word fault') h k =
+      absurd (text_or_fault bytes fault k.0 h.2 k.2.asks.is_text)
+  one_verdict checks (Text fault) (Reports reports) h (inl k) =
+      absurd (text_or_fault bytes fault k.0 h.2 k.2.asks.is_text)
+  one_verdict checks (Text fault) (Reports reports) h (inr k) = inl (sym (of_made (Text fault) reports k h))
+  one_verdict checks (OfGrammar fault) Usage h k =
+      absurd (k (has_command h.0 h.1 h.2))
+  one_verdict checks (OfGrammar fault) TooLong h k =
+      absurd (too_long k.1 h.2.short_enough)
+  one_verdict checks (OfGrammar fault) (Text fault') h k =
+      absurd (text_or_fault bytes fault' h.1 k.2 h.2.is_text)
   one_verdict checks (OfGrammar fault) (OfGrammar fault') h k =
-      ap OfGrammar (grammar_fault_unique h.1.grammar h.1.well_formed (asked_name words h.0 h.1.grammar) fault fault' h.3 (fault_of_first h.0 k.0 h.1 k.1 fault' h.2 k.2 k.3))
+      inl (ap OfGrammar (grammar_fault_unique h.1.grammar h.1.well_formed (asked_name words h.0 h.1.grammar) fault fault' h.3 (fault_of_first h.0 k.0 h.1 k.1 fault' h.2 k.2 k.3)))
   one_verdict checks (OfGrammar fault) (Limit word fault') h k =
       absurd (faultless_or_fault h.1.grammar h.1.well_formed (asked_name words h.0 h.1.grammar) k.1 fault (faultless_of_first h.0 h.1 k.0 k.1 h.2 k.2) h.3)
-  one_verdict checks (OfGrammar fault) (Reports reports) h k =
+  one_verdict checks (OfGrammar fault) (Reports reports) h (inl k) =
       absurd (faultless_or_fault h.1.grammar h.1.well_formed (asked_name words h.0 h.1.grammar) k.1 fault (faultless_of_first h.0 h.1 k.0 k.1 h.2 k.2) h.3)
-  one_verdict checks (Limit word fault) Usage h k = absurd (k (has_command h.2.command h.0 h.2.asks))
-  one_verdict checks (Limit word fault) TooLong h k = absurd (too_long k.1 h.2.asks.short_enough)
-  one_verdict checks (Limit word fault) (Text fault') h k = absurd (text_or_fault bytes fault' h.0 k.2 h.2.asks.is_text)
+  one_verdict checks (OfGrammar fault) (Reports reports) h (inr k) = inl (sym (of_made (OfGrammar fault) reports k h))
+  one_verdict checks (Limit word fault) Usage h k =
+      absurd (k (has_command h.2.command h.0 h.2.asks))
+  one_verdict checks (Limit word fault) TooLong h k =
+      absurd (too_long k.1 h.2.asks.short_enough)
+  one_verdict checks (Limit word fault) (Text fault') h k =
+      absurd (text_or_fault bytes fault' h.0 k.2 h.2.asks.is_text)
   one_verdict checks (Limit word fault) (OfGrammar fault') h k =
       absurd (faultless_or_fault k.1.grammar k.1.well_formed (asked_name words k.0 k.1.grammar) h.1 fault' (faultless_of_first k.0 k.1 h.0 h.1 k.2 h.2) k.3)
   one_verdict checks (Limit word fault) (Limit word' fault') h k =
       let found = checks h.0 h.1 h.2 in
-      limit_unique h.0.grammar h.1 found.0 found.1 found.2 found.3 1 h.0.words word word' fault fault' h.3 (limit_of_first h.0 k.0 h.1 k.1 word' fault' h.2 k.2 k.3)
-  one_verdict checks (Limit word fault) (Reports reports) h k =
+      inl (limit_unique h.0.grammar h.1 found.0 found.1 found.2 found.3 1 h.0.words word word' fault fault' h.3 (limit_of_first h.0 k.0 h.1 k.1 word' fault' h.2 k.2 k.3))
+  one_verdict checks (Limit word fault) (Reports reports) h (inl k) =
       let found = checks k.0 k.1 k.2 in
       absurd (kept_or_limit k.0.grammar k.1 found.0 found.1 found.2 found.3 1 k.0.words word fault k.3 (limit_of_first k.0 h.0 k.1 h.1 word fault k.2 h.2 h.3))
-  one_verdict checks (Reports reports) Usage h k = absurd (k (has_command h.2.command h.0 h.2.asks))
-  one_verdict checks (Reports reports) TooLong h k = absurd (too_long k.1 h.2.asks.short_enough)
-  one_verdict checks (Reports reports) (Text fault') h k = absurd (text_or_fault bytes fault' h.0 k.2 h.2.asks.is_text)
-  one_verdict checks (Reports reports) (OfGrammar fault') h k =
+  one_verdict checks (Limit word fault) (Reports reports) h (inr k) = inl (sym (of_made (Limit word fault) reports k h))
+  one_verdict checks (Reports reports) Usage (inl h) k =
+      absurd (k (has_command h.2.command h.0 h.2.asks))
+  one_verdict checks (Reports reports) TooLong (inl h) k =
+      absurd (too_long k.1 h.2.asks.short_enough)
+  one_verdict checks (Reports reports) (Text fault') (inl h) k =
+      absurd (text_or_fault bytes fault' h.0 k.2 h.2.asks.is_text)
+  one_verdict checks (Reports reports) (OfGrammar fault') (inl h) k =
       absurd (faultless_or_fault k.1.grammar k.1.well_formed (asked_name words k.0 k.1.grammar) h.1 fault' (faultless_of_first k.0 k.1 h.0 h.1 k.2 h.2) k.3)
-  one_verdict checks (Reports reports) (Limit word fault) h k =
+  one_verdict checks (Reports reports) (Limit word fault) (inl h) k =
       let found = checks h.0 h.1 h.2 in
       absurd (kept_or_limit h.0.grammar h.1 found.0 found.1 found.2 found.3 1 h.0.words word fault h.3 (limit_of_first h.0 k.0 h.1 k.1 word fault h.2 k.2 k.3))
-  one_verdict checks (Reports reports) (Reports reports') h k =
-      ap Reports (reports_unique h.0.grammar h.0.well_formed h.1 1 h.0.words reports reports' h.4 (reports_of_first h.0 k.0 h.1 k.1 reports' h.2 k.2 k.4))
+  one_verdict checks (Reports reports) (Reports reports') (inl h) (inl k) = both_reported reports reports' h k
+  one_verdict checks (Reports reports) (Reports reports') (inl h) (inr k) =
+      inl (sym (of_made (Reports reports) reports' k (inl h)))
+  one_verdict checks (Reports reports) Usage (inr h) k = inl (of_made Usage reports h k)
+  one_verdict checks (Reports reports) TooLong (inr h) k = inl (of_made TooLong reports h k)
+  one_verdict checks (Reports reports) (Text fault) (inr h) k = inl (of_made (Text fault) reports h k)
+  one_verdict checks (Reports reports) (OfGrammar fault) (inr h) k = inl (of_made (OfGrammar fault) reports h k)
+  one_verdict checks (Reports reports) (Limit word fault) (inr h) k = inl (of_made (Limit word fault) reports h k)
+  one_verdict checks (Reports reports) (Reports reports') (inr h) k = inl (of_made (Reports reports') reports h k)
+
+  pub only_reports : (reports : List (List ℕ)) (verdict : Verdict) → IsVerdict words bytes (Reports reports)
+      → IsVerdict words bytes verdict → (IsLimit verdict → AreCheckable words bytes) → IsReports verdict
+  only_reports reports (Reports others) h k checks = tt
+  only_reports reports verdict (inr h) k checks = subst IsReports (of_made verdict reports h k) tt
+  only_reports reports Usage (inl h) k checks = absurd (k (has_command h.2.command h.0 h.2.asks))
+  only_reports reports TooLong (inl h) k checks = absurd (too_long k.1 h.2.asks.short_enough)
+  only_reports reports (Text fault) (inl h) k checks = absurd (text_or_fault bytes fault h.0 k.2 h.2.asks.is_text)
+  only_reports reports (OfGrammar fault) (inl h) k checks =
+      absurd (faultless_or_fault k.1.grammar k.1.well_formed (asked_name words k.0 k.1.grammar) h.1 fault
+      (faultless_of_first k.0 k.1 h.0 h.1 k.2 h.2) k.3)
+  only_reports reports (Limit word fault) (inl h) k checks =
+      let found = checks tt h.0 h.1 h.2 in
+      absurd (kept_or_limit h.0.grammar h.1 found.0 found.1 found.2 found.3 1 h.0.words word fault h.3
+      (limit_of_first h.0 k.0 h.1 k.1 word fault h.2 k.2 k.3))

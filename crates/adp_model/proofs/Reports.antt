@@ -1,9 +1,11 @@
 -- A word has one report.
-use Rattle.std.proofs.Common.{◌≡◌, ℕ, inl, inr, IsTrue, List, ◌++◌, codes, sym, ap, ◌∙◌}
+use Rattle.std.proofs.Common.{◌≡◌, ℕ, inl, inr, IsTrue, List, ◌++◌, codes, refl, sym, ap, ◌∙◌}
 use Rattle.std.specs.Fmt.{decimal}
 use Rattle.adp_model.specs.PosedProblem.{PosedProblem, axiom_cell}
 use Rattle.adp_model.specs.WellFormed.{is_well_formed}
 use Rattle.adp_model.specs.Demand.{IsDemanded}
+use Rattle.adp_model.specs.Scores.{score_of}
+use Rattle.adp_model.specs.BigReport.{made_problem, big_lines, IsBigReport}
 use Rattle.adp_model.specs.Report.{line, tree_lines, IsAnswerText, IsReport}
 use Rattle.adp_model.proofs.CellLists.{count_unique}
 use Rattle.adp_model.proofs.Order.{IsPreferred_unique-formed}
@@ -21,4 +23,13 @@ IsReport_unique number p a b formed h k =
     h.4
     ∙ ap (λ answer. line (codes "word " ++ decimal number) ++ answer ++ line (codes "cells " ++ decimal h.1)) answers
     ∙ ap (λ count. line (codes "word " ++ decimal number) ++ k.0 ++ line (codes "cells " ++ decimal count)) counts
+    ∙ sym k.4
+
+pub IsBigReport_unique : (seed size : ℕ) (a b : List ℕ) → IsBigReport seed size a → IsBigReport seed size b → a ≡ b
+IsBigReport_unique seed size a b h k =
+    let p = made_problem seed size in
+    let trees : h.0 ≡ k.0 = IsPreferred_unique-formed p (axiom_cell p) h.0 k.0 refl h.2 k.2 in
+    let counts : h.1 ≡ k.1 = count_unique (IsDemanded p) (IsDemanded p) (λ cell. (λ x. x, λ x. x)) h.1 k.1 h.3 k.3 in
+    h.4
+    ∙ (λ i. big_lines size (score_of p (trees i)) (counts i))
     ∙ sym k.4

@@ -22,6 +22,7 @@ pub mod Bellman
 pub mod Demand
 pub mod TreeText
 pub mod Report
+pub mod BigReport
 pub mod Spelling
 pub mod WellFormed
 pub mod Checks

@@ -1,6 +1,6 @@
 -- The report of a word: its number, the best score and the first tree of that score, or `none`, and the number
 -- of demanded cells.
-use Rattle.std.specs.Prelude.{◌≡◌, ℕ, ◌⊎◌, List, [], ◌∷◌, ◌++◌, codes}
+use Rattle.std.specs.Prelude.{◌≡◌, ℕ, ◌⊎◌, List, [], ◌∷◌, ◌++◌, codes, sum}
 use Rattle.std.specs.Fmt.{decimal, signed_decimal}
 use Rattle.adp_model.specs.Ascii.{line_feed}
 use Rattle.adp_model.specs.PosedProblem.{PosedProblem, axiom_cell}
@@ -31,3 +31,17 @@ abbrev pub IsReport : ℕ → PosedProblem → List ℕ → Type 0
 IsReport number p report =
     (answer : List ℕ) × (count : ℕ) × IsAnswerText p answer × IsDemandedCount p count
     × (report ≡ line (codes "word " ++ decimal number) ++ answer ++ line (codes "cells " ++ decimal count))
+
+-- numbers with a space before each
+abbrev pub spaced : List ℕ → List ℕ
+spaced [] = []
+spaced (number ∷ numbers) = codes " " ++ decimal number ++ spaced numbers
+
+-- the line of the wins: how many answers each evaluator put into the table
+abbrev pub wins_line : List ℕ → List ℕ
+wins_line wins = line (codes "wins" ++ spaced wins)
+
+-- the report with the wins of the evaluators, who put each demanded cell into the table once
+abbrev pub IsWinsReport : ℕ → PosedProblem → List ℕ → List ℕ → Type 0
+IsWinsReport number p wins report =
+    (plain : List ℕ) × IsReport number p plain × IsDemandedCount p (sum wins) × (report ≡ plain ++ wins_line wins)

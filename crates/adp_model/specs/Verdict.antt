@@ -10,15 +10,18 @@ use Rattle.adp_model.specs.JobText.{IsText, IsFaultOf}
 use Rattle.adp_model.specs.GrammarFaults.{IsFaultless, IsGrammarFault}
 use Rattle.adp_model.specs.LimitFaults.{IsLimitFault}
 use Rattle.adp_model.specs.ProblemFields.{KeepsLimits}
-use Rattle.adp_model.specs.Report.{IsReport}
-use Rattle.adp_model.specs.Command.{Command, IsCommand, HasCommand}
+use Rattle.adp_model.specs.PosedProblem.{PosedProblem}
+use Rattle.adp_model.specs.Report.{IsReport, IsWinsReport}
+use Rattle.adp_model.specs.BigReport.{IsBigReport}
+use Rattle.adp_model.specs.Command.{Mode, ShowsWins, Best, Serial, Wins, Big, Command, IsCommand, HasCommand, ReadsJob, AsksForJob}
 
 -- a job has at most this many bytes
 abbrev pub greatest_length : ℕ
 greatest_length = 4194304
 
 -- what the program answers: that the words are no command; that the input is too long; the fault of its text; the fault
--- of its grammar; the number of the first word that passes a limit, with the limit; or the reports of all words
+-- of its grammar; the number of the first word that passes a limit, with the limit; or the reports of all words, or of
+-- the word that is made
 pub data Verdict : Type 0 where
   Usage : Verdict
   TooLong : Verdict
@@ -27,9 +30,10 @@ pub data Verdict : Type 0 where
   Limit : (word : ℕ) → (fault : LimitFault) → Verdict
   Reports : (reports : List (List ℕ)) → Verdict
 
--- the words are the command, and the bytes are a text of the job
+-- the words are the command, which reads a job, and the bytes are a text of the job
 pub record AsksFor (words : List (List ℕ)) (bytes : List ℕ) (command : Command) (job : Job) : Type 0 where
   pub is_command : IsCommand words command
+  pub reads : ReadsJob command.mode
   pub short_enough : length bytes ≤ greatest_length
   pub is_text : IsText bytes job
 
@@ -59,26 +63,58 @@ IsFirstLimit grammar algebra number (word ∷ words) first fault =
     ((first ≡ number) × IsLimitFault grammar algebra (length word) fault)
     ⊎ (KeepsLimits grammar algebra (length word) × IsFirstLimit grammar algebra (number + 1) words first fault)
 
--- the reports of these words in order, the first of which has this number
-abbrev pub AreReports : grammars.Grammar → ℕ → ℕ → List (List ℕ) → List (List ℕ) → Type 0
-AreReports grammar algebra number [] [] = Unit {0}
-AreReports grammar algebra number (word ∷ words) (report ∷ reports) =
-    IsReport number (record { grammar = grammar; algebra = algebra; word = word }) report
-    × AreReports grammar algebra (number + 1) words reports
-AreReports grammar algebra number words reports = ⊥
+-- the report that a mode asks for of the word with this number: the plain one, or one with the wins of so many
+-- evaluators
+abbrev pub IsReportIn : Mode → ℕ → ℕ → PosedProblem → List ℕ → Type 0
+IsReportIn Best workers number p report = IsReport number p report
+IsReportIn Serial workers number p report = IsReport number p report
+IsReportIn Wins workers number p report = (wins : List ℕ) × (length wins ≡ workers) × IsWinsReport number p wins report
+IsReportIn Big workers number p report = ⊥
+
+-- the reports of these words in order, the first of which has this number, as the command asks for them
+abbrev pub AreReports : Command → grammars.Grammar → ℕ → ℕ → List (List ℕ) → List (List ℕ) → Type 0
+AreReports command grammar algebra number [] [] = Unit {0}
+AreReports command grammar algebra number (word ∷ words) (report ∷ reports) =
+    IsReportIn command.mode command.workers number (record { grammar = grammar; algebra = algebra; word = word }) report
+    × AreReports command grammar algebra (number + 1) words reports
+AreReports command grammar algebra number words reports = ⊥
+
+-- the words and the bytes ask for these reports of the words of a job
+abbrev pub AskForReports : List (List ℕ) → List ℕ → List (List ℕ) → Type 0
+AskForReports words bytes reports =
+    (job : Job) × (algebra : ℕ) × (asked : AsksUnder words bytes job algebra) × KeepLimits job.grammar algebra job.words
+    × AreReports asked.command job.grammar algebra 1 job.words reports
+
+-- the words ask for this report of the word that is made, alone
+abbrev pub AskForBigReport : List (List ℕ) → List (List ℕ) → Type 0
+AskForBigReport words reports =
+    (command : Command) × IsCommand words command × (command.mode ≡ Big)
+    × (report : List ℕ) × IsBigReport command.seed command.size report × (reports ≡ report ∷ [])
 
 -- faulty words come first, then an input that is too long, then the faults of its text, of its grammar and of the
--- lengths of its words, and then the reports
+-- lengths of its words, and then the reports; where a word is made, no input is judged
 abbrev pub IsVerdict : List (List ℕ) → List ℕ → Verdict → Type 0
 IsVerdict words bytes Usage = HasCommand words → ⊥
-IsVerdict words bytes TooLong = HasCommand words × (greatest_length < length bytes)
-IsVerdict words bytes (Text fault) = HasCommand words × (length bytes ≤ greatest_length) × IsFaultOf bytes fault
+IsVerdict words bytes TooLong = AsksForJob words × (greatest_length < length bytes)
+IsVerdict words bytes (Text fault) = AsksForJob words × (length bytes ≤ greatest_length) × IsFaultOf bytes fault
 IsVerdict words bytes (Grammar fault) =
     (command : Command) × (job : Job) × AsksFor words bytes command job
     × IsGrammarFault job.grammar (asked_name words command job.grammar) fault
 IsVerdict words bytes (Limit word fault) =
     (job : Job) × (algebra : ℕ) × AsksUnder words bytes job algebra
     × IsFirstLimit job.grammar algebra 1 job.words word fault
-IsVerdict words bytes (Reports reports) =
-    (job : Job) × (algebra : ℕ) × AsksUnder words bytes job algebra × KeepLimits job.grammar algebra job.words
-    × AreReports job.grammar algebra 1 job.words reports
+IsVerdict words bytes (Reports reports) = AskForReports words bytes reports ⊎ AskForBigReport words reports
+
+abbrev pub IsReports : Verdict → Type 0
+IsReports (Reports reports) = Unit {0}
+IsReports verdict = ⊥
+
+abbrev pub IsLimit : Verdict → Type 0
+IsLimit (Limit word fault) = Unit {0}
+IsLimit verdict = ⊥
+
+-- both are reports with the wins of evaluators
+abbrev pub AreOfWins : List (List ℕ) → Verdict → Verdict → Type 0
+AreOfWins words (Reports reports) (Reports others) =
+    (command : Command) × IsCommand words command × ShowsWins command.mode
+AreOfWins words verdict other = ⊥

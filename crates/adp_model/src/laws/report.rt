@@ -1,10 +1,12 @@
 //! Reports.
 
-ghost use Rattle.std.specs.Prelude.{◌≡◌, ℕ, IsTrue, List};
+ghost use Rattle.std.specs.Prelude.{◌≡◌, ◌≤◌, ℕ, IsTrue, List};
 ghost use Rattle.adp_model.specs.PosedProblem.{PosedProblem};
 ghost use Rattle.adp_model.specs.WellFormed.{is_well_formed};
 ghost use Rattle.adp_model.specs.ProblemFields.{IsAdmissible};
+ghost use Rattle.adp_model.specs.Command.{Mode, ReadsJob};
 ghost use Rattle.adp_model.specs.Report.{IsReport};
+ghost use Rattle.adp_model.specs.Verdict.{IsReportIn};
 
 /// A word has at most one report.
 pub fn report_is_unique()
@@ -12,7 +14,8 @@ pub fn report_is_unique()
         → IsReport number p a → IsReport number p b → a ≡ b }
 {}
 
-/// A word that is admitted has a report.
+/// A word that is admitted has a report, in each mode that reads words, for each number of evaluators.
 pub fn words_have_reports()
-    ensures { (number : ℕ) (p : PosedProblem) → IsAdmissible p → (report : List ℕ) × IsReport number p report }
+    ensures { (mode : Mode) (workers number : ℕ) (p : PosedProblem) → ReadsJob mode → 1 ≤ workers → IsAdmissible p
+        → (report : List ℕ) × IsReportIn mode workers number p report }
 {}

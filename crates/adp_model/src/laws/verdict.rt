@@ -1,14 +1,38 @@
 //! The verdict.
 
-ghost use Rattle.std.specs.Prelude.{◌≡◌, ℕ, List};
+ghost use Rattle.std.specs.Prelude.{◌≡◌, ◌⊎◌, ◌≤◌, ◌<◌, ◌^◌, ℕ, List};
 ghost use Rattle.adp_model.specs.CheckableJobs.{AreCheckable};
-ghost use Rattle.adp_model.specs.Command.{Command, IsCommand};
-ghost use Rattle.adp_model.specs.Verdict.{Verdict, IsVerdict};
+ghost use Rattle.adp_model.specs.Command.{Big, Command, IsCommand, greatest_size};
+ghost use Rattle.adp_model.specs.declared.job.Job.{Job};
+ghost use Rattle.adp_model.specs.Verdict.{AreOfWins, AsksUnder, IsLimit, IsReports, IsVerdict, Reports, Verdict};
 
-/// Words are one command, and a command line and bytes have one verdict, where the grammar of the bytes has sizes and
-/// ranks if it has no fault.
-pub fn verdict_is_unique()
+/// Words are one command, whose numbers are in range.
+pub fn command_is_unique()
     ensures command { (words : List (List ℕ)) (a b : Command) → IsCommand words a → IsCommand words b → a ≡ b }
-    ensures verdict { (words : List (List ℕ)) (bytes : List ℕ) → AreCheckable words bytes → (a b : Verdict)
-        → IsVerdict words bytes a → IsVerdict words bytes b → a ≡ b }
+    ensures some_workers { (words : List (List ℕ)) (command : Command) → IsCommand words command
+        → 1 ≤ command.workers }
+    ensures few_workers { (words : List (List ℕ)) (command : Command) → IsCommand words command
+        → command.workers ≤ 32 }
+    ensures seed { (words : List (List ℕ)) (command : Command) → IsCommand words command → command.seed < 2 ^ 64 }
+    ensures size { (words : List (List ℕ)) (command : Command) → IsCommand words command
+        → command.size ≤ greatest_size }
+{}
+
+/// Words and bytes ask about one grammar under one algebra.
+pub fn asked_grammar_is_unique()
+    ensures grammar { (words : List (List ℕ)) (bytes : List ℕ) (a b : Job) (m n : ℕ) → AsksUnder words bytes a m
+        → AsksUnder words bytes b n → a.grammar ≡ b.grammar }
+    ensures algebra { (words : List (List ℕ)) (bytes : List ℕ) (a b : Job) (m n : ℕ) → AsksUnder words bytes a m
+        → AsksUnder words bytes b n → m ≡ n }
+{}
+
+/// A command line and bytes have one verdict, where the grammar of the bytes has sizes and ranks if it has no fault; but
+/// reports that tell the wins of evaluators may tell others. Where the verdict are reports there is no fault; that no word
+/// passes a limit needs sizes and ranks.
+pub fn verdict_is_unique()
+    ensures same { (words : List (List ℕ)) (bytes : List ℕ) → AreCheckable words bytes → (a b : Verdict)
+        → IsVerdict words bytes a → IsVerdict words bytes b → (a ≡ b) ⊎ AreOfWins words a b }
+    ensures reported { (words : List (List ℕ)) (bytes : List ℕ) (reports : List (List ℕ)) (verdict : Verdict)
+        → IsVerdict words bytes (Reports reports) → IsVerdict words bytes verdict
+        → (IsLimit verdict → AreCheckable words bytes) → IsReports verdict }
 {}
