@@ -28,7 +28,6 @@ use Rattle.cell_answers.proofs.Splitting.{child_of_demands}
 use Rattle.cell_answers.proofs.Totalling.{values_kept, sum_low}
 use Rattle.cell_answers.proofs.Bounding.{magnitude_low, alternative_low}
 use Rattle.cell_answers.proofs.Scoring.{turned_low, turned_total, turned_are_low, HasScoreBefore}
-use Rattle.cell_answers.proofs.Formed.{fits}
 use Rattle.cell_answers.proofs.FirstEnds.{AreLaid, AreSound}
 
 -- best scores are within their bounds
@@ -59,18 +58,23 @@ module _ (p : PosedProblem) (admissible : IsAdmissible p) (bounded : TokensKeepB
   tokens_low (Letter class) from to stands fits = token_low (Letter class) from to stands fits.0 fits.1
   tokens_low (Run class low high) from to stands fits = token_low (Run class low high) from to stands fits.0 fits.1
 
-  pub weighted : (goal : Goal) → AllByRecursion (IsKnown p.grammar) (arguments_of p.grammar rule alternative) → length (arguments_of p.grammar rule alternative) ≤ 4 → rule < length p.grammar.rules → alternative < length (alternatives_of p.grammar rule)
+  pub weighted : (goal : Goal) → AllByRecursion (IsKnown p.grammar) (arguments_of p.grammar rule alternative) → length (arguments_of p.grammar rule alternative) ≤ 4
+      → length (term_of p rule alternative).factors ≡ length (arguments_of p.grammar rule alternative)
       → AreWeighted p (arguments_of p.grammar rule alternative) (map (turned goal) (term_of p rule alternative).factors)
-  weighted goal known few in_rules in_range =
-      let formed = fits p.grammar admissible.checked.well_formed p.algebra rule alternative admissible.checked.algebra_known in_rules in_range in
-      record { known = known; few = few; factors_each = length-map (term_of p rule alternative).factors (turned goal) ∙ formed.factors; tokens_low = tokens_low }
+  weighted goal known few each = record {
+    known = known;
+    few = few;
+    factors_each = length-map (term_of p rule alternative).factors (turned goal) ∙ each;
+    tokens_low = tokens_low;
+  }
 
 -- the arguments of an alternative on a cell whose demanded children have entries
 pub alternative_laid : (p : PosedProblem) → IsAdmissible p → TokensKeepBound p → (table : Table ℤ) (goal : Goal) (cell : Cell) (alternative : ℕ) → AllByRecursion (IsKnown p.grammar) (arguments_of p.grammar cell.rule alternative) → length (arguments_of p.grammar cell.rule alternative) ≤ 4
+    → length (term_of p cell.rule alternative).factors ≡ length (arguments_of p.grammar cell.rule alternative)
     → IsSpan p.word cell.from cell.to → cell.rule < length p.grammar.rules → alternative < length (alternatives_of p.grammar cell.rule) → ((child : Cell) → IsDemandedChild p cell child → HasEntry table child)
     → AreLaid p table (arguments_of p.grammar cell.rule alternative) (map (turned goal) (term_of p cell.rule alternative).factors) cell.from cell.to
-alternative_laid p admissible bounded table goal cell alternative known few span in_rules in_range scored = record {
-  weighted = weighted p admissible bounded cell.rule alternative goal known few in_rules in_range;
+alternative_laid p admissible bounded table goal cell alternative known few each span in_rules in_range scored = record {
+  weighted = weighted p admissible bounded cell.rule alternative goal known few each;
   span = span;
   scored = λ child demands. scored child (child_of_demands p cell alternative child in_range few demands);
   low = turned_are_low p goal (term_of p cell.rule alternative) cell alternative (alternative_low p admissible cell alternative span in_rules in_range);

@@ -6,7 +6,6 @@ pub mod FirstFound
 pub mod FirstGiving
 pub mod FirstTotals
 pub mod FixedTotals
-pub mod Formed
 pub mod FrontPlaces
 pub mod FrontScores
 pub mod Fronts

@@ -90,8 +90,8 @@ fn first_along(
     first_through(lines, &opened, greatest)
 }
 
-/// The first end of the first of these arguments, which is the first one of a line, with which they have this total, their
-/// greatest.
+/// The first end of the first of these arguments, which is the first one of a line, with which they have this total,
+/// their greatest.
 fn end_along(
     lines: &Lines<'_>,
     scores: &Scores<'_>,
@@ -130,7 +130,8 @@ fn end_among(
     total: i64,
 ) -> u16
     requires same_problem { behind.now.scores.now.problem ≡ behind.now.lines.now }
-    requires line { IfSome behind.now.line (λ line. IsLine behind.now.lines.now (drop ahead (drop 1 arguments.now)) line) }
+    requires line { IfSome behind.now.line (λ line.
+        IsLine behind.now.lines.now (drop ahead (drop 1 arguments.now)) line) }
     requires some { 0 < length arguments.now }
     requires weighted { AreWeighted behind.now.lines.now arguments.now factors.now }
     requires span { IsSpan behind.now.lines.now.word from to }
@@ -169,7 +170,8 @@ fn end_among(
 /// The line of the arguments behind the first one, if that is not its first one, and how many of these come before it.
 #[inline(always)]
 fn line_left(line: Option<Line<'_>>, ahead: u8) -> (Option<Line<'_>>, u8)
-    ensures { (p : PosedProblem) (arguments : List Argument) → IfSome line.entry (λ it. IsLine p (drop ahead arguments) it)
+    ensures { (p : PosedProblem) (arguments : List Argument)
+        → IfSome line.entry (λ it. IsLine p (drop ahead arguments) it)
         → IfSome result.0 (λ it. IsLine p (drop result.1 (drop 1 arguments)) it) }
 {
     if ahead == 0 {
@@ -179,8 +181,8 @@ fn line_left(line: Option<Line<'_>>, ahead: u8) -> (Option<Line<'_>>, u8)
     }
 }
 
-/// The first ends with which the arguments, laid from `from` to `to`, have this total, their greatest; ends that are left
-/// over stand at `to`. If the arguments have a line, `ahead` of them come before it.
+/// The first ends with which the arguments, laid from `from` to `to`, have this total, their greatest; ends that are
+/// left over stand at `to`. If the arguments have a line, `ahead` of them come before it.
 fn first_ends(
     known: &Known<'_, '_>,
     ahead: u8,

@@ -23,7 +23,9 @@ use crate::scores::Scores;
 use adp_model::laws::bellman::bellman;
 use adp_model::laws::bounds::{bounds_are_sound, words_keep_their_score_bound};
 use adp_model::laws::order::answer_is_unique;
-use adp_model::laws::well_formed::{alternatives_fit, arguments_are_few_and_known};
+use adp_model::laws::well_formed::{
+    alternatives_fit, arguments_are_few_and_known, terms_fit_their_alternatives,
+};
 use adp_model::{Arg, Cell};
 use score_numbers::{greater, turned};
 use split_lines::{KeptAlternative, Line, Lines, is_fixed, line_here};
@@ -43,7 +45,8 @@ pub(crate) struct Known<'s, 'a> {
     pub line: Option<Line<'s>>,
 }
 
-/// The total of one argument that has the letters from `from` to `to`; `None` where it can't have them, or has no value.
+/// The total of one argument that has the letters from `from` to `to`; `None` where it can't have them, or has no
+/// value.
 #[inline(always)]
 fn last_total(
     lines: &Lines<'_>,
@@ -187,6 +190,7 @@ fn score_behind(
     bounds_are_sound();
     words_keep_their_score_bound();
     answer_is_unique();
+    terms_fit_their_alternatives();
     arguments_are_few_and_known();
     let Some(rest) = total_behind(lines, scores, cell.rule, alternative, alt, from, cell.to) else {
         return None;
@@ -228,8 +232,8 @@ fn alternative_score(
     }
 }
 
-/// The best of what the first alternatives give a cell with what one more gives it, turned: where both are the same, the
-/// first stays.
+/// The best of what the first alternatives give a cell with what one more gives it, turned: where both are the same,
+/// the first stays.
 #[inline(always)]
 fn better(best: Option<Best>, score: Option<i64>, alt: u8) -> Option<Best>
     ensures { (p : PosedProblem) (cell : Cell) → IsBestOfFirst p cell alt best
@@ -246,8 +250,8 @@ fn better(best: Option<Best>, score: Option<i64>, alt: u8) -> Option<Best>
     Some(Best { score, alt })
 }
 
-/// The best score of a cell and the first alternative that gives it, by the scores of its demanded children; `None` where
-/// it has no candidate. Takes no memory.
+/// The best score of a cell and the first alternative that gives it, by the scores of its demanded children; `None`
+/// where it has no candidate. Takes no memory.
 pub fn cell_best(lines: &Lines<'_>, scores: &Scores<'_>, cell: Cell) -> Option<Best>
     requires same_problem { scores.now.problem ≡ lines.now }
     requires rule { cell.rule < length lines.now.grammar.rules }

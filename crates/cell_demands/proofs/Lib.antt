@@ -1,6 +1,5 @@
 pub mod BitPlaces
 pub mod Dividing
-pub mod Formed
 pub mod Fronts
 pub mod LineDemands
 pub mod Lists

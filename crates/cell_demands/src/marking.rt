@@ -16,7 +16,7 @@ ghost use Rattle.split_lines.specs.Laid.{Demands, IsCellOf};
 ghost use Rattle.split_lines.specs.Lines.{IsLine};
 ghost use Rattle.cell_tables.specs.Marks.{AreInRows, AreMarkedFrom, AreMarkedToo};
 
-use adp_model::laws::well_formed::arguments_are_few_and_known;
+use adp_model::laws::well_formed::{alternatives_fit, arguments_are_few_and_known};
 use adp_model::{Arg, Cell};
 use cell_tables::Marks;
 use split_lines::{Boundary, KeptAlternative, Line, Lines, is_fixed, line_here};
@@ -92,8 +92,8 @@ fn mark_second(argument: &Arg, begin: u16, boundary: Boundary<'_>, marks: &mut M
     }
 }
 
-/// Whether an argument may have the letters from `from` to `to`. Where it may, the cell that it demands there is marked,
-/// and else nothing is; it is marked in its row, so those that begin at `begin` are.
+/// Whether an argument may have the letters from `from` to `to`. Where it may, the cell that it demands there is
+/// marked, and else nothing is; it is marked in its row, so those that begin at `begin` are.
 #[inline(always)]
 fn mark_last(
     lines: &Lines<'_>,
@@ -278,6 +278,7 @@ pub fn mark_children(lines: &Lines<'_>, cell: Cell, marks: &mut Marks<'_>)
 {
     lines.problem().admissible();
     arguments_are_few_and_known();
+    alternatives_fit();
     let alternatives = lines.alternatives(cell.rule);
     for number in 0..alternatives.len() {
         mark_alternative(lines, cell, &alternatives[number], number as u8, marks);

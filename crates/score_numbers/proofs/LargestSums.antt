@@ -1,5 +1,5 @@
 -- The greatest sum of two numbers of a width: low where one of them marks that there is no candidate.
-use Rattle.std.proofs.Common.{◌≡◌, ℕ, zero, suc, ◌+◌, ◌-◌, ◌*◌, ◌^◌, ◌<◌, ◌≤◌, ◌⊎◌, ℤ, pos, neg_ℤ, ◌+ℤ◌, ◌*ℤ◌, ◌≤ℤ◌, ◌<ℤ◌, nat_abs, Option, Some, None, List, [], ◌∷◌, length, map, get_or, slice_get, slice_index_or, FitsSigned, w16, w32, w64, refl, sym, ap, subst, inl, inr, ◌∙◌, if◌then◌else◌, arith, rules}
+use Rattle.std.proofs.Common.{◌≡◌, ℕ, zero, suc, ◌+◌, ◌-◌, ◌^◌, ◌<◌, ◌≤◌, ◌⊎◌, ℤ, pos, neg_ℤ, ◌+ℤ◌, ◌*ℤ◌, ◌≤ℤ◌, ◌<ℤ◌, nat_abs, MatchOption, Option, Some, None, List, [], ◌∷◌, length, map, get_or, slice_get, slice_index_or, FitsSigned, w16, w64, refl, sym, ap, subst, inl, inr, ◌∙◌, if◌then◌else◌, arith, rules}
 use Rattle.std.proofs.Math.IntN.{*ℤ_comm, *ℤ-one}
 use Rattle.std.specs.Int.{int_max, int_min}
 use Rattle.std.specs.List.{AllAdjacentBelow, Contains}
@@ -14,7 +14,7 @@ use Rattle.std.proofs.lemmas.Option.{slice_get-get_or, slice_get-map}
 use Rattle.adp_model.specs.ProblemFields.{greatest_score}
 use Rattle.score_numbers.specs.declared.sums.Positions.{Positions}
 use Rattle.score_numbers.specs.declared.sums.Scales.{Scales}
-use Rattle.score_numbers.specs.Packing.{Width, IsProper, short, medium, long}
+use Rattle.score_numbers.specs.Packing.{Width, IsProper, short}
 use Rattle.score_numbers.specs.Spaced.{IsSpaced, least_sum}
 use Rattle.score_numbers.specs.Entries.{no_candidate, score_of_entry}
 use Rattle.score_numbers.specs.Limits.{no_limit, AreLimited}
@@ -29,13 +29,7 @@ least_entry = neg_ℤ (pos (2 ^ 63 - 1))
 pub short_spaced : IsSpaced short
 short_spaced = record { apart = omega arith; low = omega (arith, ints); negative = omega (arith, ints) }
 
-pub medium_spaced : IsSpaced medium
-medium_spaced = record { apart = omega arith; low = omega (arith, ints); negative = omega (arith, ints) }
-
-pub long_spaced : IsSpaced long
-long_spaced = record { apart = omega arith; low = omega (arith, ints); negative = omega (arith, ints) }
-
--- a number and a sum of two have the bits of the width
+-- a number of 16 bits and a sum of two have as many bits
 pub short_fits : (a : ℤ) → IsProper short a → FitsSigned w16 a
 short_fits a (inl e) = fits_signed_from_abs w16 a (let same = ap nat_abs e in omega arith)
 short_fits a (inr l) = fits_signed_from_abs w16 a (omega arith)
@@ -45,26 +39,6 @@ short_sum_fits a b (inl e) (inl e') = let same : (short.mark +ℤ short.mark) �
 short_sum_fits a b (inl e) (inr m) = fits_signed_from_abs w16 (a +ℤ b) (omega (arith, ints))
 short_sum_fits a b (inr l) (inl e) = fits_signed_from_abs w16 (a +ℤ b) (omega (arith, ints))
 short_sum_fits a b (inr l) (inr m) = fits_signed_from_abs w16 (a +ℤ b) (omega (arith, ints))
-
-pub medium_fits : (a : ℤ) → IsProper medium a → FitsSigned w32 a
-medium_fits a (inl e) = fits_signed_from_abs w32 a (let same = ap nat_abs e in omega arith)
-medium_fits a (inr l) = fits_signed_from_abs w32 a (omega arith)
-
-pub medium_sum_fits : (a b : ℤ) → IsProper medium a → IsProper medium b → FitsSigned w32 (a +ℤ b)
-medium_sum_fits a b (inl e) (inl e') = let same : (medium.mark +ℤ medium.mark) ≡ (a +ℤ b) = λ i. sym e i +ℤ sym e' i in subst (FitsSigned w32) same (search rules)
-medium_sum_fits a b (inl e) (inr m) = fits_signed_from_abs w32 (a +ℤ b) (omega (arith, ints))
-medium_sum_fits a b (inr l) (inl e) = fits_signed_from_abs w32 (a +ℤ b) (omega (arith, ints))
-medium_sum_fits a b (inr l) (inr m) = fits_signed_from_abs w32 (a +ℤ b) (omega (arith, ints))
-
-pub long_fits : (a : ℤ) → IsProper long a → FitsSigned w64 a
-long_fits a (inl e) = fits_signed_from_abs w64 a (let same = ap nat_abs e in omega arith)
-long_fits a (inr l) = fits_signed_from_abs w64 a (omega arith)
-
-pub long_sum_fits : (a b : ℤ) → IsProper long a → IsProper long b → FitsSigned w64 (a +ℤ b)
-long_sum_fits a b (inl e) (inl e') = let same : (long.mark +ℤ long.mark) ≡ (a +ℤ b) = λ i. sym e i +ℤ sym e' i in subst (FitsSigned w64) same (search rules)
-long_sum_fits a b (inl e) (inr m) = fits_signed_from_abs w64 (a +ℤ b) (omega (arith, ints))
-long_sum_fits a b (inr l) (inl e) = fits_signed_from_abs w64 (a +ℤ b) (omega (arith, ints))
-long_sum_fits a b (inr l) (inr m) = fits_signed_from_abs w64 (a +ℤ b) (omega (arith, ints))
 
 -- the greatest of the sums of which it holds, less than the least of all where it holds of none
 abbrev pub IsLargest : ℤ → (ℤ → Type 0) → ℤ → Type 0
@@ -90,6 +64,14 @@ module _ (least : ℤ) where
   pub largest_some : (Holds : ℤ → Type 0) (greatest : ℤ) → IsLargest least Holds greatest → least ≤ℤ greatest → IsGreatestOf Holds (Some greatest)
   largest_some Holds greatest (inl (low, none)) l = absurd (omega (arith, ints))
   largest_some Holds greatest (inr (high, is)) l = is
+
+  pub largest_sum : (Holds : ℤ → Type 0) (greatest : ℤ) (sum : Option ℤ)
+      → MatchOption sum (greatest <ℤ least) (λ sum. (sum ≡ greatest) × (least ≤ℤ sum)) → IsLargest least Holds greatest
+      → IsGreatestOf Holds sum
+  largest_sum Holds greatest None low is = largest_none Holds greatest is low
+  largest_sum Holds greatest (Some sum) (same, high) is =
+      subst (λ number. IsGreatestOf Holds (Some number)) (sym same)
+      (largest_some Holds greatest is (subst (λ number. least ≤ℤ number) same high))
 
   pub largest_same : (A B : ℤ → Type 0) (greatest : ℤ) → ((number : ℤ) → A number → B number) → ((number : ℤ) → B number → A number) → IsLargest least A greatest → IsLargest least B greatest
   largest_same A B greatest to back (inl (low, none)) = inl (low, λ number b. none number (back number b))
@@ -398,6 +380,11 @@ mark_cases mark a b = go (cases_eq a) (cases_eq b)
 pub read_number : {X : Type 0} (value : X → ℤ) (items : List X) (k : ℕ) (item : X) (number : ℤ) → k < length (map value items) → item ≡ slice_index_or items k item → number ≡ value item → slice_get (map value items) k ≡ Some number
 read_number value items k item number l is e =
     slice_get-map value items k ∙ ap (option_map value) (slice_get-get_or items k item (omega (arith, l, length-map items value))) ∙ ap (λ x. Some (value x)) (sym is) ∙ ap Some (sym e)
+
+-- a value that stands there
+pub value_there : {X : Type 0} (value : X → ℤ) (items : List X) (k : ℕ) (item : X) → slice_get items k ≡ Some item
+    → slice_get (map value items) k ≡ Some (value item)
+value_there value items k item there = slice_get-map value items k ∙ ap (option_map value) there
 
 -- one more position, whose sum is this entry
 module _ (mark : ℤ) (scales : Scales) (firsts seconds : List ℤ) (at : ℕ → ℕ) (bound : ℕ) (greatest new a b entry : ℤ) (max : new ≡ int_max greatest entry)

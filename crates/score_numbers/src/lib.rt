@@ -5,6 +5,7 @@
 mod numbers;
 mod packing;
 mod sums;
+mod width;
 mod worthless;
 
 pub use numbers::{greater, turned, turned_factors};

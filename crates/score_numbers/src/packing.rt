@@ -2,7 +2,7 @@
 //! marks that there is no candidate. Sums of two such numbers have the same bits, and are lowest where one of them is
 //! the mark.
 
-ghost use Rattle.std.specs.Prelude.{◌≡◌, ◌<◌, ◌≤◌, ◌^◌, ℤ, IfSome, nat_abs, unwrap_or};
+ghost use Rattle.std.specs.Prelude.{◌≡◌, ◌<◌, ◌≤◌, ◌^◌, IfSome, nat_abs, unwrap_or};
 ghost use Rattle.score_numbers.specs.Entries.{no_candidate, score_of_entry};
 ghost use Rattle.score_numbers.specs.Packing.{IsProper, long, medium, short, told};
 
@@ -32,39 +32,6 @@ pub const LONG_MARK: i64 = -0x4000_0000_0000_0000;
 
 /// The greatest absolute value of a score in 64 bits that was turned.
 pub const LONG_LIMIT: i64 = 0x1000_0000_0000_0000;
-
-/// A number of a width.
-pub trait Number: Copy {
-    ghost value: { Self → ℤ };
-
-    /// The number in 64 bits.
-    fn wide(self) -> i64
-        ensures { result ≡ value self };
-}
-
-impl Number for i16 {
-    ghost value = { λ number. number };
-
-    fn wide(self) -> i64 {
-        i64::from(self)
-    }
-}
-
-impl Number for i32 {
-    ghost value = { λ number. number };
-
-    fn wide(self) -> i64 {
-        i64::from(self)
-    }
-}
-
-impl Number for i64 {
-    ghost value = { λ number. number };
-
-    fn wide(self) -> i64 {
-        self
-    }
-}
 
 /// The score that an entry tells.
 pub fn score_of(entry: i64) -> Option<i64>

@@ -1,6 +1,6 @@
 //! The greatest sum of numbers before and behind the positions of a boundary.
 
-ghost use Rattle.std.specs.Prelude.{◌≡◌, ℕ, pos, ◌+◌, ◌<◌, ◌≤◌, ◌⊎◌, ◌+ℤ◌, ◌*ℤ◌, IsTrue, nat_abs, length, map};
+ghost use Rattle.std.specs.Prelude.{◌≡◌, ℕ, pos, ◌+◌, ◌<◌, ◌≤◌, ◌⊎◌, ◌+ℤ◌, ◌*ℤ◌, ◌<ℤ◌, ◌≤ℤ◌, IsTrue, MatchOption, nat_abs, length, map};
 ghost use Rattle.std.specs.List.{AllAdjacentBelow};
 ghost use Rattle.adp_model.specs.ProblemFields.{greatest_score};
 ghost use Rattle.score_numbers.specs.Entries.{no_candidate};
@@ -8,11 +8,10 @@ ghost use Rattle.score_numbers.specs.Packing.{AreProper, long, medium, short};
 ghost use Rattle.score_numbers.specs.Limits.{AreLimited, AreLimits};
 ghost use Rattle.score_numbers.specs.Sums.{AreLowSums, HasScaledSumAt, HasSum, HasSumAt, HasUnlimitedSum, HaveNumbers};
 ghost use Rattle.score_numbers.specs.Greatest.{IsGreatestOf};
+ghost use Rattle.score_numbers.specs.Spaced.{least_sum};
 
-use crate::packing::{
-    LONG_LIMIT, LONG_MARK, MEDIUM_LIMIT, MEDIUM_MARK, NO_CANDIDATE, Number, SHORT_LIMIT,
-    SHORT_MARK, score_of,
-};
+use crate::packing::{NO_CANDIDATE, SHORT_MARK, score_of};
+use crate::width::Number;
 
 /// Where one number in so many, or fewer of them, stands at a position, these are read one by one, and else all are.
 const SPARSE: usize = 6;
@@ -78,39 +77,72 @@ fn greatest_scaled<N: Number>(
     score_of(greatest)
 }
 
-/// The greatest sum of numbers of 16 bits side by side.
-fn greatest_aligned_short(first: &[i16], second: &[i16]) -> Option<i64>
-    requires first { AreProper short first.now }
-    requires second { AreProper short second.now }
-    ensures { IsGreatestOf (λ sum. (k : ℕ) × HasSum short first.now second.now k sum) result }
+/// The sum that is the greatest one, where it is one of two scores.
+fn sum_of<N: Number>(greatest: N) -> Option<i64>
+    ensures { MatchOption result (N.value greatest <ℤ least_sum N.width)
+        (λ sum. (sum ≡ N.value greatest) × (least_sum N.width ≤ℤ sum)) }
 {
-    let mut greatest = SHORT_MARK;
-    for (a, b) in first.iter().zip(second) {
-        greatest = greatest.max(*a + *b);
-    }
-    if greatest < -2 * SHORT_LIMIT {
+    let sum = greatest.wide();
+    if sum < N::least_sum() {
         None
     } else {
-        Some(i64::from(greatest))
+        Some(sum)
     }
 }
 
-/// The greatest sum of numbers of 16 bits at positions here and there.
-fn greatest_scattered_short(first: &[i16], second: &[i16], positions: Positions<'_>) -> Option<i64>
-    requires first { AreProper short first.now }
-    requires second { AreProper short second.now }
-    requires have { HaveNumbers positions first.now second.now }
-    ensures { IsGreatestOf (HasSumAt short positions.entry first.now second.now) result }
+/// The greatest sum of numbers side by side.
+fn greatest_aligned<N: Number>(first: &[N], second: &[N]) -> Option<i64>
+    requires first { AreProper N.width (map N.value first.now) }
+    requires second { AreProper N.width (map N.value second.now) }
+    ensures { IsGreatestOf (λ sum. (k : ℕ) × HasSum N.width (map N.value first.now) (map N.value second.now) k sum)
+        result }
 {
-    let mut greatest = SHORT_MARK;
+    N::is_spaced();
+    let mut greatest = N::mark();
+    for (a, b) in first.iter().zip(second) {
+        greatest = greatest.most(a.plus(*b));
+    }
+    sum_of(greatest)
+}
+
+/// The greatest sum of numbers at positions here and there.
+fn greatest_scattered<N: Number>(first: &[N], second: &[N], positions: Positions<'_>) -> Option<i64>
+    requires first { AreProper N.width (map N.value first.now) }
+    requires second { AreProper N.width (map N.value second.now) }
+    requires have { HaveNumbers positions (map N.value first.now) (map N.value second.now) }
+    ensures { IsGreatestOf (HasSumAt N.width positions.entry (map N.value first.now) (map N.value second.now)) result }
+{
+    N::is_spaced();
+    let mut greatest = N::mark();
     for position in positions.at {
         let number = *position as usize - positions.first as usize;
-        greatest = greatest.max(first[number] + second[number]);
+        greatest = greatest.most(first[number].plus(second[number]));
     }
-    if greatest < -2 * SHORT_LIMIT {
-        None
+    sum_of(greatest)
+}
+
+/// The greatest sum of numbers before and behind the positions, each times its factor.
+fn greatest_sum<N: Number>(
+    first: &[N],
+    second: &[N],
+    positions: Positions<'_>,
+    scales: Scales,
+) -> Option<i64>
+    requires first { AreProper N.width (map N.value first.now) }
+    requires second { AreProper N.width (map N.value second.now) }
+    requires have { HaveNumbers positions (map N.value first.now) (map N.value second.now) }
+    requires rising { AllAdjacentBelow (λ (a b : ℕ). a < b) positions.at.now (length positions.at.now) }
+    requires low { AreLowSums N.width.mark scales positions (map N.value first.now) (map N.value second.now) }
+    ensures { IsGreatestOf (HasScaledSumAt N.width.mark scales positions.entry (map N.value first.now)
+        (map N.value second.now)) result }
+{
+    if !scales.are_plain() {
+        return greatest_scaled(first, second, N::mark().wide(), positions, scales);
+    }
+    if first.len() == positions.at.len() && second.len() == positions.at.len() {
+        greatest_aligned(first, second)
     } else {
-        Some(i64::from(greatest))
+        greatest_scattered(first, second, positions)
     }
 }
 
@@ -127,11 +159,7 @@ fn greatest_limited_short(first: &[i16], second: &[i16], limits: &[i16]) -> Opti
     for (k, limit) in limits.iter().enumerate() {
         greatest = greatest.max((first[k] + second[k]).min(*limit));
     }
-    if greatest < -2 * SHORT_LIMIT {
-        None
-    } else {
-        Some(i64::from(greatest))
-    }
+    sum_of(greatest)
 }
 
 /// The greatest sum of numbers of 16 bits before and behind the positions, each times its factor. Limits tell the
@@ -157,47 +185,11 @@ pub fn greatest_short(
     }
     let (count, span) = (positions.at.len(), limits.len());
     if first.len() != span || second.len() != span || span / SPARSE >= count {
-        greatest_scattered_short(first, second, positions)
+        greatest_scattered(first, second, positions)
     } else if count == span {
-        greatest_aligned_short(first, second)
+        greatest_aligned(first, second)
     } else {
         greatest_limited_short(first, second, limits)
-    }
-}
-
-/// The greatest sum of numbers of 32 bits side by side.
-fn greatest_aligned_medium(first: &[i32], second: &[i32]) -> Option<i64>
-    requires first { AreProper medium first.now }
-    requires second { AreProper medium second.now }
-    ensures { IsGreatestOf (λ sum. (k : ℕ) × HasSum medium first.now second.now k sum) result }
-{
-    let mut greatest = MEDIUM_MARK;
-    for (a, b) in first.iter().zip(second) {
-        greatest = greatest.max(*a + *b);
-    }
-    if greatest < -2 * MEDIUM_LIMIT {
-        None
-    } else {
-        Some(i64::from(greatest))
-    }
-}
-
-/// The greatest sum of numbers of 32 bits at positions here and there.
-fn greatest_scattered_medium(first: &[i32], second: &[i32], positions: Positions<'_>) -> Option<i64>
-    requires first { AreProper medium first.now }
-    requires second { AreProper medium second.now }
-    requires have { HaveNumbers positions first.now second.now }
-    ensures { IsGreatestOf (HasSumAt medium positions.entry first.now second.now) result }
-{
-    let mut greatest = MEDIUM_MARK;
-    for position in positions.at {
-        let number = *position as usize - positions.first as usize;
-        greatest = greatest.max(first[number] + second[number]);
-    }
-    if greatest < -2 * MEDIUM_LIMIT {
-        None
-    } else {
-        Some(i64::from(greatest))
     }
 }
 
@@ -215,50 +207,7 @@ pub fn greatest_medium(
     requires low { AreLowSums medium.mark scales positions first.now second.now }
     ensures { IsGreatestOf (HasScaledSumAt medium.mark scales positions.entry first.now second.now) result }
 {
-    if !scales.are_plain() {
-        return greatest_scaled(first, second, i64::from(MEDIUM_MARK), positions, scales);
-    }
-    if first.len() == positions.at.len() && second.len() == positions.at.len() {
-        greatest_aligned_medium(first, second)
-    } else {
-        greatest_scattered_medium(first, second, positions)
-    }
-}
-
-/// The greatest sum of numbers of 64 bits side by side.
-fn greatest_aligned_long(first: &[i64], second: &[i64]) -> Option<i64>
-    requires first { AreProper long first.now }
-    requires second { AreProper long second.now }
-    ensures { IsGreatestOf (λ sum. (k : ℕ) × HasSum long first.now second.now k sum) result }
-{
-    let mut greatest = LONG_MARK;
-    for (a, b) in first.iter().zip(second) {
-        greatest = greatest.max(*a + *b);
-    }
-    if greatest < -2 * LONG_LIMIT {
-        None
-    } else {
-        Some(greatest)
-    }
-}
-
-/// The greatest sum of numbers of 64 bits at positions here and there.
-fn greatest_scattered_long(first: &[i64], second: &[i64], positions: Positions<'_>) -> Option<i64>
-    requires first { AreProper long first.now }
-    requires second { AreProper long second.now }
-    requires have { HaveNumbers positions first.now second.now }
-    ensures { IsGreatestOf (HasSumAt long positions.entry first.now second.now) result }
-{
-    let mut greatest = LONG_MARK;
-    for position in positions.at {
-        let number = *position as usize - positions.first as usize;
-        greatest = greatest.max(first[number] + second[number]);
-    }
-    if greatest < -2 * LONG_LIMIT {
-        None
-    } else {
-        Some(greatest)
-    }
+    greatest_sum(first, second, positions, scales)
 }
 
 /// The greatest sum of numbers of 64 bits before and behind the positions, each times its factor.
@@ -275,12 +224,5 @@ pub fn greatest_long(
     requires low { AreLowSums long.mark scales positions first.now second.now }
     ensures { IsGreatestOf (HasScaledSumAt long.mark scales positions.entry first.now second.now) result }
 {
-    if !scales.are_plain() {
-        return greatest_scaled(first, second, LONG_MARK, positions, scales);
-    }
-    if first.len() == positions.at.len() && second.len() == positions.at.len() {
-        greatest_aligned_long(first, second)
-    } else {
-        greatest_scattered_long(first, second, positions)
-    }
+    greatest_sum(first, second, positions, scales)
 }

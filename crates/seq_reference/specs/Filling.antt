@@ -1,5 +1,5 @@
--- The sweep that fills the scores of the demanded cells, by blocks of starts downwards: in a block by ends upwards, at an
--- end by starts downwards, and on a span by ranks upwards.
+-- The sweep that fills the scores of the demanded cells, by blocks of starts downwards: in a block by ends upwards, at
+-- an end by starts downwards, and on a span by ranks upwards.
 use Rattle.std.specs.Prelude.{◌≡◌, ℕ, ◌<◌, ◌≤◌, ◌⊎◌, ℤ, List, slice_index}
 use Rattle.adp_model.specs.declared.cell.Cell.{Cell}
 use Rattle.adp_model.specs.PosedProblem.{PosedProblem}
@@ -11,8 +11,8 @@ use Rattle.cell_answers.specs.Entries.{HasEntry}
 abbrev pub IsFromStart : ℕ → Cell → Type 0
 IsFromStart from cell = from ≤ cell.from
 
--- those that begin behind a block of starts, at `past` or later, and of those that begin in it, from `first` on, the ones
--- that end before this end
+-- those that begin behind a block of starts, at `past` or later, and of those that begin in it, from `first` on, the
+-- ones that end before this end
 abbrev pub IsFilledBefore : ℕ → ℕ → ℕ → Cell → Type 0
 IsFilledBefore first past to cell = IsFromStart past cell ⊎ (IsFromStart first cell × (cell.to < to))
 

@@ -7,7 +7,8 @@ use Rattle.yield_sizes.specs.Placing.{on_span, Cover}
 
 -- the end of a token, no later than the last place, is told
 abbrev pub IsEndTold : PosedProblem → Arg → ℕ → ℕ → Option ℕ → Type 0
-IsEndTold p token from last found = (end : ℕ) → (found ≡ Some end) ↔ ((end ≤ last) × FitsSpan p (on_span token from end))
+IsEndTold p token from last found =
+    (end : ℕ) → (found ≡ Some end) ↔ ((end ≤ last) × FitsSpan p (on_span token from end))
 
 -- the end of the tokens, no later than the last place, is told
 abbrev pub IsFrontTold : PosedProblem → List Arg → ℕ → ℕ → Option ℕ → Type 0

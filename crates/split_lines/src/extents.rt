@@ -95,7 +95,8 @@ impl Extent {
         requires known { IfSome self.class (λ class. class < length tables.now.grammar.classes) }
         requires span { IsSpan tables.now.word from last }
         requires short { last ≤ most_letters }
-        ensures { (argument : Argument) → IsExtent tables.now argument self → AreEnds tables.now argument from last result }
+        ensures { (argument : Argument) → IsExtent tables.now argument self
+            → AreEnds tables.now argument from last result }
     {
         let most = last.min(from + self.most as usize);
         let end = class_end(tables, self.class, from, most);
@@ -108,7 +109,8 @@ impl Extent {
         requires known { IfSome self.class (λ class. class < length tables.now.grammar.classes) }
         requires span { IsSpan tables.now.word first to }
         requires short { to ≤ most_letters }
-        ensures { (argument : Argument) → IsExtent tables.now argument self → AreStarts tables.now argument first to result }
+        ensures { (argument : Argument) → IsExtent tables.now argument self
+            → AreStarts tables.now argument first to result }
     {
         let longest = first.max(to.saturating_sub(self.most as usize));
         let start = class_start(tables, self.class, longest, to);

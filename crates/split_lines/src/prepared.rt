@@ -52,4 +52,11 @@ impl<'a> Prepared<'a> {
     {
         &self.layout
     }
+
+    /// The problem. Takes no memory.
+    pub fn problem(&self) -> &'a Problem<'a>
+        ensures { result.now ≡ self.now }
+    {
+        self.lines.problem()
+    }
 }

@@ -90,6 +90,8 @@ laid c =
     let formed = (admissible c).checked.well_formed in
     let bounded : TokensKeepBound p = c.words_keep_their_score_bound.ensures.token p in
     alternative_laid p (admissible c) bounded c.args.scores.now (the_goal c) c.args.cell c.args.best.alt (c.arguments_are_few_and_known.ensures.known p.grammar formed c.args.cell.rule c.args.best.alt) (few c c.args.best.alt)
+    (c.terms_fit_their_alternatives.ensures.factors p.grammar formed p.algebra c.args.cell.rule c.args.best.alt
+    (admissible c).checked.algebra_known (in_range c))
     c.requires.in_word c.requires.rule (in_range c) c.requires.scored
 
 here_laid : (c : After-turned_factors-factors) → AreLaid c.args.lines.now c.args.scores.now c.arguments-arguments.result.now (take (length c.arguments-arguments.result.now) c.turned_factors-factors.result) c.args.cell.from c.args.cell.to

@@ -44,6 +44,8 @@ laid c =
     let formed = (admissible c).checked.well_formed in
     kept_laid p c.args.cell c.args.alt c.args.alternative.now c.requires.alternative c.args.scores.now
     (alternative_laid p (admissible c) (bounded c) c.args.scores.now (algebra_of p).goal c.args.cell c.args.alt (laws.known p.grammar formed c.args.cell.rule c.args.alt) (laws.few p.grammar formed c.args.cell.rule c.args.alt)
+    (c.terms_fit_their_alternatives.ensures.factors p.grammar formed p.algebra c.args.cell.rule c.args.alt
+    (admissible c).checked.algebra_known c.requires.in_range)
     c.requires.in_word c.requires.rule c.requires.in_range c.requires.scored)
 
 only : (c : After-arguments_are_few_and_known) (other : ℕ) → Cover c.args.lines.now c.args.alternative.now.front.now c.args.cell.from other → other ≡ c.args.from

@@ -3,7 +3,6 @@ use Rattle.adp_model.specs.PosedProblem.{PosedProblem}
 use Rattle.adp_model.specs.ProblemFields.{IsAdmissible}
 use Rattle.adp_model.specs.Parts.{alternatives_of, arguments_of}
 use Rattle.cell_tables.specs.Marks.{AreMarkedFrom}
-use Rattle.cell_demands.proofs.Formed.{alternatives_few}
 use Rattle.cell_demands.proofs.Splitting.{child_of_demands}
 use Rattle.cell_demands.proofs.LineDemands.{DemandsByFirst, one_more_alternative, all_alternatives}
 use Rattle.cell_demands.proofs.MarkSteps.{none_marked}
@@ -19,7 +18,9 @@ few c = c.arguments_are_few_and_known.ensures.few c.args.lines.now.grammar (admi
 pub overflow_cast-number : goal.overflow_cast-number
 overflow_cast-number c =
     let at = (goal.at.overflow_cast-number c).After-alternatives-alternatives in
-    omega (arith, alternatives_few c.args.lines.now.grammar (admissible at).checked.well_formed c.args.cell.rule c.requires.rule, c.alternatives-alternatives.ensures.each)
+    let most = c.alternatives_fit.ensures.few c.args.lines.now.grammar (admissible at).checked.well_formed
+    c.args.cell.rule in
+    omega (arith, most, c.alternatives-alternatives.ensures.each)
 
 pub mark_alternative-requires-clause-counted : goal.mark_alternative-requires-clause-counted
 mark_alternative-requires-clause-counted c = λ child demands.

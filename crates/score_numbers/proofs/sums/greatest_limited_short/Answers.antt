@@ -1,11 +1,10 @@
-use Rattle.std.proofs.Common.{◌≡◌, pos, ◌+ℤ◌, ◌≤ℤ◌, ◌<ℤ◌, Some, length, get_or, slice_get, FitsSigned, w16, w64, to_z, of_z, inl, inr, sym, subst, ap, ◌∙◌, arith, rules}
+use Rattle.std.proofs.Common.{◌≡◌, pos, ◌+ℤ◌, Some, length, get_or, slice_get, FitsSigned, w16, to_z, of_z, inl, inr, ap, ◌∙◌, arith, rules}
 use Rattle.std.specs.Int.{int_max}
-use Rattle.std.proofs.lemmas.Int.{ints, to_z-of_z}
+use Rattle.std.proofs.lemmas.Int.{to_z-of_z}
 use Rattle.std.proofs.lemmas.Option.{slice_get-get_or}
 use Rattle.score_numbers.specs.Packing.{IsProper, short}
 use Rattle.score_numbers.specs.Sums.{HasUnlimitedSum}
-use Rattle.score_numbers.specs.Greatest.{IsGreatestOf}
-use Rattle.score_numbers.proofs.LargestSums.{IsUnlimitedSum, short_spaced, short_fits, short_sum_fits, none_yet, unlimited_more, limited_more, limit_cases, limit_fits, all_limited, largest_none, largest_some}
+use Rattle.score_numbers.proofs.LargestSums.{IsUnlimitedSum, short_spaced, short_fits, short_sum_fits, none_yet, unlimited_more, limited_more, limit_cases, limit_fits, all_limited, largest_sum}
 use Rattle.score_numbers.specs.Spaced.{least_sum}
 use Rattle.score_numbers.proofs.sums.greatest_limited_short.Goals as goal
 
@@ -57,19 +56,11 @@ loop-k-preserved c =
       | inr it ↦ limited_more limits firsts seconds at old new c.min.result (limited ∙ ap Some it.0) max it.1 c.loop-k.invariant
     ]
 
-pub returns-then-greatest : goal.returns-then-greatest
-returns-then-greatest c =
-    let low : (to_z w16 c.loop-k.greatest-bits) <ℤ least_sum short = omega (arith, ints, c.if-greatest.true) in
+pub returns : goal.returns
+returns c =
     let all : c.loop-k.k ≡ length c.args.limits.now = omega (arith, c.loop-k-test.false, c.loop-k.auto.k-end) in
-    largest_none (least_sum short) (HasUnlimitedSum c.args.limits.now c.args.first.now c.args.second.now) (to_z w16 c.loop-k.greatest-bits)
-    (all_limited c.args.limits.now c.args.first.now c.args.second.now c.loop-k.k (to_z w16 c.loop-k.greatest-bits) all c.loop-k.invariant) low
-
-pub returns-else-greatest : goal.returns-else-greatest
-returns-else-greatest c =
-    let high : least_sum short ≤ℤ (to_z w16 c.loop-k.greatest-bits) = omega (arith, ints, c.if-greatest.false) in
-    let all : c.loop-k.k ≡ length c.args.limits.now = omega (arith, c.loop-k-test.false, c.loop-k.auto.k-end) in
-    let fits : FitsSigned w64 c.from.result = search rules in
-    let same : c.from.result ≡ (to_z w16 c.loop-k.greatest-bits) = cc in
-    subst (λ number. IsGreatestOf (HasUnlimitedSum c.args.limits.now c.args.first.now c.args.second.now) (Some number)) (sym (to_z-of_z w64 c.from.result fits ∙ same))
-    (largest_some (least_sum short) (HasUnlimitedSum c.args.limits.now c.args.first.now c.args.second.now) (to_z w16 c.loop-k.greatest-bits)
-    (all_limited c.args.limits.now c.args.first.now c.args.second.now c.loop-k.k (to_z w16 c.loop-k.greatest-bits) all c.loop-k.invariant) high)
+    let greatest = to_z w16 c.loop-k.greatest-bits in
+    let firsts = c.args.first.now in
+    let seconds = c.args.second.now in
+    largest_sum (least_sum short) (HasUnlimitedSum c.args.limits.now firsts seconds) greatest c.sum_of.result
+    c.sum_of.ensures (all_limited c.args.limits.now firsts seconds c.loop-k.k greatest all c.loop-k.invariant)

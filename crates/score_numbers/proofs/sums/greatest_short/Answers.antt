@@ -1,42 +1,51 @@
-use Rattle.std.proofs.Common.{◌≡◌, length, map, w64, to_z, of_z, sym, ap, subst, arith}
+use Rattle.std.proofs.Common.{◌≡◌, ℕ, ℤ, List, length, map, w64, to_z, of_z, sym, ap, subst, arith}
 use Rattle.score_numbers.specs.Packing.{short}
-use Rattle.score_numbers.specs.Sums.{AreLowSums, HasScaledSumAt, HaveNumbers}
+use Rattle.score_numbers.specs.Sums.{AreLowSums, HasScaledSumAt, HasSum, HasSumAt}
 use Rattle.score_numbers.specs.Greatest.{IsGreatestOf}
-use Rattle.score_numbers.proofs.LargestSums.{aligned_places, as_values, limited_places, from_values, plain_greatest}
+use Rattle.score_numbers.proofs.LargestSums.{aligned_places, as_values, from_values, limited_places, plain_greatest}
 use Rattle.score_numbers.proofs.sums.greatest_short.Goals as goal
-
-pub greatest_scaled-requires-clause-have : goal.greatest_scaled-requires-clause-have
-greatest_scaled-requires-clause-have c = as_values (HaveNumbers c.args.positions) c.args.first.now c.args.second.now c.requires.have
 
 pub greatest_scaled-requires-clause-low : goal.greatest_scaled-requires-clause-low
 greatest_scaled-requires-clause-low c =
     let same : c.from.result ≡ short.mark = cc in
     let mark : short.mark ≡ to_z w64 (of_z w64 c.from.result) = ap (λ z. to_z w64 (of_z w64 z)) (sym same) in
-    as_values (λ firsts seconds. AreLowSums (to_z w64 (of_z w64 c.from.result)) c.args.scales c.args.positions firsts seconds) c.args.first.now c.args.second.now (subst (λ number. AreLowSums number c.args.scales c.args.positions c.args.first.now c.args.second.now) mark c.requires.low)
+    let L : ℤ → List ℤ → List ℤ → Type 0 = λ number. AreLowSums number c.args.scales c.args.positions in
+    as_values (L (to_z w64 (of_z w64 c.from.result))) c.args.first.now c.args.second.now
+    (subst (λ number. L number c.args.first.now c.args.second.now) mark c.requires.low)
 
 pub returns-then-not-are_plain : goal.returns-then-not-are_plain
 returns-then-not-are_plain c =
     let same : c.from.result ≡ short.mark = cc in
     let mark : to_z w64 (of_z w64 c.from.result) ≡ short.mark = ap (λ z. to_z w64 (of_z w64 z)) same in
-    let found = subst (λ number. IsGreatestOf (HasScaledSumAt number c.args.scales c.args.positions (map (λ x. x) c.args.first.now) (map (λ x. x) c.args.second.now)) c.greatest_scaled.result) mark c.greatest_scaled.ensures in
-    from_values (λ firsts seconds. IsGreatestOf (HasScaledSumAt short.mark c.args.scales c.args.positions firsts seconds) c.greatest_scaled.result) c.args.first.now c.args.second.now found
+    let G : ℤ → List ℤ → List ℤ → Type 0 = λ number firsts seconds.
+    IsGreatestOf (HasScaledSumAt number c.args.scales c.args.positions firsts seconds) c.greatest_scaled.result in
+    from_values (G short.mark) c.args.first.now c.args.second.now
+    (subst (λ number. G number (map (λ x. x) c.args.first.now) (map (λ x. x) c.args.second.now)) mark
+    c.greatest_scaled.ensures)
 
 pub returns-then-span-count : goal.returns-then-span-count
 returns-then-span-count c =
     let plain = c.are_plain.ensures c.if-not-are_plain.false in
-    plain_greatest short c.args.scales plain.0 plain.1 c.args.first.now c.args.second.now c.args.positions c.greatest_scattered_short.result
-    c.greatest_scattered_short.ensures
+    let found = c.greatest_scattered.result in
+    plain_greatest short c.args.scales plain.0 plain.1 c.args.first.now c.args.second.now c.args.positions found
+    (from_values (λ firsts seconds. IsGreatestOf (HasSumAt short c.args.positions firsts seconds) found)
+    c.args.first.now c.args.second.now c.greatest_scattered.ensures)
 
 pub returns-then-count-span : goal.returns-then-count-span
 returns-then-count-span c =
     let as_many : length c.args.first.now ≡ length c.args.positions.at.now = omega arith in
     let plain = c.are_plain.ensures c.if-not-are_plain.false in
-    plain_greatest short c.args.scales plain.0 plain.1 c.args.first.now c.args.second.now c.args.positions c.greatest_aligned_short.result
-    (aligned_places c.args.positions c.args.first.now c.args.second.now c.requires.have c.requires.rising as_many short c.greatest_aligned_short.result c.greatest_aligned_short.ensures)
+    let found = c.greatest_aligned.result in
+    plain_greatest short c.args.scales plain.0 plain.1 c.args.first.now c.args.second.now c.args.positions found
+    (aligned_places c.args.positions c.args.first.now c.args.second.now c.requires.have c.requires.rising as_many short found
+    (from_values (λ firsts seconds. IsGreatestOf (λ sum. (k : ℕ) × HasSum short firsts seconds k sum) found)
+    c.args.first.now c.args.second.now c.greatest_aligned.ensures))
 
 pub returns-else-count-span : goal.returns-else-count-span
 returns-else-count-span c =
     let as_many : length c.args.first.now ≡ length c.args.limits.now = omega arith in
     let plain = c.are_plain.ensures c.if-not-are_plain.false in
-    plain_greatest short c.args.scales plain.0 plain.1 c.args.first.now c.args.second.now c.args.positions c.greatest_limited_short.result
-    (limited_places c.args.positions c.args.first.now c.args.second.now c.args.limits.now c.requires.have c.requires.limits as_many c.greatest_limited_short.result c.greatest_limited_short.ensures)
+    plain_greatest short c.args.scales plain.0 plain.1 c.args.first.now c.args.second.now c.args.positions
+    c.greatest_limited_short.result
+    (limited_places c.args.positions c.args.first.now c.args.second.now c.args.limits.now c.requires.have c.requires.limits
+    as_many c.greatest_limited_short.result c.greatest_limited_short.ensures)
