@@ -54,7 +54,8 @@ pub record IsFresh {Probe : Type 0} (p : PosedProblem) (orders : Lcg) (view : Ma
 
 -- whether the next step loads a record word, by the look that is made and the answer that is there; `fresh` says it of
 -- fresh probes
-abbrev pub loads_at : {Pass Probe : Type 0} → Meaning Pass Probe → Bool → Bool → Option (Hand Probe) → Option Answer → Bool
+abbrev pub loads_at : {Pass Probe : Type 0}
+    → Meaning Pass Probe → Bool → Bool → Option (Hand Probe) → Option Answer → Bool
 loads_at memo fresh true hand ready = false
 loads_at memo fresh false (Some hand) ready = memo.loads hand.probe
 loads_at memo fresh false None (Some answer) = false

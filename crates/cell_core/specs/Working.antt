@@ -57,7 +57,8 @@ module _ {Pass Probe : Type 0} (memo : Meaning Pass Probe) where
   -- the machine invariant, but for the next argument, which may still have to be sought
   pub record IsSound (p : PosedProblem) (Noted : Cell → Type 0) (work : Work Probe) (pass : Pass) : Type 0 where
     pub has_room : HasRoom p work
-    pub going : work.ended ≡ false → IsGoing memo p Noted work.hand (frames_of work.top work.below.items) work.ready pass
+    pub going : work.ended ≡ false
+        → IsGoing memo p Noted work.hand (frames_of work.top work.below.items) work.ready pass
     pub at_end : work.ended ≡ true
         → IsAtEnd memo p work.hand (frames_of work.top work.below.items) work.score pass
     pub noted : (cell : Cell) → Noted cell → memo.known pass cell
@@ -104,8 +105,8 @@ pub record IsClosed {Probe : Type 0} (work work' : Work Probe) (score : Option �
   pub opened : work'.opened ≡ work.opened
   pub wins : work'.wins ≡ work.wins
   pub moves : work'.moves ≡ work.moves
-  pub next : ((next : Frame Probe) × (work'.top ≡ Some next) × (reverse work.below.items ≡ next ∷ reverse work'.below.items)
-      × (work'.ended ≡ work.ended))
+  pub next : ((next : Frame Probe) × (work'.top ≡ Some next)
+      × (reverse work.below.items ≡ next ∷ reverse work'.below.items) × (work'.ended ≡ work.ended))
       ⊎ ((work'.top ≡ None) × (reverse work.below.items ≡ []) × (work'.ended ≡ true) × (work'.score ≡ score))
 
 -- what a turn tells of the machine after it

@@ -7,13 +7,12 @@ ghost use Rattle.cell_tables.specs.Noted.{IsNoted};
 
 use crate::noted_cells::NotedCells;
 use crate::notes::Notes;
-use crate::prepared::Prepared;
 use crate::seeking::seek;
 use adp_model::laws::demand::demanded_cells_are_counted;
 use adp_model::{Answer, Cell, Position, Problem, Visit};
 use cell_answers::{Scores, cell_answer};
 use cell_tables::Noted;
-use split_lines::Lines;
+use split_lines::{Lines, Prepared};
 use std::alloc::{AllocError, Global};
 use std::marker::Model;
 use std::sync::Arc;
@@ -60,7 +59,8 @@ impl<'a> Model for CellNotes<'a> {
 
     ghost view = { λ notes. notes.noted };
 
-    ghost invariant = { λ notes. (shared notes.prepared ≡ notes.noted.problem) × (notes.scores.problem ≡ notes.noted.problem)
+    ghost invariant = { λ notes. (shared notes.prepared ≡ notes.noted.problem)
+        × (notes.scores.problem ≡ notes.noted.problem)
         × ((cell : OfRule) → IsNoted notes.noted cell → HasEntry notes.scores cell) };
 }
 

@@ -13,10 +13,10 @@ ghost use Rattle.cell_core.specs.FrameChanges.{standing, ChangesFrames, GainsWin
 ghost use Rattle.cell_core.specs.MachineViews.{IsNotedIn, IsFresh, next_loads};
 
 use crate::cell_notes::CellNotes;
-use crate::prepared::Prepared;
 use crate::work::{Turn, Work, fresh_work, make_step};
 use adp_model::{Memo, Problem, Steps};
 use random_orders::Orders;
+use split_lines::Prepared;
 use std::alloc::{AllocError, Global};
 use std::marker::Model;
 use std::sync::Arc;
@@ -44,7 +44,8 @@ impl<'a, M: Memo> Model for Machine<'a, M> {
         record { machine = state_of machine.problem.now machine.notes machine.work; orders = machine.orders } };
 
     ghost invariant = { λ machine. HasRoom machine.problem.now machine.work
-        × (machine.work.ended ≡ false → IsSome machine.notes × IsDemanded machine.problem.now (axiom_cell machine.problem.now))
+        × (machine.work.ended ≡ false
+        → IsSome machine.notes × IsDemanded machine.problem.now (axiom_cell machine.problem.now))
         × IfSome machine.notes (λ notes. notes.problem ≡ machine.problem.now) };
 }
 
@@ -104,7 +105,8 @@ impl<'a, M: Memo> Machine<'a, M> {
         ensures steps { steps_made steps.new
             ≡ (if self.old.machine.ended then steps_made steps.old else steps_made steps.old + 1) }
         ensures moves { self.new.machine.moves
-            ≡ (if self.old.machine.ended then self.old.machine.moves else min (self.old.machine.moves + 1) (2 ^ 64 - 1)) }
+            ≡ (if self.old.machine.ended then self.old.machine.moves
+            else min (self.old.machine.moves + 1) (2 ^ 64 - 1)) }
         ensures wins { GainsWins M.meaning pass.old pass.new self.old.machine.wins self.new.machine.wins }
         ensures frames { ChangesFrames M.meaning self.old.machine.problem pass.old pass.new
             (standing self.old.machine.frames self.old.machine.opened self.old.orders)

@@ -36,8 +36,8 @@ fn gone_on<N: NotedCells>(
     skipped(lines, problem, noted, visit, at)
 }
 
-/// The next argument of a visit whose cell isn't noted, with its cell; `None` where all are. Along a line of splits each
-/// place of its boundary costs two tests of notes. Takes no memory.
+/// The next argument of a visit whose cell isn't noted, with its cell; `None` where all are. Along a line of splits
+/// each place of its boundary costs two tests of notes. Takes no memory.
 pub fn seek<N: NotedCells>(
     lines: &Lines<'_>,
     problem: &Problem<'_>,

@@ -280,7 +280,8 @@ fn score_of(answer: Answer) -> Option<i64>
     }
 }
 
-/// Notes the score of the cell of the frame that was on top. The frame below it is on top then, or the machine has ended.
+/// Notes the score of the cell of the frame that was on top. The frame below it is on top then, or the machine has
+/// ended.
 fn close<N: Notes, P: Drop>(notes: &mut N, work: &mut Work<P>, cell: Cell, score: Option<i64>)
     requires taken { work.old.top ≡ None }
     requires demanded { IsDemanded (N.problem notes.old) cell }

@@ -52,6 +52,7 @@ impl Closed {
     ghost use Rattle.adp_model.specs.Demand.{IsDemandedCount};
     ghost use Rattle.memo_words.specs.Layout.{IsPlanned, records_of};
     ghost use Rattle.memo_words.specs.Kept.{filled};
+    ghost use Rattle.memo_words.specs.Passes.{rest_words};
     ghost use Rattle.memo_table.specs.AnswerWords.{HasAnswerWords};
     ghost use Rattle.memo_table.specs.ClosedTables.{IsSettled, IsAt, IsNowhere, AreWordsOf};
 
@@ -94,6 +95,13 @@ impl Closed {
         let score = code_score(self.rest.score(number));
         let choice = code_choice(self.rest.choice(number));
         answer_of(score, choice)
+    }
+
+    /// The last words. Takes no memory.
+    pub fn words(&self) -> &Rest
+        ensures { rest_words result.now ≡ self.now.words }
+    {
+        &self.rest
     }
 
     /// The number of published cells, which are the demanded ones. Takes no memory.

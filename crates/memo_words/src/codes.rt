@@ -108,5 +108,6 @@ pub fn code_choice(code: u64) -> Option<Choice>
 pub fn codes_tell_apart()
     ensures cells { (a b : Cell) → HasCellCode a → HasCellCode b → cell_code a ≡ cell_code b → a ≡ b }
     ensures scores { (a b : Option ℤ) → HasScoreCode a → HasScoreCode b → score_code a ≡ score_code b → a ≡ b }
-    ensures choices { (a b : Option Choice) → HasChoiceCode a → HasChoiceCode b → choice_code a ≡ choice_code b → a ≡ b }
+    ensures choices { (a b : Option Choice) → HasChoiceCode a → HasChoiceCode b → choice_code a ≡ choice_code b
+        → a ≡ b }
 {}

@@ -9,8 +9,8 @@ ghost use Rattle.memo_words.specs.Kept.{Kept};
 
 use adp_model::laws::demand::demanded_cells_are_within_the_cell_bound;
 
-/// Neither the positions nor the records can run out: there are at most as many keys as demanded cells, they fill at most
-/// half of the positions, and the counter is at most the demanded cells and the seats.
+/// Neither the positions nor the records can run out: there are at most as many keys as demanded cells, they fill at
+/// most half of the positions, and the counter is at most the demanded cells and the seats.
 pub fn table_has_room()
     ensures keys { (plan : Plan) (state : State ℕ View) (m : ℕ) → Kept plan state → IsDemandedCount plan.problem m
         → tally (λ position. min (key state.words position) 1) (slots_of plan) ≤ m }

@@ -3,7 +3,7 @@ ghost use Rattle.std.specs.Mem.Slots.{slots_len, IsFull};
 ghost use Rattle.memo_words.specs.Layout.{word_count};
 
 use crate::part::Part;
-use crate::places::{arena_place, key_place, record_place};
+use crate::places::{COUNTER, arena_place, key_place, record_place};
 use atomic_table::Closed;
 use std::alloc::Global;
 
@@ -22,7 +22,7 @@ pub struct Rest {
 impl Rest {
     ghost use Rattle.std.specs.Prelude.{◌≡◌, ◌<◌};
     ghost use Rattle.memo_words.specs.declared.part.Part.TheVariants.{Score, Choice};
-    ghost use Rattle.memo_words.specs.Layout.{key, record_word, arena_word};
+    ghost use Rattle.memo_words.specs.Layout.{counter, key, record_word, arena_word};
     ghost use Rattle.memo_words.specs.Passes.{rest_slots, rest_records, rest_words};
 
     /// The number of positions.
@@ -37,6 +37,13 @@ impl Rest {
         ensures { result ≡ rest_records self.now }
     {
         self.records
+    }
+
+    /// The counter: how many records were reserved.
+    pub fn counter(&self) -> u64
+        ensures { result ≡ counter (rest_words self.now) }
+    {
+        self.closed.word(COUNTER)
     }
 
     /// The key word of a position.
@@ -67,7 +74,8 @@ impl Rest {
     /// The choice word of a record.
     pub fn choice(&self, number: u32) -> u64
         requires { number < rest_records self.now }
-        ensures { result ≡ arena_word (rest_slots self.now) (rest_records self.now) (rest_words self.now) Choice number }
+        ensures { result
+            ≡ arena_word (rest_slots self.now) (rest_records self.now) (rest_words self.now) Choice number }
     {
         self.closed.word(arena_place(self.slots, self.records, Part::Choice, number))
     }

@@ -152,8 +152,8 @@ impl Words {
         found
     }
 
-    /// Adds 1 to the counter and answers the number found, which is that of a record. The pass owns it from then on, has
-    /// stored nothing in it yet, and has it in hand.
+    /// Adds 1 to the counter and answers the number found, which is that of a record. The pass owns it from then on,
+    /// has stored nothing in it yet, and has it in hand.
     pub fn counter_add_step<L: Ledger>(&self, pass: &mut Pass, steps: &mut Steps<L>) -> u64
         requires own { IsPassOf self.now pass.old }
         requires empty_handed { hand_of pass.old ≡ None }
