@@ -1,0 +1,5 @@
+pub mod Pacing
+pub mod Listed
+pub mod Teams
+pub mod Joining
+pub mod Finishing

@@ -1,0 +1,30 @@
+use Rattle.std.proofs.Common.{◌≡◌, length, sum, sym, ap, ◌∙◌, subst, arith}
+use Rattle.adp_model.specs.PosedProblem.{PosedProblem}
+use Rattle.adp_model.specs.Demand.{IsDemandedCount}
+use Rattle.memo_words.specs.Layout.{Plan}
+use Rattle.memo_words.specs.Passes.{plan_of, problem_of}
+use Rattle.evaluators.specs.Runs.{AreMachinesFrom}
+use Rattle.evaluators.proofs.Finishing.{first_ended}
+use Rattle.evaluators.proofs.crew.finish.Goals as goal
+
+pub returns-clause-finished : goal.returns-clause-finished
+returns-clause-finished c =
+    let joined = c.requires.joined in
+    let p = c.args.problem.now in
+    let counted = c.demanded_cells_are_listed.ensures.count p c.admissible.ensures in
+    let there : IsDemandedCount (problem_of c.args.table) counted.0 =
+    subst (λ (q : PosedProblem). IsDemandedCount q counted.0) (sym c.requires.same) counted.1 in
+    let won : counted.0 ≡ sum c.args.left.wins.items =
+    sym (c.close-closed.ensures.wins counted.0 there) ∙ joined.wins in
+    record {
+      closed = ap (λ (plan : Plan). plan.problem) c.close-closed.ensures.plan ∙ c.requires.same;
+      answer = c.axiom_answer-answer.ensures;
+      machines = subst (λ (q : PosedProblem). AreMachinesFrom q c.args.seed 0 c.args.left.machines.items)
+          c.requires.same joined.machines;
+      first = first_ended c.args.left.machines.items joined.ended
+          (let number : length c.args.left.machines.items ≡ (plan_of c.args.table).seats =
+          sym c.args.left.machines.ok.0 ∙ joined.number in
+          omega (arith, number, c.requires.some));
+      wins_are = joined.wins_are;
+      wins_sum = subst (IsDemandedCount p) won counted.1;
+    }

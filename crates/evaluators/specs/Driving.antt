@@ -1,0 +1,23 @@
+-- How a machine goes on from step to step.
+use Rattle.std.specs.Prelude.{◌≡◌, ℕ, ◌*◌, ◌≤◌, List, length}
+use Rattle.rand_pcg.specs.Lcg.{Lcg}
+use Rattle.random_orders.specs.Draws.{after_draws}
+use Rattle.adp_model.specs.Demand.{IsDemandedCount}
+use Rattle.adp_model.specs.SplitArguments.{SplitArgument, AreRuleArguments}
+use Rattle.adp_model.specs.Memos.{Meaning}
+use Rattle.adp_model.specs.Machines.{MachineState}
+use Rattle.adp_model.specs.StepBound.{step_bound, remaining_bound}
+use Rattle.cell_core.specs.MachineViews.{MachineView}
+
+-- the machine has at most the steps of a fresh one left
+abbrev pub HasStepsOfFresh : {Notes Pass Probe : Type 0} → Meaning Pass Probe → MachineState Notes Probe → Pass → Type 0
+HasStepsOfFresh memo machine pass =
+    (m : ℕ) (arguments : List SplitArgument) → IsDemandedCount machine.problem m
+    → AreRuleArguments machine.problem arguments
+    → remaining_bound memo m arguments machine pass ≤ step_bound m (length arguments)
+
+-- the machine drew its orders in step with the frames that it opened: four draws for each
+abbrev pub KeepsPace : {Probe : Type 0} → MachineView Probe → MachineView Probe → Type 0
+KeepsPace before after =
+    (first : Lcg) → before.orders ≡ after_draws (4 * before.machine.opened) first
+    → after.orders ≡ after_draws (4 * after.machine.opened) first

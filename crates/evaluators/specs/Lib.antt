@@ -1,0 +1,5 @@
+pub mod Posts
+pub mod Driving
+pub mod Working
+pub mod Runs
+pub mod Joined

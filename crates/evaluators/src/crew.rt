@@ -1,0 +1,195 @@
+//! The workers of a problem: made, run, and brought together again.
+
+ghost use Rattle.std.specs.Prelude.{◌≡◌, ◌<◌, ◌≤◌, ℕ, IfOk, All, map, true, vec_len, slice_index_or};
+ghost use Rattle.std.specs.Arc.{arc_value};
+ghost use Rattle.adp_model.specs.Machines.{IsMachine};
+ghost use Rattle.adp_model.specs.ProblemFields.{IsAdmissible};
+ghost use Rattle.cell_core.specs.MachineViews.{IsFresh, IsNotedIn};
+ghost use Rattle.memo_table.specs.Meanings.{table_meaning};
+ghost use Rattle.memo_words.specs.declared.pass.Pass.{Pass as AnyPass};
+ghost use Rattle.memo_words.specs.Passes.{IsPassOf, view_of, problem_of, plan_of};
+ghost use Rattle.memo_words.specs.Views.{first_view};
+ghost use Rattle.evaluators.specs.Posts.{posts_of};
+ghost use Rattle.evaluators.specs.Driving.{HasStepsOfFresh};
+ghost use Rattle.evaluators.specs.Working.{IsReady, IsDone, first_orders, post_of};
+ghost use Rattle.evaluators.specs.Joined.{IsJoined};
+ghost use Rattle.evaluators.specs.Runs.{IsFinished, HaveAllEnded};
+
+use crate::finished::Finished;
+use crate::gate::Gate;
+use crate::gated::GatedWorker;
+use crate::halves::run_all;
+use crate::worker::{TableWorker, Worker};
+use adp_model::laws::existence::demanded_cells_are_listed;
+use adp_model::{Problem, axiom_answer};
+use cell_core::{Machine, Prepared};
+use memo_table::{Pass, Table};
+use random_orders::Orders;
+use std::alloc::{AllocError, Global};
+use std::sync::Arc;
+use std::thread::Threads;
+
+/// Solves the problem by so many evaluators, 1 to 32, which share one table. Each visits in an order of its own, drawn
+/// by the seed and its number, and the gate is passed by a worker before each load of a record word. No worker waits
+/// for another.
+///
+/// # Errors
+///
+/// Where there is no memory.
+pub fn run_workers<'a, R: Threads + Sync, G: Gate>(
+    rt: &R,
+    alloc: Global,
+    problem: &'a Problem<'a>,
+    workers: u32,
+    seed: u64,
+    gate: &G,
+) -> Result<Finished<'a>, AllocError>
+    requires { (1 ≤ workers) × (workers ≤ 32) }
+    ensures finished { IfOk result (IsFinished problem.now seed) }
+    ensures machines { IfOk result (λ finished. vec_len finished.machines ≡ workers) }
+    ensures ended { IfOk result HaveAllEnded }
+{
+    let prepared = Arc::new(alloc, Prepared::new(alloc, problem)?)?;
+    let (table, pass) = Table::new(alloc, problem, workers)?;
+    let mut crew = team(alloc, &table, &prepared, gate, pass, workers, seed)?;
+    run_all(rt, &table, crew.as_mut_slice());
+    let left = join_all(alloc, &table, seed, workers, crew)?;
+    Ok(finish(table, problem, seed, left))
+}
+
+/// As many workers as the table has seats, each with a machine and a pass of its own.
+fn team<'a, 'g, G: Gate>(
+    alloc: Global,
+    table: &Table,
+    prepared: &Arc<Prepared<'a>, Global>,
+    gate: &'g G,
+    mut pass: Pass,
+    count: u32,
+    seed: u64,
+) -> Result<Vec<GatedWorker<'g, TableWorker<'a>, G>>, AllocError>
+    requires same { problem_of table.now ≡ arc_value prepared.now }
+    requires admissible { IsAdmissible (arc_value prepared.now) }
+    requires own { IsPassOf table.now pass }
+    requires first { view_of pass ≡ first_view (plan_of table.now) }
+    requires seats { (plan_of table.now).seats ≡ count }
+    requires some { 1 ≤ count }
+    ensures ready { IfOk result (λ team. All (λ gated. IsReady table.now gated.worker) team.items) }
+    ensures posts { IfOk result (λ team. map (λ gated. post_of gated.worker) team.items
+        ≡ posts_of (arc_value prepared.now) seed count) }
+{
+    let mut team = Vec::new(alloc);
+    for number in 0..count - 1 {
+        let other = table.split(&mut pass);
+        let worker = worker(alloc, prepared, other, number, seed)?;
+        team.push(GatedWorker { worker, gate })?;
+    }
+    let worker = worker(alloc, prepared, pass, count - 1, seed)?;
+    team.push(GatedWorker { worker, gate })?;
+    Ok(team)
+}
+
+/// A worker with a fresh machine.
+fn worker<'a>(
+    alloc: Global,
+    prepared: &Arc<Prepared<'a>, Global>,
+    pass: Pass,
+    number: u32,
+    seed: u64,
+) -> Result<TableWorker<'a>, AllocError>
+    ensures fresh { IfOk result (λ worker. IsFresh (arc_value prepared.now) (first_orders seed number) worker.machine) }
+    ensures machine { IfOk result (λ worker. (other : AnyPass)
+        → IsMachine table_meaning IsNotedIn worker.machine.machine other) }
+    ensures bound { IfOk result (λ worker. (other : AnyPass)
+        → HasStepsOfFresh table_meaning worker.machine.machine other) }
+    ensures pass { IfOk result (λ worker. worker.pass ≡ pass) }
+    ensures number { IfOk result (λ worker. worker.number ≡ number) }
+    ensures seed { IfOk result (λ worker. worker.seed ≡ seed) }
+{
+    let machine = Machine::on(alloc, prepared, Orders::new(seed, number))?;
+    Ok(Worker {
+        machine,
+        pass,
+        number,
+        seed,
+    })
+}
+
+/// What workers leave: one pass that knows what each of them knew, and their machines with their wins, in order.
+#[derive(Drop)]
+pub(crate) struct Leavings<'a> {
+    pub(crate) pass: Pass,
+    pub(crate) machines: Vec<Machine<'a, Table>>,
+    pub(crate) wins: Vec<u64>,
+}
+
+/// Joins all passes, and keeps the machines in order.
+fn join_all<'a, G: Gate>(
+    alloc: Global,
+    table: &Table,
+    seed: u64,
+    count: u32,
+    mut workers: Vec<GatedWorker<'_, TableWorker<'a>, G>>,
+) -> Result<Leavings<'a>, AllocError>
+    requires done { All (λ gated. IsDone table.now gated.worker) workers.items }
+    requires posts { map (λ gated. post_of gated.worker) workers.items ≡ posts_of (problem_of table.now) seed count }
+    requires some { 1 ≤ count }
+    ensures { IfOk result (IsJoined table.now seed count) }
+{
+    let Some(last) = workers.pop() else {
+        unreachable!()
+    };
+    let Worker {
+        machine,
+        mut pass,
+        number: _,
+        seed: _,
+    } = last.worker;
+    let mut wins = Vec::new(alloc);
+    let mut machines = Vec::new(alloc);
+    wins.push(machine.wins())?;
+    machines.push(machine)?;
+    while let Some(gated) = workers.pop() {
+        let Worker {
+            machine,
+            pass: other,
+            number: _,
+            seed: _,
+        } = gated.worker;
+        table.join(&mut pass, other);
+        wins.push(machine.wins())?;
+        machines.push(machine)?;
+    }
+    wins.reverse();
+    machines.reverse();
+    Ok(Leavings {
+        pass,
+        machines,
+        wins,
+    })
+}
+
+/// Closes the table, from which the answers are read then.
+fn finish<'a>(table: Table, problem: &'a Problem<'a>, seed: u64, left: Leavings<'a>) -> Finished<'a>
+    requires same { problem_of table ≡ problem.now }
+    requires joined { IsJoined table seed (plan_of table).seats left }
+    requires some { 1 ≤ (plan_of table).seats }
+    ensures finished { IsFinished problem.now seed result }
+    ensures machines { vec_len result.machines ≡ (plan_of table).seats }
+    ensures ended { HaveAllEnded result }
+{
+    problem.admissible();
+    demanded_cells_are_listed();
+    let Leavings {
+        pass,
+        machines,
+        wins,
+    } = left;
+    let closed = table.close(pass);
+    let answer = axiom_answer(problem, &closed);
+    Finished {
+        closed,
+        machines,
+        wins,
+        answer,
+    }
+}

@@ -1,0 +1,89 @@
+//! A machine that is stepped until it has ended.
+
+ghost use Rattle.std.specs.Prelude.{◌≡◌, ◌<◌, ℕ, true, length};
+ghost use Rattle.adp_model.specs.ProblemFields.{IsAdmissible};
+ghost use Rattle.adp_model.specs.Machines.{IsMachine};
+ghost use Rattle.cell_core.specs.MachineViews.{IsNotedIn};
+ghost use Rattle.evaluators.specs.Driving.{HasStepsOfFresh, KeepsPace};
+
+use adp_model::laws::existence::{
+    demanded_cells_are_listed, rule_arguments_are_few, rule_arguments_are_listed,
+};
+use adp_model::{Memo, Steps};
+use cell_core::Machine;
+use random_orders::draws_advance_the_generator;
+use std::marker::Brand;
+use std::sync::ledger::{Blank, Ledger};
+
+/// What a worker passes before each step that loads a record word.
+pub(crate) trait Door {
+    fn pass(&self, worker: u32);
+}
+
+/// Steps a machine of worker `number` until it has ended. The door is passed before each step that loads a record word.
+pub(crate) fn drive<M: Memo, D: Door>(
+    memo: &M,
+    door: &D,
+    number: u32,
+    machine: &mut Machine<'_, M>,
+    pass: &mut M::Pass,
+)
+    requires memo { M.problem memo.now ≡ machine.old.machine.problem }
+    requires admissible { IsAdmissible machine.old.machine.problem }
+    requires own { M.is_of memo.now pass.old }
+    requires machine { IsMachine M.meaning IsNotedIn machine.old.machine pass.old }
+    requires bound { HasStepsOfFresh M.meaning machine.old.machine pass.old }
+    ensures own { M.is_of memo.now pass.new }
+    ensures share { M.meaning.share pass.new ≡ M.meaning.share pass.old }
+    ensures problem { machine.new.machine.problem ≡ machine.old.machine.problem }
+    ensures machine { IsMachine M.meaning IsNotedIn machine.new.machine pass.new }
+    ensures pace { KeepsPace machine.old machine.new }
+    ensures wins { M.meaning.wins pass.old ≡ machine.old.machine.wins
+        → M.meaning.wins pass.new ≡ machine.new.machine.wins }
+    ensures ended { machine.new.machine.ended ≡ true }
+{
+    drive_counted::<M, Brand, D>(memo, door, number, Blank::new(1), machine, pass);
+}
+
+/// The same, with a counter of steps that is opened for it.
+fn drive_counted<M: Memo, L: Ledger, D: Door>(
+    memo: &M,
+    door: &D,
+    number: u32,
+    blank: Blank,
+    machine: &mut Machine<'_, M>,
+    pass: &mut M::Pass,
+)
+    requires name { blank.name ≡ L.name }
+    requires parts { (blank.parts ≡ L.parts) × (0 < blank.parts) }
+    requires memo { M.problem memo.now ≡ machine.old.machine.problem }
+    requires admissible { IsAdmissible machine.old.machine.problem }
+    requires own { M.is_of memo.now pass.old }
+    requires machine { IsMachine M.meaning IsNotedIn machine.old.machine pass.old }
+    requires bound { HasStepsOfFresh M.meaning machine.old.machine pass.old }
+    ensures own { M.is_of memo.now pass.new }
+    ensures share { M.meaning.share pass.new ≡ M.meaning.share pass.old }
+    ensures problem { machine.new.machine.problem ≡ machine.old.machine.problem }
+    ensures machine { IsMachine M.meaning IsNotedIn machine.new.machine pass.new }
+    ensures pace { KeepsPace machine.old machine.new }
+    ensures wins { M.meaning.wins pass.old ≡ machine.old.machine.wins
+        → M.meaning.wins pass.new ≡ machine.new.machine.wins }
+    ensures ended { machine.new.machine.ended ≡ true }
+{
+    demanded_cells_are_listed();
+    rule_arguments_are_listed();
+    rule_arguments_are_few();
+    draws_advance_the_generator();
+    let mut steps = Steps::<L>::open(blank);
+    // A machine makes fewer steps than this.
+    'steps: for _ in 0..u128::MAX {
+        if machine.ended() {
+            return;
+        }
+        if machine.loads_record_word(memo) {
+            door.pass(number);
+        }
+        let _ = machine.step(memo, pass, &mut steps);
+    }
+    unreachable!()
+}

@@ -1,0 +1,14 @@
+//! Evaluators: machines that share one table of answers, side by side on threads where there are any.
+#![tactic(auto)]
+
+mod crew;
+mod driving;
+mod finished;
+mod gate;
+mod gated;
+mod halves;
+mod worker;
+
+pub use crew::run_workers;
+pub use finished::{Finished, RunNote};
+pub use gate::{Gate, LogGate, OpenGate};
