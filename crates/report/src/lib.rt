@@ -1,11 +1,16 @@
 //! What a run writes: the report of a word, or the line of a fault.
 #![tactic(auto)]
 
+mod big_lines;
 mod fault;
 mod line;
+mod number_line;
 mod tree_lines;
+mod wins_line;
 mod word_lines;
 
+pub use big_lines::big_report;
 pub use fault::{Fault, fault_line};
 pub use line::Line;
+pub use wins_line::push_wins;
 pub use word_lines::{Outcome, word_report};

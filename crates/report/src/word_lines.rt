@@ -1,14 +1,14 @@
 ghost use Rattle.std.specs.Prelude.{◌≡◌, ◌++◌, List, ℕ, IfOk, OnOk};
-ghost use Rattle.std.specs.Fmt.{decimal};
 ghost use Rattle.adp_model.specs.PosedProblem.{axiom_cell};
 ghost use Rattle.adp_model.specs.Answers.{IsAnswer};
 ghost use Rattle.adp_model.specs.Demand.{IsDemandedCount};
-ghost use Rattle.adp_model.specs.Report.{IsAnswerText, IsReport, line};
+ghost use Rattle.adp_model.specs.Report.{IsAnswerText, IsReport};
 ghost use Rattle.traceback.specs.Preorder.{IsPreorder};
 
+use crate::number_line::push_number_line;
 use crate::tree_lines::push_tree;
 use adp_model::laws::order::preferred_tree_is_unique;
-use adp_model::{Answer, Problem, push_decimal, push_signed};
+use adp_model::{Answer, Problem, push_signed};
 use std::alloc::{AllocError, Global};
 use traceback::NodeAt;
 
@@ -43,16 +43,6 @@ pub fn word_report(
     push_answer_lines(alloc, &mut out, problem, outcome)?;
     push_number_line(&mut out, b"cells ", outcome.cells)?;
     Ok(out)
-}
-
-// Appends a line with a word and a number.
-fn push_number_line(out: &mut Vec<u8>, word: &[u8], number: u64) -> Result<(), AllocError>
-    ensures { OnOk result (out.new.items ≡ out.old.items ++ line (word.now ++ decimal number)) }
-{
-    out.extend_from_slice(word)?;
-    push_decimal(out, number)?;
-    out.push(b'\n')?;
-    Ok(())
 }
 
 // Appends the lines of the score and the tree, or the line of a word without a candidate.

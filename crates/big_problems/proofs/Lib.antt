@@ -1,0 +1,7 @@
+pub mod MadeLetters
+pub mod MadeTrees
+pub mod PairBounds
+pub mod PairCells
+pub mod PairWays
+pub mod PairsChecked
+pub mod PairsSpelled
