@@ -1,7 +1,7 @@
 -- The name of the algebra that a command asks for: where it stands among the words, and that it is a name.
 use Rattle.std.proofs.Common.{◌≡◌, ℕ, ◌+◌, ◌<◌, suc, IsTrue, List, [], ◌∷◌, length, map, get_or, Some, sym, ap, ◌∙◌, subst, arith}
 use Rattle.std.proofs.lemmas.List.{length-map, get_or-map}
-use Rattle.adp_model.specs.Command.{Setting, Algebra, Workers, Seed, AreSettings, IsCommand, algebra_set, mode_word}
+use Rattle.adp_model.specs.Command.{Setting, Algebra, AreSettings, IsCommand, algebra_set, mode_word}
 use Rattle.adp_model.specs.Command as asked
 use Rattle.adp_model.specs.WellFormed.{is_name}
 
@@ -24,9 +24,7 @@ algebra_place place (option ∷ value ∷ words) [] number set e = absurd set
 algebra_place place (option ∷ value ∷ words) (Algebra named ∷ ss) number set e =
     let same : named ≡ number = cc in
     record { at = 1; is = sym same ∙ set.1.1; within = omega arith; name = set.1.0 }
-algebra_place place (option ∷ value ∷ words) (Workers workers ∷ ss) number set e =
-    further place option value words number (algebra_place (place + 2) words ss number set.2 e)
-algebra_place place (option ∷ value ∷ words) (Seed seed ∷ ss) number set e =
+algebra_place place (option ∷ value ∷ words) (setting ∷ ss) number set e =
     further place option value words number (algebra_place (place + 2) words ss number set.2 e)
 
 -- the place that a command names has a name

@@ -1,5 +1,5 @@
 -- A job that was read, and its grammar, which was checked or refused.
-use Rattle.std.proofs.Common.{◌≡◌, ℕ, ◌<◌, ◌≤◌, List, length, IsTrue, Result, Ok, Err, sym, subst}
+use Rattle.std.proofs.Common.{◌≡◌, ℕ, ◌<◌, ◌≤◌, List, length, IsTrue, Result, Ok, Err, refl, sym, subst}
 use Rattle.adp_model.specs.declared.fault.GrammarFault.{GrammarFault}
 use Rattle.adp_model.specs.declared.grammar.Grammar.{Grammar}
 use Rattle.adp_model.specs.declared.job.Job.{Job}
@@ -24,10 +24,10 @@ is_text bytes job given read is = subst (MatchReading bytes) is read
 -- the job's grammar has no fault under the algebra of the name
 pub is_checked : (words : List (List ℕ)) (bytes : List ℕ) (command : asked.Command) (job : Job) (name : List ℕ) (given : Result CheckedGrammar CheckError) (checked : CheckedGrammar)
     → AsksFor words bytes command job → name ≡ asked_name words command job.grammar → MatchCheck job.grammar name given → given ≡ Ok checked
-    → AsksUnder words bytes job checked.algebra × (checked.grammar ≡ job.grammar)
+    → (asks : AsksUnder words bytes job checked.algebra) × (asks.command ≡ command) × (checked.grammar ≡ job.grammar)
 is_checked words bytes command job name given checked asks named found is =
     let passed : MatchCheck job.grammar (asked_name words command job.grammar) (Ok checked) = subst (λ n. MatchCheck job.grammar n (Ok checked)) named (subst (MatchCheck job.grammar name) is found) in
-    (record { command = command; asks = asks; faultless = passed.1 }, passed.0)
+    (record { command = command; asks = asks; faultless = passed.1 }, refl, passed.0)
 
 -- each name is short, and rules and signs have names
 pub record AreNamed (grammar : Grammar) : Type 0 where

@@ -2,7 +2,11 @@ mod Told
 mod Turned
 mod CheckedJobs
 mod Endings
+pub mod Made
+pub mod MadeWords
 mod Options
+pub mod Noting
+pub mod Running
 pub mod Written
 pub mod FirstLimit
 pub mod Reported

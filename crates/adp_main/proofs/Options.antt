@@ -1,27 +1,24 @@
 -- Options of a command line: read one by one from the last, each at most once.
-use Rattle.std.proofs.Common.{◌≡◌, ℕ, ◌+◌, ◌-◌, ◌/◌, ◌%◌, ◌<◌, ◌≤◌, suc, zero, Bool, true, false, IsTrue, not, ◌&&◌, List, [], ◌∷◌, length, drop, map, get_or, Option, Some, None, unwrap_or, Result, Ok, Err, IfOk, OnErr, refl, sym, ap, ◌∙◌, subst, arith, codes, nat_eq}
-use Rattle.std.specs.List.{list_any}
+use Rattle.std.proofs.Common.{◌≡◌, ℕ, ◌+◌, ◌-◌, ◌/◌, ◌%◌, ◌<◌, ◌≤◌, ◌⊎◌, inl, inr, suc, zero, Bool, true, false, IsTrue, IsNone, IsSome, not, nat_eq, ◌&&◌, List, [], ◌∷◌, length, drop, map, get_or, slice_index_or, Option, Some, None, unwrap_or, Result, Ok, Err, IfOk, OnErr, refl, sym, ap, ◌∙◌, subst, arith}
+use Rattle.std.specs.List.{All, list_any}
+use Rattle.std.proofs.lemmas.List.Elements.{All-nil, All-cons, All-head, All-tail}
 use lib.Pointwise.{pointwise}
-use Rattle.adp_model.specs.Command.{Setting, Algebra, Workers, Seed, AreSettings, AreSetOnce, IsValue, IsCommand, HasCommand, algebra_set, workers_set, seed_set, size_set, mode_word, option_word}
+use Rattle.adp_model.specs.Command.{Setting, Algebra, Workers, Seed, Size, Allows, AreSettings, AreSetOnce, IsValue, IsCommand, HasCommand, algebra_set, workers_set, seed_set, size_set, mode_word, option_word}
 use Rattle.adp_model.specs.Command as asked
 use Rattle.adp_main.specs.declared.words.Settings.{Settings}
 use Rattle.adp_main.specs.declared.words.Mode.{Mode}
-use Rattle.adp_main.specs.Commands.{Adds, AddsWorkers, AddsSeed, IsCommandOf, mode_of}
+use Rattle.adp_main.specs.declared.words.Mode.TheVariants.{Big}
+use Rattle.adp_main.specs.Commands.{Adds, AddsWorkers, AddsSeed, AddsSize, IsCommandOf, Suits, mode_of}
 
 -- ---- one option
 
--- the words of the options differ at their third letter
-algebra≢workers : codes "--algebra" ≡ codes "--workers" → ⊥
-algebra≢workers e = omega (arith, ap (λ (w : List ℕ). get_or w 2 0) e)
-
-algebra≢seed : codes "--algebra" ≡ codes "--seed" → ⊥
-algebra≢seed e = omega (arith, ap (λ (w : List ℕ). get_or w 2 0) e)
-
-workers≢seed : codes "--workers" ≡ codes "--seed" → ⊥
-workers≢seed e = omega (arith, ap (λ (w : List ℕ). get_or w 2 0) e)
+-- the words of two options differ at their fourth letter
+abbrev fourth_letter : List ℕ → ℕ
+fourth_letter word = get_or word 3 0
 
 -- what is read of the option's value is what is added
-pub added_if : {E A : Type 0} (result : Result A E) (P Q : A → Type 0) → ((after : A) → P after → Q after) → IfOk result P → IfOk result Q
+pub added_if : {E A : Type 0} (result : Result A E) (P Q : A → Type 0) → ((after : A) → P after → Q after)
+    → IfOk result P → IfOk result Q
 added_if (Ok after) P Q then holds = then after holds
 added_if (Err e) P Q then holds = tt
 
@@ -29,31 +26,46 @@ pub refused_if : {E A : Type 0} (result : Result A E) (P Q : Type 0) → (P → 
 refused_if (Ok after) P Q then holds = tt
 refused_if (Err e) P Q then holds = then holds
 
-pub not_workers : (before : Settings) (option value : List ℕ) (place : ℕ) → option ≡ codes "--workers"
-    → ((workers : ℕ) (after : Settings) → AddsWorkers before value workers after → ⊥) → (setting : Setting) (after : Settings) → Adds before option value place setting after → ⊥
-not_workers before option value place is refuses (Algebra named) after adds = algebra≢workers (sym adds.0 ∙ is)
-not_workers before option value place is refuses (Workers workers) after adds = refuses workers after adds.1
-not_workers before option value place is refuses (Seed seed) after adds = workers≢seed (sym is ∙ adds.0)
+-- no setting of this option and this value can be added
+abbrev Refuses : Settings → List ℕ → List ℕ → ℕ → Type 0
+Refuses before option value place =
+    (setting : Setting) (after : Settings) → Adds before option value place setting after → ⊥
 
-pub not_seed : (before : Settings) (option value : List ℕ) (place : ℕ) → option ≡ codes "--seed"
-    → ((seed : ℕ) (after : Settings) → AddsSeed before value seed after → ⊥) → (setting : Setting) (after : Settings) → Adds before option value place setting after → ⊥
-not_seed before option value place is refuses (Algebra named) after adds = algebra≢seed (sym adds.0 ∙ is)
-not_seed before option value place is refuses (Workers workers) after adds = workers≢seed (sym adds.0 ∙ is)
-not_seed before option value place is refuses (Seed seed) after adds = refuses seed after adds.1
+module _ (before : Settings) (option value : List ℕ) (place : ℕ) where
+  pub not_workers : option ≡ option_word (Workers 0)
+      → ((workers : ℕ) (after : Settings) → AddsWorkers before value workers after → ⊥)
+      → Refuses before option value place
+  not_workers is refuses (Workers workers) after adds = refuses workers after adds.1
+  not_workers is refuses setting after adds = omega (arith, ap fourth_letter (sym is ∙ adds.0))
+
+  pub not_seed : option ≡ option_word (Seed 0)
+      → ((seed : ℕ) (after : Settings) → AddsSeed before value seed after → ⊥)
+      → Refuses before option value place
+  not_seed is refuses (Seed seed) after adds = refuses seed after adds.1
+  not_seed is refuses setting after adds = omega (arith, ap fourth_letter (sym is ∙ adds.0))
+
+  pub not_size : option ≡ option_word (Size 0)
+      → ((size : ℕ) (after : Settings) → AddsSize before value size after → ⊥)
+      → Refuses before option value place
+  not_size is refuses (Size size) after adds = refuses size after adds.1
+  not_size is refuses setting after adds = omega (arith, ap fourth_letter (sym is ∙ adds.0))
 
 -- ---- the options from a place on
 
 abbrev workers_found : List Setting → Option ℕ
 workers_found [] = None
 workers_found (Workers workers ∷ settings) = Some workers
-workers_found (Algebra place ∷ settings) = workers_found settings
-workers_found (Seed seed ∷ settings) = workers_found settings
+workers_found (setting ∷ settings) = workers_found settings
 
 abbrev seed_found : List Setting → Option ℕ
 seed_found [] = None
 seed_found (Seed seed ∷ settings) = Some seed
-seed_found (Algebra place ∷ settings) = seed_found settings
-seed_found (Workers workers ∷ settings) = seed_found settings
+seed_found (setting ∷ settings) = seed_found settings
+
+abbrev size_found : List Setting → Option ℕ
+size_found [] = None
+size_found (Size size ∷ settings) = Some size
+size_found (setting ∷ settings) = size_found settings
 
 -- the words from this place on are settings, none of them twice, and this is what they set
 pub record AreRead (place : ℕ) (words : List (List ℕ)) (state : Settings) : Type 0 where
@@ -63,65 +75,71 @@ pub record AreRead (place : ℕ) (words : List (List ℕ)) (state : Settings) : 
   pub algebra : state.algebra ≡ algebra_set settings
   pub workers : state.workers ≡ workers_found settings
   pub seed : state.seed ≡ seed_found settings
+  pub size : state.size ≡ size_found settings
 
 workers_is : (settings : List Setting) → unwrap_or (workers_found settings) 1 ≡ workers_set settings
 workers_is [] = refl
 workers_is (Workers workers ∷ settings) = refl
-workers_is (Algebra place ∷ settings) = workers_is settings
-workers_is (Seed seed ∷ settings) = workers_is settings
+workers_is (setting ∷ settings) = workers_is settings
 
 seed_is : (settings : List Setting) → unwrap_or (seed_found settings) 0 ≡ seed_set settings
 seed_is [] = refl
 seed_is (Seed seed ∷ settings) = refl
-seed_is (Algebra place ∷ settings) = seed_is settings
-seed_is (Workers workers ∷ settings) = seed_is settings
+seed_is (setting ∷ settings) = seed_is settings
 
-size_is : (settings : List Setting) → 0 ≡ size_set settings
+size_is : (settings : List Setting) → unwrap_or (size_found settings) 0 ≡ size_set settings
 size_is [] = refl
+size_is (Size size ∷ settings) = refl
 size_is (setting ∷ settings) = size_is settings
 
 -- an option without a value is not set
 abbrev occurs : Setting → List Setting → Bool
 occurs setting settings = list_any (pointwise nat_eq (option_word setting)) (map option_word settings)
 
-no_algebra : (settings : List Setting) (place : ℕ) → algebra_set settings ≡ None → occurs (Algebra place) settings ≡ false
-no_algebra [] place e = refl
-no_algebra (Algebra named ∷ settings) place e = cc
-no_algebra (Workers workers ∷ settings) place e = no_algebra settings place e
-no_algebra (Seed seed ∷ settings) place e = no_algebra settings place e
+module _ (number : ℕ) where
+  no_algebra : (settings : List Setting) → algebra_set settings ≡ None → occurs (Algebra number) settings ≡ false
+  no_algebra [] e = refl
+  no_algebra (Algebra other ∷ settings) e = cc
+  no_algebra (setting ∷ settings) e = no_algebra settings e
 
-no_workers : (settings : List Setting) (workers : ℕ) → workers_found settings ≡ None → occurs (Workers workers) settings ≡ false
-no_workers [] workers e = refl
-no_workers (Algebra named ∷ settings) workers e = no_workers settings workers e
-no_workers (Workers other ∷ settings) workers e = cc
-no_workers (Seed seed ∷ settings) workers e = no_workers settings workers e
+  no_workers : (settings : List Setting) → workers_found settings ≡ None → occurs (Workers number) settings ≡ false
+  no_workers [] e = refl
+  no_workers (Workers other ∷ settings) e = cc
+  no_workers (setting ∷ settings) e = no_workers settings e
 
-no_seed : (settings : List Setting) (seed : ℕ) → seed_found settings ≡ None → occurs (Seed seed) settings ≡ false
-no_seed [] seed e = refl
-no_seed (Algebra named ∷ settings) seed e = no_seed settings seed e
-no_seed (Workers workers ∷ settings) seed e = no_seed settings seed e
-no_seed (Seed other ∷ settings) seed e = cc
+  no_seed : (settings : List Setting) → seed_found settings ≡ None → occurs (Seed number) settings ≡ false
+  no_seed [] e = refl
+  no_seed (Seed other ∷ settings) e = cc
+  no_seed (setting ∷ settings) e = no_seed settings e
 
-free_algebra : (settings : List Setting) (place : ℕ) → occurs (Algebra place) settings ≡ false → algebra_set settings ≡ None
-free_algebra [] place e = refl
-free_algebra (Algebra named ∷ settings) place e = cc
-free_algebra (Workers workers ∷ settings) place e = free_algebra settings place e
-free_algebra (Seed seed ∷ settings) place e = free_algebra settings place e
+  no_size : (settings : List Setting) → size_found settings ≡ None → occurs (Size number) settings ≡ false
+  no_size [] e = refl
+  no_size (Size other ∷ settings) e = cc
+  no_size (setting ∷ settings) e = no_size settings e
 
-free_workers : (settings : List Setting) (workers : ℕ) → occurs (Workers workers) settings ≡ false → workers_found settings ≡ None
-free_workers [] workers e = refl
-free_workers (Algebra named ∷ settings) workers e = free_workers settings workers e
-free_workers (Workers other ∷ settings) workers e = cc
-free_workers (Seed seed ∷ settings) workers e = free_workers settings workers e
+  free_algebra : (settings : List Setting) → occurs (Algebra number) settings ≡ false → algebra_set settings ≡ None
+  free_algebra [] e = refl
+  free_algebra (Algebra other ∷ settings) e = cc
+  free_algebra (setting ∷ settings) e = free_algebra settings e
 
-free_seed : (settings : List Setting) (seed : ℕ) → occurs (Seed seed) settings ≡ false → seed_found settings ≡ None
-free_seed [] seed e = refl
-free_seed (Algebra named ∷ settings) seed e = free_seed settings seed e
-free_seed (Workers workers ∷ settings) seed e = free_seed settings seed e
-free_seed (Seed other ∷ settings) seed e = cc
+  free_workers : (settings : List Setting) → occurs (Workers number) settings ≡ false → workers_found settings ≡ None
+  free_workers [] e = refl
+  free_workers (Workers other ∷ settings) e = cc
+  free_workers (setting ∷ settings) e = free_workers settings e
+
+  free_seed : (settings : List Setting) → occurs (Seed number) settings ≡ false → seed_found settings ≡ None
+  free_seed [] e = refl
+  free_seed (Seed other ∷ settings) e = cc
+  free_seed (setting ∷ settings) e = free_seed settings e
+
+  free_size : (settings : List Setting) → occurs (Size number) settings ≡ false → size_found settings ≡ None
+  free_size [] e = refl
+  free_size (Size other ∷ settings) e = cc
+  free_size (setting ∷ settings) e = free_size settings e
 
 -- a setting before others is set once where it does not occur among them
-once_more : (setting : Setting) (settings : List Setting) → occurs setting settings ≡ false → AreSetOnce settings → AreSetOnce (setting ∷ settings)
+once_more : (setting : Setting) (settings : List Setting) → occurs setting settings ≡ false → AreSetOnce settings
+    → AreSetOnce (setting ∷ settings)
 once_more setting settings absent once = rw absent once
 
 both_parts : (a b : Bool) → IsTrue (a && b) → IsTrue a × IsTrue b
@@ -134,53 +152,67 @@ absent_from : (a : Bool) → IsTrue (not a) → a ≡ false
 absent_from true h = cc
 absent_from false h = refl
 
-once_less : (setting : Setting) (settings : List Setting) → AreSetOnce (setting ∷ settings) → (occurs setting settings ≡ false) × AreSetOnce settings
+once_less : (setting : Setting) (settings : List Setting) → AreSetOnce (setting ∷ settings)
+    → (occurs setting settings ≡ false) × AreSetOnce settings
 once_less setting settings once =
     let parts = both_parts _ _ once in
     (absent_from _ parts.0, parts.1)
 
 -- one more option before the others
-pub read_more : (place : ℕ) (option value : List ℕ) (words : List (List ℕ)) (before after : Settings) (setting : Setting)
-    → Adds before option value (place + 1) setting after → AreRead (place + 2) words before → AreRead place (option ∷ value ∷ words) after
-read_more place option value words before after (Algebra named) adds read = record {
-  settings = Algebra named ∷ read.settings;
-  set = (adds.0, (adds.2.name, adds.1), read.set);
-  once = once_more (Algebra named) read.settings (no_algebra read.settings named (sym read.algebra ∙ adds.2.free)) read.once;
-  algebra = ap (λ (s : Settings). s.algebra) adds.2.set ∙ ap Some (sym adds.1);
-  workers = ap (λ (s : Settings). s.workers) adds.2.set ∙ read.workers;
-  seed = ap (λ (s : Settings). s.seed) adds.2.set ∙ read.seed;
-}
-read_more place option value words before after (Workers workers) adds read = record {
-  settings = Workers workers ∷ read.settings;
-  set = (adds.0, (adds.1.number, adds.1.some, adds.1.few), read.set);
-  once = once_more (Workers workers) read.settings (no_workers read.settings workers (sym read.workers ∙ adds.1.free)) read.once;
-  algebra = ap (λ (s : Settings). s.algebra) adds.1.set ∙ read.algebra;
-  workers = ap (λ (s : Settings). s.workers) adds.1.set;
-  seed = ap (λ (s : Settings). s.seed) adds.1.set ∙ read.seed;
-}
-read_more place option value words before after (Seed seed) adds read = record {
-  settings = Seed seed ∷ read.settings;
-  set = (adds.0, (adds.1.number, adds.1.fits), read.set);
-  once = once_more (Seed seed) read.settings (no_seed read.settings seed (sym read.seed ∙ adds.1.free)) read.once;
-  algebra = ap (λ (s : Settings). s.algebra) adds.1.set ∙ read.algebra;
-  workers = ap (λ (s : Settings). s.workers) adds.1.set ∙ read.workers;
-  seed = ap (λ (s : Settings). s.seed) adds.1.set;
-}
+module _ (place : ℕ) (option value : List ℕ) (words : List (List ℕ)) (before after : Settings) where
+  pub read_more : (setting : Setting) → Adds before option value (place + 1) setting after
+      → AreRead (place + 2) words before → AreRead place (option ∷ value ∷ words) after
+  read_more (Algebra named) adds read = record {
+    settings = Algebra named ∷ read.settings;
+    set = (adds.0, (adds.2.name, adds.1), read.set);
+    once = once_more (Algebra named) read.settings
+        (no_algebra named read.settings (sym read.algebra ∙ adds.2.free)) read.once;
+    algebra = ap (λ (s : Settings). s.algebra) adds.2.set ∙ ap Some (sym adds.1);
+    workers = ap (λ (s : Settings). s.workers) adds.2.set ∙ read.workers;
+    seed = ap (λ (s : Settings). s.seed) adds.2.set ∙ read.seed;
+    size = ap (λ (s : Settings). s.size) adds.2.set ∙ read.size;
+  }
+  read_more (Workers workers) adds read = record {
+    settings = Workers workers ∷ read.settings;
+    set = (adds.0, (adds.1.number, adds.1.some, adds.1.few), read.set);
+    once = once_more (Workers workers) read.settings
+        (no_workers workers read.settings (sym read.workers ∙ adds.1.free)) read.once;
+    algebra = ap (λ (s : Settings). s.algebra) adds.1.set ∙ read.algebra;
+    workers = ap (λ (s : Settings). s.workers) adds.1.set;
+    seed = ap (λ (s : Settings). s.seed) adds.1.set ∙ read.seed;
+    size = ap (λ (s : Settings). s.size) adds.1.set ∙ read.size;
+  }
+  read_more (Seed seed) adds read = record {
+    settings = Seed seed ∷ read.settings;
+    set = (adds.0, (adds.1.number, adds.1.fits), read.set);
+    once = once_more (Seed seed) read.settings (no_seed seed read.settings (sym read.seed ∙ adds.1.free)) read.once;
+    algebra = ap (λ (s : Settings). s.algebra) adds.1.set ∙ read.algebra;
+    workers = ap (λ (s : Settings). s.workers) adds.1.set ∙ read.workers;
+    seed = ap (λ (s : Settings). s.seed) adds.1.set;
+    size = ap (λ (s : Settings). s.size) adds.1.set ∙ read.size;
+  }
+  read_more (Size size) adds read = record {
+    settings = Size size ∷ read.settings;
+    set = (adds.0, (adds.1.number, adds.1.some, adds.1.small), read.set);
+    once = once_more (Size size) read.settings (no_size size read.settings (sym read.size ∙ adds.1.free)) read.once;
+    algebra = ap (λ (s : Settings). s.algebra) adds.1.set ∙ read.algebra;
+    workers = ap (λ (s : Settings). s.workers) adds.1.set ∙ read.workers;
+    seed = ap (λ (s : Settings). s.seed) adds.1.set ∙ read.seed;
+    size = ap (λ (s : Settings). s.size) adds.1.set;
+  }
 
 -- ---- words are settings in one way
 
-setting_unique : (place : ℕ) (option value : List ℕ) (s t : Setting) → option ≡ option_word s → IsValue place value s → option ≡ option_word t → IsValue place value t → s ≡ t
+setting_unique : (place : ℕ) (option value : List ℕ) (s t : Setting) → option ≡ option_word s → IsValue place value s
+    → option ≡ option_word t → IsValue place value t → s ≡ t
 setting_unique place option value (Algebra a) (Algebra b) e f g h = ap Algebra (f.1 ∙ sym h.1)
-setting_unique place option value (Algebra a) (Workers b) e f g h = absurd (algebra≢workers (sym e ∙ g))
-setting_unique place option value (Algebra a) (Seed b) e f g h = absurd (algebra≢seed (sym e ∙ g))
-setting_unique place option value (Workers a) (Algebra b) e f g h = absurd (algebra≢workers (sym g ∙ e))
 setting_unique place option value (Workers a) (Workers b) e f g h = ap Workers (f.0.1 ∙ sym h.0.1)
-setting_unique place option value (Workers a) (Seed b) e f g h = absurd (workers≢seed (sym e ∙ g))
-setting_unique place option value (Seed a) (Algebra b) e f g h = absurd (algebra≢seed (sym g ∙ e))
-setting_unique place option value (Seed a) (Workers b) e f g h = absurd (workers≢seed (sym g ∙ e))
 setting_unique place option value (Seed a) (Seed b) e f g h = ap Seed (f.0.1 ∙ sym h.0.1)
+setting_unique place option value (Size a) (Size b) e f g h = ap Size (f.0.1 ∙ sym h.0.1)
+setting_unique place option value s t e f g h = absurd (omega (arith, ap fourth_letter (sym e ∙ g)))
 
-settings_unique : (place : ℕ) (words : List (List ℕ)) (a b : List Setting) → AreSettings place words a → AreSettings place words b → a ≡ b
+settings_unique : (place : ℕ) (words : List (List ℕ)) (a b : List Setting) → AreSettings place words a
+    → AreSettings place words b → a ≡ b
 settings_unique place [] [] [] e f = refl
 settings_unique place [] [] (t ∷ ts) e f = absurd f
 settings_unique place [] (s ∷ ss) b e f = absurd e
@@ -199,7 +231,8 @@ record AreLast (place : ℕ) (words : List (List ℕ)) : Type 0 where
   set : AreSettings place words settings
   once : AreSetOnce settings
 
-last_from : (half count place : ℕ) (words : List (List ℕ)) (settings : List Setting) → count ≡ half + half → AreSettings place words settings → AreSetOnce settings → AreLast (place + count) (drop count words)
+last_from : (half count place : ℕ) (words : List (List ℕ)) (settings : List Setting) → count ≡ half + half
+    → AreSettings place words settings → AreSetOnce settings → AreLast (place + count) (drop count words)
 last_from zero count place words settings e set once =
     let L : ℕ → Type 0 = λ count. AreLast (place + count) (drop count words) in
     let none : count ≡ 0 = omega arith in
@@ -219,33 +252,129 @@ last_from (suc half) (suc (suc count)) place (option ∷ value ∷ words) (s ∷
     subst H same (last_from half count (place + 2) words ss (omega arith) set.2 (once_less s ss once).1)
 
 -- an option that cannot be added is part of no settings
-refused_by : (place : ℕ) (option value : List ℕ) (words : List (List ℕ)) (before : Settings) (s : Setting) (ss : List Setting) → AreRead (place + 2) words before
-    → ((setting : Setting) (after : Settings) → Adds before option value (place + 1) setting after → ⊥)
-    → option ≡ option_word s → IsValue (place + 1) value s → AreSettings (place + 2) words ss → occurs s ss ≡ false → ⊥
-refused_by place option value words before (Algebra named) ss read refuses is value_is set absent =
-    let same = settings_unique (place + 2) words read.settings ss read.set set in
-    let free : before.algebra ≡ None = read.algebra ∙ ap algebra_set same ∙ free_algebra ss named absent in
-    refuses (Algebra named) (record before { algebra = Some (place + 1) }) (is, value_is.1, record { free = free; name = value_is.0; set = refl })
-refused_by place option value words before (Workers workers) ss read refuses is value_is set absent =
-    let same = settings_unique (place + 2) words read.settings ss read.set set in
-    let free : before.workers ≡ None = read.workers ∙ ap workers_found same ∙ free_workers ss workers absent in
-    refuses (Workers workers) (record before { workers = Some workers }) (is, record { free = free; number = value_is.0; some = value_is.1; few = value_is.2; set = refl })
-refused_by place option value words before (Seed seed) ss read refuses is value_is set absent =
-    let same = settings_unique (place + 2) words read.settings ss read.set set in
-    let free : before.seed ≡ None = read.seed ∙ ap seed_found same ∙ free_seed ss seed absent in
-    refuses (Seed seed) (record before { seed = Some seed }) (is, record { free = free; number = value_is.0; fits = value_is.1; set = refl })
+module _ (place : ℕ) (option value : List ℕ) (words : List (List ℕ)) (before : Settings)
+    (read : AreRead (place + 2) words before) (refuses : Refuses before option value (place + 1)) where
+  refused_by : (s : Setting) (ss : List Setting) → option ≡ option_word s → IsValue (place + 1) value s
+      → AreSettings (place + 2) words ss → occurs s ss ≡ false → ⊥
+  refused_by (Algebra named) ss is value_is set absent =
+      let same = settings_unique (place + 2) words read.settings ss read.set set in
+      let free : before.algebra ≡ None = read.algebra ∙ ap algebra_set same ∙ free_algebra named ss absent in
+      refuses (Algebra named) (record before { algebra = Some (place + 1) })
+      (is, value_is.1, record { free = free; name = value_is.0; set = refl })
+  refused_by (Workers workers) ss is value_is set absent =
+      let same = settings_unique (place + 2) words read.settings ss read.set set in
+      let free : before.workers ≡ None = read.workers ∙ ap workers_found same ∙ free_workers workers ss absent in
+      refuses (Workers workers) (record before { workers = Some workers })
+      (is, record { free = free; number = value_is.0; some = value_is.1; few = value_is.2; set = refl })
+  refused_by (Seed seed) ss is value_is set absent =
+      let same = settings_unique (place + 2) words read.settings ss read.set set in
+      let free : before.seed ≡ None = read.seed ∙ ap seed_found same ∙ free_seed seed ss absent in
+      refuses (Seed seed) (record before { seed = Some seed })
+      (is, record { free = free; number = value_is.0; fits = value_is.1; set = refl })
+  refused_by (Size size) ss is value_is set absent =
+      let same = settings_unique (place + 2) words read.settings ss read.set set in
+      let free : before.size ≡ None = read.size ∙ ap size_found same ∙ free_size size ss absent in
+      refuses (Size size) (record before { size = Some size })
+      (is, record { free = free; number = value_is.0; some = value_is.1; small = value_is.2; set = refl })
 
-refused_last : (place : ℕ) (option value : List ℕ) (words : List (List ℕ)) (before : Settings) (settings : List Setting) → AreRead (place + 2) words before
-    → ((setting : Setting) (after : Settings) → Adds before option value (place + 1) setting after → ⊥)
-    → AreSettings place (option ∷ value ∷ words) settings → AreSetOnce settings → ⊥
-refused_last place option value words before [] read refuses set once = absurd set
-refused_last place option value words before (s ∷ ss) read refuses set once =
-    refused_by place option value words before s ss read refuses set.0 set.1 set.2 (once_less s ss once).0
+  refused_last : (settings : List Setting) → AreSettings place (option ∷ value ∷ words) settings
+      → AreSetOnce settings → ⊥
+  refused_last [] set once = absurd set
+  refused_last (s ∷ ss) set once = refused_by s ss set.0 set.1 set.2 (once_less s ss once).0
+
+-- ---- what a mode allows and needs
+
+-- the words of two modes differ at their third letter
+mode_same : (a b : asked.Mode) → mode_word a ≡ mode_word b → a ≡ b
+mode_same asked.Best asked.Best e = refl
+mode_same asked.Serial asked.Serial e = refl
+mode_same asked.Wins asked.Wins e = refl
+mode_same asked.Big asked.Big e = refl
+mode_same a b e = absurd (omega (arith, ap (λ (w : List ℕ). get_or w 2 0) e))
+
+module _ (mode : asked.Mode) where
+  -- each option is one that is not set, or that the mode allows
+  all_allowed : (settings : List Setting) → IsNone (algebra_set settings) ⊎ (mode ≡ asked.Big → ⊥)
+      → IsNone (size_found settings) ⊎ (mode ≡ asked.Big) → All (Allows mode) settings
+  all_allowed [] named sized = All-nil (Allows mode)
+  all_allowed (Algebra place ∷ settings) (inl none) sized = absurd cc
+  all_allowed (Algebra place ∷ settings) (inr allowed) sized =
+      All-cons (Allows mode) (Algebra place) settings allowed (all_allowed settings (inr allowed) sized)
+  all_allowed (Workers workers ∷ settings) named sized =
+      All-cons (Allows mode) (Workers workers) settings tt (all_allowed settings named sized)
+  all_allowed (Seed seed ∷ settings) named sized =
+      All-cons (Allows mode) (Seed seed) settings tt (all_allowed settings named sized)
+  all_allowed (Size size ∷ settings) named (inl none) = absurd cc
+  all_allowed (Size size ∷ settings) named (inr allowed) =
+      All-cons (Allows mode) (Size size) settings allowed (all_allowed settings named (inr allowed))
+
+  never_named : (settings : List Setting) → mode ≡ asked.Big → All (Allows mode) settings
+      → IsNone (algebra_set settings)
+  never_named [] big all = refl
+  never_named (Algebra place ∷ settings) big all =
+      absurd (All-head (Allows mode) (Algebra place) settings all big)
+  never_named (setting ∷ settings) big all = never_named settings big (All-tail (Allows mode) setting settings all)
+
+  never_sized : (settings : List Setting) → (mode ≡ asked.Big → ⊥) → All (Allows mode) settings
+      → IsNone (size_found settings)
+  never_sized [] other all = refl
+  never_sized (Size size ∷ settings) other all =
+      absurd (other (All-head (Allows mode) (Size size) settings all))
+  never_sized (setting ∷ settings) other all =
+      never_sized settings other (All-tail (Allows mode) setting settings all)
+
+-- a size is set where it is at least 1, as each size that is set is
+some_size : (settings : List Setting) → 1 ≤ size_set settings → IsSome (size_found settings)
+some_size [] some = absurd (omega arith)
+some_size (Size size ∷ settings) some = refl
+some_size (setting ∷ settings) some = some_size settings some
+
+set_size : (place : ℕ) (words : List (List ℕ)) (settings : List Setting) → AreSettings place words settings
+    → IsSome (size_found settings) → 1 ≤ size_set settings
+set_size place words [] set found = absurd cc
+set_size place [] (s ∷ ss) set found = absurd set
+set_size place (option ∷ []) (s ∷ ss) set found = absurd set
+set_size place (option ∷ value ∷ words) (Size size ∷ ss) set found = set.1.1
+set_size place (option ∷ value ∷ words) (s ∷ ss) set found = set_size (place + 2) words ss set.2 found
+
+-- what was read suits the mode exactly where its options are allowed, and those that it needs are set
+module _ (place : ℕ) (words : List (List ℕ)) (state : Settings) (read : AreRead place words state) where
+  allowed_by : (mode : asked.Mode) → IsNone state.algebra ⊎ (mode ≡ asked.Big → ⊥)
+      → IsNone state.size ⊎ (mode ≡ asked.Big) → All (Allows mode) read.settings
+  allowed_by mode named sized =
+      all_allowed mode read.settings (subst (λ o. IsNone o ⊎ (mode ≡ asked.Big → ⊥)) read.algebra named)
+      (subst (λ o. IsNone o ⊎ (mode ≡ asked.Big)) read.size sized)
+
+  suited_allowed : (mode : Mode) → Suits mode state → All (Allows (mode_of mode)) read.settings
+  suited_allowed Big suits = allowed_by asked.Big (inl suits.0) (inr refl)
+  suited_allowed mode suits = allowed_by (mode_of mode) (inr (λ e. cc)) (inl suits)
+
+  suited_sized : (mode : Mode) → Suits mode state → mode_of mode ≡ asked.Big → 1 ≤ size_set read.settings
+  suited_sized Big suits e =
+      set_size place words read.settings read.set (subst (λ o. IsSome o) read.size suits.1)
+  suited_sized mode suits e = absurd cc
+
+  -- what is allowed and set by a command
+  module _ (mode : asked.Mode) (allowed : All (Allows mode) read.settings) where
+    unnamed : mode ≡ asked.Big → IsNone state.algebra
+    unnamed big = subst (λ o. IsNone o) (sym read.algebra) (never_named mode read.settings big allowed)
+
+    unsized : (mode ≡ asked.Big → ⊥) → IsNone state.size
+    unsized other = subst (λ o. IsNone o) (sym read.size) (never_sized mode read.settings other allowed)
+
+  suited : (mode : Mode) → All (Allows (mode_of mode)) read.settings
+      → (mode_of mode ≡ asked.Big → 1 ≤ size_set read.settings) → Suits mode state
+  suited Big allowed sized = (
+    unnamed asked.Big allowed refl,
+    subst (λ o. IsSome o) (sym read.size) (some_size read.settings (sized refl)),
+  )
+  suited mode allowed sized = unsized (mode_of mode) allowed (λ e. cc)
 
 -- ---- the words of the whole line
 
 -- each option has a value
-even_words : (place : ℕ) (words : List (List ℕ)) (settings : List Setting) → AreSettings place words settings → length words ≡ length settings + length settings
+even_words : (place : ℕ) (words : List (List ℕ)) (settings : List Setting) → AreSettings place words settings
+    → length words ≡ length settings + length settings
 even_words place [] [] set = refl
 even_words place [] (s ∷ ss) set = absurd set
 even_words place (option ∷ []) [] set = absurd set
@@ -259,9 +388,10 @@ odd_words words has =
     omega (arith, ap length is.words_are, even_words 1 is.options is.settings is.set)
 
 -- an option cannot be added
-pub no_option : (words : List (List ℕ)) (place : ℕ) (option value : List ℕ) (before : Settings) → place % 2 ≡ 1
-    → drop place words ≡ option ∷ value ∷ drop (place + 2) words → AreRead (place + 2) (drop (place + 2) words) before
-    → ((setting : Setting) (after : Settings) → Adds before option value (place + 1) setting after → ⊥) → HasCommand words → ⊥
+no_option : (words : List (List ℕ)) (place : ℕ) (option value : List ℕ) (before : Settings) → place % 2 ≡ 1
+    → drop place words ≡ option ∷ value ∷ drop (place + 2) words
+    → AreRead (place + 2) (drop (place + 2) words) before → Refuses before option value (place + 1)
+    → HasCommand words → ⊥
 no_option words place option value before odd e read refuses has =
     let is = has.1 in
     let last = last_from (place / 2) (place - 1) 1 is.options is.settings (omega arith) is.set is.once in
@@ -272,74 +402,127 @@ no_option words place option value before odd e read refuses has =
     let H : ℕ → Type 0 = λ here. AreLast here (drop (place - 1) is.options) in
     let W : List (List ℕ) → Type 0 = λ words. AreLast place words in
     let found : AreLast place (option ∷ value ∷ drop (place + 2) words) = subst W (behind ∙ e) (subst H here last) in
-    refused_last place option value (drop (place + 2) words) before found.settings read refuses found.set found.once
+    refused_last place option value (drop (place + 2) words) before read refuses found.settings found.set found.once
 
--- all options are read
-pub all_read : (words : List (List ℕ)) (first : List ℕ) (mode : Mode) (state : Settings) (workers seed : ℕ) → words ≡ first ∷ drop 1 words → first ≡ mode_word (mode_of mode)
-    → AreRead 1 (drop 1 words) state → workers ≡ unwrap_or state.workers 1 → seed ≡ unwrap_or state.seed 0
-    → IsCommandOf words (record { mode = mode; algebra = state.algebra; workers = workers; seed = seed; size = 0 })
-all_read words first mode state workers seed e is read w s = record {
-  options = drop 1 words;
-  settings = read.settings;
-  words_are = e ∙ ap (λ (first : List ℕ). first ∷ drop 1 words) is;
-  set = read.set;
-  once = read.once;
-  algebra_is = read.algebra;
-  workers_are = w ∙ ap (λ (o : Option ℕ). unwrap_or o 1) read.workers ∙ workers_is read.settings;
-  seed_is = s ∙ ap (λ (o : Option ℕ). unwrap_or o 0) read.seed ∙ seed_is read.settings;
-  size_is = size_is read.settings;
-}
+-- the words behind the mode are all read
+module _ (words : List (List ℕ)) (first : List ℕ) (mode : Mode) (state : Settings)
+    (e : words ≡ first ∷ drop 1 words) (is : first ≡ mode_word (mode_of mode))
+    (read : AreRead 1 (drop 1 words) state) where
+  all_read : Suits mode state → (workers seed size : ℕ) → workers ≡ unwrap_or state.workers 1
+      → seed ≡ unwrap_or state.seed 0 → size ≡ unwrap_or state.size 0
+      → IsCommandOf words (record {
+        mode = mode;
+        algebra = state.algebra;
+        workers = workers;
+        seed = seed;
+        size = size;
+      })
+  all_read suits workers seed size w s z =
+      let size_set_is : size ≡ size_set read.settings =
+      z ∙ ap (λ (o : Option ℕ). unwrap_or o 0) read.size ∙ size_is read.settings in
+      record {
+        options = drop 1 words;
+        settings = read.settings;
+        words_are = e ∙ ap (λ (first : List ℕ). first ∷ drop 1 words) is;
+        set = read.set;
+        once = read.once;
+        allowed = suited_allowed 1 (drop 1 words) state read mode suits;
+        algebra_is = read.algebra;
+        workers_are = w ∙ ap (λ (o : Option ℕ). unwrap_or o 1) read.workers ∙ workers_is read.settings;
+        seed_is = s ∙ ap (λ (o : Option ℕ). unwrap_or o 0) read.seed ∙ seed_is read.settings;
+        size_is = size_set_is;
+        sized = λ big. subst (λ (n : ℕ). 1 ≤ n) (sym size_set_is)
+            (suited_sized 1 (drop 1 words) state read mode suits big);
+      }
 
--- the word at an index, and the words behind it
-pub drop_one : {A : Type 0} (f : A → List ℕ) (words : List A) (i : ℕ) (word : A) → i < length words → word ≡ get_or words i word → drop i (map f words) ≡ f word ∷ drop (i + 1) (map f words)
-drop_one f [] i word within is = absurd (omega arith)
-drop_one f (x ∷ xs) zero word within is = ap (λ (y : List ℕ). y ∷ map f xs) (ap f (sym is))
-drop_one f (x ∷ xs) (suc i) word within is =
-    let next : suc i + 1 ≡ suc (i + 1) = omega arith in
-    drop_one f xs i word (omega arith) is ∙ ap (λ (n : ℕ). f word ∷ drop n (f x ∷ map f xs)) (sym next)
+  -- no command has options that do not suit its mode
+  unsuited : (Suits mode state → ⊥) → HasCommand words → ⊥
+  unsuited refuses (command, h) =
+      let heads : mode_word command.mode ∷ h.options ≡ first ∷ drop 1 words = sym h.words_are ∙ e in
+      let word = ap (λ (ws : List (List ℕ)). slice_index_or ws 0 []) heads ∙ is in
+      let same_mode : command.mode ≡ mode_of mode = mode_same command.mode (mode_of mode) word in
+      let options : h.options ≡ drop 1 words = ap (λ (ws : List (List ℕ)). drop 1 ws) heads in
+      let set = subst (λ (ws : List (List ℕ)). AreSettings 1 ws h.settings) options h.set in
+      let same = settings_unique 1 (drop 1 words) h.settings read.settings set read.set in
+      let allowed = subst (λ m. All (Allows m) read.settings) same_mode
+      (subst (λ (ss : List Setting). All (Allows command.mode) ss) same h.allowed) in
+      let sized_by = h.size_is ∙ ap size_set same in
+      refuses (suited 1 (drop 1 words) state read mode allowed
+      (λ big. subst (λ (n : ℕ). 1 ≤ n) sized_by (h.sized (same_mode ∙ big))))
 
-two_at : {A : Type 0} (f : A → List ℕ) (words : List A) (i : ℕ) (a b : A) → i + 1 < length words → a ≡ get_or words i a → b ≡ get_or words (i + 1) b
-    → drop i (map f words) ≡ f a ∷ f b ∷ drop (i + 2) (map f words)
-two_at f words i a b within is_a is_b =
-    let next : i + 1 + 1 ≡ i + 2 = omega arith in
-    drop_one f words i a (omega arith) is_a ∙ ap (λ (l : List (List ℕ)). f a ∷ l) (drop_one f words (i + 1) b within is_b)
-    ∙ ap (λ (n : ℕ). f a ∷ f b ∷ drop n (map f words)) next
+module _ {A : Type 0} (f : A → List ℕ) where
+  -- the word at an index, and the words behind it
+  drop_one : (words : List A) (i : ℕ) (word : A) → i < length words → word ≡ get_or words i word
+      → drop i (map f words) ≡ f word ∷ drop (i + 1) (map f words)
+  drop_one [] i word within is = absurd (omega arith)
+  drop_one (x ∷ xs) zero word within is = ap (λ (y : List ℕ). y ∷ map f xs) (ap f (sym is))
+  drop_one (x ∷ xs) (suc i) word within is =
+      let next : suc i + 1 ≡ suc (i + 1) = omega arith in
+      drop_one xs i word (omega arith) is ∙ ap (λ (n : ℕ). f word ∷ drop n (f x ∷ map f xs)) (sym next)
 
--- ---- the loop over the options
+  two_at : (words : List A) (i : ℕ) (a b : A) → i + 1 < length words → a ≡ get_or words i a
+      → b ≡ get_or words (i + 1) b → drop i (map f words) ≡ f a ∷ f b ∷ drop (i + 2) (map f words)
+  two_at words i a b within is_a is_b =
+      let next : i + 1 + 1 ≡ i + 2 = omega arith in
+      drop_one words i a (omega arith) is_a
+      ∙ ap (λ (l : List (List ℕ)). f a ∷ l) (drop_one words (i + 1) b within is_b)
+      ∙ ap (λ (n : ℕ). f a ∷ f b ∷ drop n (map f words)) next
 
--- one more option is read
-pub turn : {A : Type 0} (f : A → List ℕ) (words : List A) (place : ℕ) (a b : A) (option value : List ℕ) (before after : Settings)
-    → 1 < place → place % 2 ≡ 1 → place ≤ length words → a ≡ get_or words (place - 2) a → b ≡ get_or words (place - 2 + 1) b → option ≡ f a → value ≡ f b
-    → AreRead place (drop place (map f words)) before → ((setting : Setting) × Adds before option value (place - 2 + 1) setting after)
-    → AreRead (place - 2) (drop (place - 2) (map f words)) after
-turn f words place a b option value before after more odd within is_a is_b is_option is_value read adds =
-    let back : place ≡ place - 2 + 2 = omega arith in
-    let B : ℕ → Type 0 = λ place. AreRead place (drop place (map f words)) before in
-    let W : List (List ℕ) → Type 0 = λ words. AreRead (place - 2) words after in
-    let texts = two_at f words (place - 2) a b (omega arith) is_a is_b in
-    let rest = drop (place - 2 + 2) (map f words) in
-    let same : option ∷ value ∷ rest ≡ f a ∷ f b ∷ rest = λ i. is_option i ∷ is_value i ∷ rest in
-    subst W (same ∙ sym texts) (read_more (place - 2) option value rest before after adds.0 adds.1 (subst B back read))
+  module _ (words : List A) (place : ℕ) (a b : A) (option value : List ℕ) (before : Settings) (more : 1 < place)
+      (odd : place % 2 ≡ 1) (within : place ≤ length words) (is_a : a ≡ get_or words (place - 2) a)
+      (is_b : b ≡ get_or words (place - 2 + 1) b) (is_option : option ≡ f a) (is_value : value ≡ f b)
+      (read : AreRead place (drop place (map f words)) before) where
+    option_and_value : drop (place - 2) (map f words) ≡ option ∷ value ∷ drop (place - 2 + 2) (map f words)
+    option_and_value =
+        two_at words (place - 2) a b (omega arith) is_a is_b
+        ∙ sym (λ i. is_option i ∷ is_value i ∷ drop (place - 2 + 2) (map f words))
 
--- an option is refused
-pub stop : {A : Type 0} (f : A → List ℕ) (words : List A) (place : ℕ) (a b : A) (option value : List ℕ) (before : Settings)
-    → 1 < place → place % 2 ≡ 1 → place ≤ length words → a ≡ get_or words (place - 2) a → b ≡ get_or words (place - 2 + 1) b → option ≡ f a → value ≡ f b
-    → AreRead place (drop place (map f words)) before → ((setting : Setting) (after : Settings) → Adds before option value (place - 2 + 1) setting after → ⊥)
-    → HasCommand (map f words) → ⊥
-stop f words place a b option value before more odd within is_a is_b is_option is_value read refuses has =
-    let back : place ≡ place - 2 + 2 = omega arith in
-    let B : ℕ → Type 0 = λ place. AreRead place (drop place (map f words)) before in
-    let texts = two_at f words (place - 2) a b (omega arith) is_a is_b in
-    let rest = drop (place - 2 + 2) (map f words) in
-    let same : option ∷ value ∷ rest ≡ f a ∷ f b ∷ rest = λ i. is_option i ∷ is_value i ∷ rest in
-    no_option (map f words) (place - 2) option value before (omega arith) (texts ∙ sym same) (subst B back read) refuses has
+    read_behind : AreRead (place - 2 + 2) (drop (place - 2 + 2) (map f words)) before
+    read_behind =
+        let B : ℕ → Type 0 = λ place. AreRead place (drop place (map f words)) before in
+        let back : place ≡ place - 2 + 2 = omega arith in
+        subst B back read
 
--- all options are read
-pub finish : {A : Type 0} (f : A → List ℕ) (words : List A) (first : A) (text : List ℕ) (mode : Mode) (place : ℕ) (state : Settings) (workers seed : ℕ)
-    → 0 < length words → first ≡ get_or words 0 first → text ≡ f first → text ≡ mode_word (mode_of mode) → place % 2 ≡ 1 → place ≤ 1
-    → AreRead place (drop place (map f words)) state → workers ≡ unwrap_or state.workers 1 → seed ≡ unwrap_or state.seed 0
-    → IsCommandOf (map f words) (record { mode = mode; algebra = state.algebra; workers = workers; seed = seed; size = 0 })
-finish f words first text mode place state workers seed some is is_text is_mode odd last read w s =
-    let one : place ≡ 1 = omega arith in
-    let B : ℕ → Type 0 = λ place. AreRead place (drop place (map f words)) state in
-    all_read (map f words) (f first) mode state workers seed (drop_one f words 0 first some is) (sym is_text ∙ is_mode) (subst B one read) w s
+    -- one more option is read
+    pub turn : (after : Settings) → ((setting : Setting) × Adds before option value (place - 2 + 1) setting after)
+        → AreRead (place - 2) (drop (place - 2) (map f words)) after
+    turn after adds =
+        let W : List (List ℕ) → Type 0 = λ words. AreRead (place - 2) words after in
+        let rest = drop (place - 2 + 2) (map f words) in
+        subst W (sym option_and_value)
+        (read_more (place - 2) option value rest before after adds.0 adds.1 read_behind)
+
+    -- an option is refused
+    pub stop : Refuses before option value (place - 2 + 1) → HasCommand (map f words) → ⊥
+    stop refuses has =
+        no_option (map f words) (place - 2) option value before (omega arith) option_and_value read_behind refuses has
+
+  -- all options are read
+  module _ (words : List A) (first : A) (text : List ℕ) (mode : Mode) (place : ℕ) (state : Settings)
+      (some : 0 < length words) (is : first ≡ get_or words 0 first) (is_text : text ≡ f first)
+      (is_mode : text ≡ mode_word (mode_of mode)) (odd : place % 2 ≡ 1) (last : place ≤ 1)
+      (read : AreRead place (drop place (map f words)) state) where
+    read_from_one : AreRead 1 (drop 1 (map f words)) state
+    read_from_one =
+        let B : ℕ → Type 0 = λ place. AreRead place (drop place (map f words)) state in
+        let one : place ≡ 1 = omega arith in
+        subst B one read
+
+    pub finish : Suits mode state → (workers seed size : ℕ) → workers ≡ unwrap_or state.workers 1
+        → seed ≡ unwrap_or state.seed 0 → size ≡ unwrap_or state.size 0
+        → IsCommandOf (map f words) (record {
+          mode = mode;
+          algebra = state.algebra;
+          workers = workers;
+          seed = seed;
+          size = size;
+        })
+    finish =
+        all_read (map f words) (f first) mode state (drop_one words 0 first some is) (sym is_text ∙ is_mode)
+        read_from_one
+
+    -- what was read does not suit the mode
+    pub refuse : (Suits mode state → ⊥) → HasCommand (map f words) → ⊥
+    refuse =
+        unsuited (map f words) (f first) mode state (drop_one words 0 first some is) (sym is_text ∙ is_mode)
+        read_from_one

@@ -1,10 +1,11 @@
 -- From what was written of the reports of a checked job to the verdict on the words and the bytes.
-use Rattle.std.proofs.Common.{◌≡◌, ℕ, ◌+◌, List, [], ◌∷◌, Option, IfSome, IfErr, IsErrOf, Result, Ok, Err, inl, inr, refl, subst}
+use Rattle.std.proofs.Common.{◌≡◌, ℕ, ◌+◌, List, [], ◌∷◌, Option, IfSome, IfErr, IsErrOf, Result, Ok, Err, inl, inr, refl, sym, subst}
 use Rattle.std.specs.List.{AllByRecursion}
 use Rattle.std.specs.Io.KnownBytes.{Appends}
 use Rattle.std.proofs.KnownBytes.{Appends-nil}
 use Rattle.adp_model.specs.declared.fault.LimitFault.{LimitFault}
 use Rattle.adp_model.specs.declared.grammar.Grammar.{Grammar}
+use Rattle.adp_model.specs.Command.{Command}
 use Rattle.adp_model.specs.PosedProblem.{PosedProblem}
 use Rattle.adp_model.specs.ProblemFields.{IsAdmissible}
 use Rattle.adp_model.specs.Verdict.{IsVerdict, KeepLimits, IsFirstLimit, AreReports}
@@ -14,113 +15,122 @@ use Rattle.report.specs.declared.fault.Fault.TheVariants as faults
 use Rattle.adp_main.specs.declared.checked_job.CheckedJob.{CheckedJob}
 use Rattle.adp_main.specs.Ending.{IsOfVerdict, ShowsFirst, ShowsPart, ShowsVerdict}
 use Rattle.adp_main.specs.Faults.{fault_verdict, status_after}
-use Rattle.adp_main.specs.Reporting.{AreReportsOf, HasWritten, IsCheckedJob, IsJobEnding, IsJobRefusal, IsReported, posed_words}
+use Rattle.adp_main.specs.Reporting.{AreReportsOf, HasWritten, IsCheckedJob, IsJobEnding, IsJobRefusal, IsReported}
+use Rattle.adp_main.specs.Posed.{posed_words}
 
-reports_are : (grammar : Grammar) (algebra number : ℕ) (words reports : List (List ℕ)) → AreReportsOf number (posed_words grammar algebra words) reports → AreReports grammar algebra number words reports
-reports_are grammar algebra number [] [] h = tt
-reports_are grammar algebra number [] (report ∷ reports) h = absurd h
-reports_are grammar algebra number (word ∷ words) [] h = absurd h
-reports_are grammar algebra number (word ∷ words) (report ∷ reports) h = (h.0, reports_are grammar algebra (number + 1) words reports h.1)
+module _ (command : Command) where
+  reports_are : (grammar : Grammar) (algebra number : ℕ) (words reports : List (List ℕ)) → AreReportsOf command number (posed_words grammar algebra words) reports → AreReports command grammar algebra number words reports
+  reports_are grammar algebra number [] [] h = tt
+  reports_are grammar algebra number [] (report ∷ reports) h = absurd h
+  reports_are grammar algebra number (word ∷ words) [] h = absurd h
+  reports_are grammar algebra number (word ∷ words) (report ∷ reports) h = (h.0, reports_are grammar algebra (number + 1) words reports h.1)
 
-all_keep : (grammar : Grammar) (algebra : ℕ) (words : List (List ℕ)) → AllByRecursion IsAdmissible (posed_words grammar algebra words) → KeepLimits grammar algebra words
-all_keep grammar algebra [] h = tt
-all_keep grammar algebra (word ∷ words) h = (h.0.limits, all_keep grammar algebra words h.1)
+  all_keep : (grammar : Grammar) (algebra : ℕ) (words : List (List ℕ)) → AllByRecursion IsAdmissible (posed_words grammar algebra words) → KeepLimits grammar algebra words
+  all_keep grammar algebra [] h = tt
+  all_keep grammar algebra (word ∷ words) h = (h.0.limits, all_keep grammar algebra words h.1)
 
-is_reported : (grammar : Grammar) (algebra : ℕ) (words : List (List ℕ)) (problems : List PosedProblem) → problems ≡ posed_words grammar algebra words → AllByRecursion IsAdmissible problems → (reports : List (List ℕ)) → AreReportsOf 1 problems reports → IsReported grammar algebra words reports
-is_reported grammar algebra words problems e admissible reports h = record {
-  limits = all_keep grammar algebra words (subst (λ (ps : List PosedProblem). AllByRecursion IsAdmissible ps) e admissible);
-  reports_are = reports_are grammar algebra 1 words reports (subst (λ (ps : List PosedProblem). AreReportsOf 1 ps reports) e h);
-}
+  is_reported : (grammar : Grammar) (algebra : ℕ) (words : List (List ℕ)) (problems : List PosedProblem) → problems ≡ posed_words grammar algebra words → AllByRecursion IsAdmissible problems → (reports : List (List ℕ)) → AreReportsOf command 1 problems reports → IsReported command grammar algebra words reports
+  is_reported grammar algebra words problems e admissible reports h = record {
+    limits = all_keep grammar algebra words (subst (λ (ps : List PosedProblem). AllByRecursion IsAdmissible ps) e admissible);
+    reports_are = reports_are grammar algebra 1 words reports (subst (λ (ps : List PosedProblem). AreReportsOf command 1 ps reports) e h);
+  }
 
-pub job_ending : (grammar : Grammar) (algebra : ℕ) (words : List (List ℕ)) (problems : List PosedProblem) → problems ≡ posed_words grammar algebra words → AllByRecursion IsAdmissible problems → (result : Result (Unit {0}) Fault) (old new : Option (List ℕ))
-    → (reports : List (List ℕ)) × AreReportsOf 1 problems reports × HasWritten result old new reports → IsJobEnding grammar algebra words result old new
-job_ending grammar algebra words problems e admissible (Ok x) old new h = (h.0, is_reported grammar algebra words problems e admissible h.0 h.1, h.2)
-job_ending grammar algebra words problems e admissible (Err faults.Write) old new h = (h.0, is_reported grammar algebra words problems e admissible h.0 h.1, h.2)
-job_ending grammar algebra words problems e admissible (Err faults.Memory) old new h = inr (h.0, is_reported grammar algebra words problems e admissible h.0 h.1, h.2)
-job_ending grammar algebra words problems e admissible (Err faults.Usage) old new h = absurd h.2
-job_ending grammar algebra words problems e admissible (Err faults.Read) old new h = absurd h.2
-job_ending grammar algebra words problems e admissible (Err faults.TooLong) old new h = absurd h.2
-job_ending grammar algebra words problems e admissible (Err (faults.Text fault)) old new h = absurd h.2
-job_ending grammar algebra words problems e admissible (Err (faults.Grammar fault)) old new h = absurd h.2
-job_ending grammar algebra words problems e admissible (Err (faults.Limit word fault)) old new h = absurd h.2
+  pub job_ending : (grammar : Grammar) (algebra : ℕ) (words : List (List ℕ)) (problems : List PosedProblem) → problems ≡ posed_words grammar algebra words → AllByRecursion IsAdmissible problems → (result : Result (Unit {0}) Fault) (old new : Option (List ℕ))
+      → (reports : List (List ℕ)) × AreReportsOf command 1 problems reports × HasWritten result old new reports → IsJobEnding command grammar algebra words result old new
+  job_ending grammar algebra words problems e admissible (Ok x) old new h = (h.0, is_reported grammar algebra words problems e admissible h.0 h.1, h.2)
+  job_ending grammar algebra words problems e admissible (Err faults.Write) old new h = (h.0, is_reported grammar algebra words problems e admissible h.0 h.1, h.2)
+  job_ending grammar algebra words problems e admissible (Err faults.Memory) old new h = inr (h.0, is_reported grammar algebra words problems e admissible h.0 h.1, h.2)
+  job_ending grammar algebra words problems e admissible (Err faults.Usage) old new h = absurd h.2
+  job_ending grammar algebra words problems e admissible (Err faults.Read) old new h = absurd h.2
+  job_ending grammar algebra words problems e admissible (Err faults.TooLong) old new h = absurd h.2
+  job_ending grammar algebra words problems e admissible (Err (faults.Text fault)) old new h = absurd h.2
+  job_ending grammar algebra words problems e admissible (Err (faults.Grammar fault)) old new h = absurd h.2
+  job_ending grammar algebra words problems e admissible (Err (faults.Limit word fault)) old new h = absurd h.2
 
--- the reports of a checked job are the verdict
-reports_verdict : (words : List (List ℕ)) (bytes : List ℕ) (job : CheckedJob) → IsCheckedJob words bytes job → (reports : List (List ℕ)) → IsReported job.checked.grammar job.checked.algebra job.words reports → IsVerdict words bytes (verdicts.Reports reports)
-reports_verdict words bytes job asked reports h =
-    let there = subst (λ (ws : List (List ℕ)). IsReported asked.0.grammar job.checked.algebra ws reports) asked.3 (subst (λ (g : Grammar). IsReported g job.checked.algebra job.words reports) asked.2 h) in
-    (asked.0, job.checked.algebra, asked.1, there.limits, there.reports_are)
+  -- the reports of a checked job are the verdict
+  reports_verdict : (words : List (List ℕ)) (bytes : List ℕ) (job : CheckedJob) → IsCheckedJob words bytes command job → (reports : List (List ℕ)) → IsReported command job.checked.grammar job.checked.algebra job.words reports → IsVerdict words bytes (verdicts.Reports reports)
+  reports_verdict words bytes job asked reports h =
+      let there = subst (λ (ws : List (List ℕ)). IsReported command asked.0.grammar job.checked.algebra ws reports) asked.4 (subst (λ (g : Grammar). IsReported command g job.checked.algebra job.words reports) asked.3 h) in
+      inl (
+        asked.0,
+        job.checked.algebra,
+        asked.1,
+        there.limits,
+        subst (λ (c : Command). AreReports c asked.0.grammar job.checked.algebra 1 asked.0.words reports) (sym asked.2)
+            there.reports_are,
+      )
 
-pub shows_part : (words : List (List ℕ)) (bytes : List ℕ) (job : CheckedJob) → IsCheckedJob words bytes job → (result : Result (Unit {0}) Fault) (old new : Option (List ℕ)) → IsJobEnding job.checked.grammar job.checked.algebra job.words result old new → IsErrOf result faults.Write → ShowsPart words bytes old new
-shows_part words bytes job asked (Err faults.Write) old new h e = record { reports = h.0; is_verdict = reports_verdict words bytes job asked h.0 h.1; written = h.2 }
-shows_part words bytes job asked (Ok x) old new h e = cc
-shows_part words bytes job asked (Err faults.Usage) old new h e = cc
-shows_part words bytes job asked (Err faults.Read) old new h e = cc
-shows_part words bytes job asked (Err faults.TooLong) old new h e = cc
-shows_part words bytes job asked (Err (faults.Text fault)) old new h e = cc
-shows_part words bytes job asked (Err (faults.Grammar fault)) old new h e = cc
-shows_part words bytes job asked (Err (faults.Limit word fault)) old new h e = cc
-shows_part words bytes job asked (Err faults.Memory) old new h e = cc
+  pub shows_part : (words : List (List ℕ)) (bytes : List ℕ) (job : CheckedJob) → IsCheckedJob words bytes command job → (result : Result (Unit {0}) Fault) (old new : Option (List ℕ)) → IsJobEnding command job.checked.grammar job.checked.algebra job.words result old new → IsErrOf result faults.Write → ShowsPart words bytes old new
+  shows_part words bytes job asked (Err faults.Write) old new h e = record { reports = h.0; is_verdict = reports_verdict words bytes job asked h.0 h.1; written = h.2 }
+  shows_part words bytes job asked (Ok x) old new h e = cc
+  shows_part words bytes job asked (Err faults.Usage) old new h e = cc
+  shows_part words bytes job asked (Err faults.Read) old new h e = cc
+  shows_part words bytes job asked (Err faults.TooLong) old new h e = cc
+  shows_part words bytes job asked (Err (faults.Text fault)) old new h e = cc
+  shows_part words bytes job asked (Err (faults.Grammar fault)) old new h e = cc
+  shows_part words bytes job asked (Err (faults.Limit word fault)) old new h e = cc
+  shows_part words bytes job asked (Err faults.Memory) old new h e = cc
 
-pub shows_first : (words : List (List ℕ)) (bytes : List ℕ) (job : CheckedJob) → IsCheckedJob words bytes job → (old new : Option (List ℕ)) → IsJobEnding job.checked.grammar job.checked.algebra job.words (Err faults.Memory) old new → ShowsFirst words bytes old new
-shows_first words bytes job asked old new (inl none) = inl none
-shows_first words bytes job asked old new (inr h) = inr (h.0, h.2.0, reports_verdict words bytes job asked h.0 h.1, h.2.1)
+  pub shows_first : (words : List (List ℕ)) (bytes : List ℕ) (job : CheckedJob) → IsCheckedJob words bytes command job → (old new : Option (List ℕ)) → IsJobEnding command job.checked.grammar job.checked.algebra job.words (Err faults.Memory) old new → ShowsFirst words bytes old new
+  shows_first words bytes job asked old new (inl none) = inl none
+  shows_first words bytes job asked old new (inr h) = inr (h.0, h.2.0, reports_verdict words bytes job asked h.0 h.1, h.2.1)
 
-pub first_of : (words : List (List ℕ)) (bytes : List ℕ) (job : CheckedJob) → IsCheckedJob words bytes job → (result : Result (Unit {0}) Fault) (old new : Option (List ℕ)) → IsJobEnding job.checked.grammar job.checked.algebra job.words result old new → IsErrOf result faults.Memory → ShowsFirst words bytes old new
-first_of words bytes job asked (Err faults.Memory) old new h e = shows_first words bytes job asked old new h
-first_of words bytes job asked (Err faults.Usage) old new h e = cc
-first_of words bytes job asked (Err faults.Read) old new h e = cc
-first_of words bytes job asked (Err faults.TooLong) old new h e = cc
-first_of words bytes job asked (Err (faults.Text fault)) old new h e = cc
-first_of words bytes job asked (Err (faults.Grammar fault)) old new h e = cc
-first_of words bytes job asked (Ok x) old new h e = cc
-first_of words bytes job asked (Err faults.Write) old new h e = cc
-first_of words bytes job asked (Err (faults.Limit word fault)) old new h e = cc
+  pub first_of : (words : List (List ℕ)) (bytes : List ℕ) (job : CheckedJob) → IsCheckedJob words bytes command job → (result : Result (Unit {0}) Fault) (old new : Option (List ℕ)) → IsJobEnding command job.checked.grammar job.checked.algebra job.words result old new → IsErrOf result faults.Memory → ShowsFirst words bytes old new
+  first_of words bytes job asked (Err faults.Memory) old new h e = shows_first words bytes job asked old new h
+  first_of words bytes job asked (Err faults.Usage) old new h e = cc
+  first_of words bytes job asked (Err faults.Read) old new h e = cc
+  first_of words bytes job asked (Err faults.TooLong) old new h e = cc
+  first_of words bytes job asked (Err (faults.Text fault)) old new h e = cc
+  first_of words bytes job asked (Err (faults.Grammar fault)) old new h e = cc
+  first_of words bytes job asked (Ok x) old new h e = cc
+  first_of words bytes job asked (Err faults.Write) old new h e = cc
+  first_of words bytes job asked (Err (faults.Limit word fault)) old new h e = cc
 
-limit_verdict : (words : List (List ℕ)) (bytes : List ℕ) (job : CheckedJob) → IsCheckedJob words bytes job → (word : ℕ) (fault : LimitFault) → IsFirstLimit job.checked.grammar job.checked.algebra 1 job.words word fault → IsVerdict words bytes (verdicts.Limit word fault)
-limit_verdict words bytes job asked word fault h =
-    (asked.0, job.checked.algebra, asked.1, subst (λ (ws : List (List ℕ)). IsFirstLimit asked.0.grammar job.checked.algebra 1 ws word fault) asked.3 (subst (λ (g : Grammar). IsFirstLimit g job.checked.algebra 1 job.words word fault) asked.2 h))
+  limit_verdict : (words : List (List ℕ)) (bytes : List ℕ) (job : CheckedJob) → IsCheckedJob words bytes command job → (word : ℕ) (fault : LimitFault) → IsFirstLimit job.checked.grammar job.checked.algebra 1 job.words word fault → IsVerdict words bytes (verdicts.Limit word fault)
+  limit_verdict words bytes job asked word fault h =
+      (asked.0, job.checked.algebra, asked.1, subst (λ (ws : List (List ℕ)). IsFirstLimit asked.0.grammar job.checked.algebra 1 ws word fault) asked.4 (subst (λ (g : Grammar). IsFirstLimit g job.checked.algebra 1 job.words word fault) asked.3 h))
 
-pub fault_of : (words : List (List ℕ)) (bytes : List ℕ) (job : CheckedJob) → IsCheckedJob words bytes job → (result : Result (Unit {0}) Fault) (old new : Option (List ℕ)) → IsJobEnding job.checked.grammar job.checked.algebra job.words result old new → IfErr result (λ fault. IfSome (fault_verdict fault) (λ verdict. IsVerdict words bytes verdict))
-fault_of words bytes job asked (Err (faults.Limit word fault)) old new h = limit_verdict words bytes job asked word fault h.0
-fault_of words bytes job asked (Ok x) old new h = tt
-fault_of words bytes job asked (Err faults.Write) old new h = tt
-fault_of words bytes job asked (Err faults.Memory) old new h = tt
-fault_of words bytes job asked (Err faults.Usage) old new h = absurd h.2
-fault_of words bytes job asked (Err faults.Read) old new h = absurd h.2
-fault_of words bytes job asked (Err faults.TooLong) old new h = absurd h.2
-fault_of words bytes job asked (Err (faults.Text fault)) old new h = absurd h.2
-fault_of words bytes job asked (Err (faults.Grammar fault)) old new h = absurd h.2
+  pub fault_of : (words : List (List ℕ)) (bytes : List ℕ) (job : CheckedJob) → IsCheckedJob words bytes command job → (result : Result (Unit {0}) Fault) (old new : Option (List ℕ)) → IsJobEnding command job.checked.grammar job.checked.algebra job.words result old new → IfErr result (λ fault. IfSome (fault_verdict fault) (λ verdict. IsVerdict words bytes verdict))
+  fault_of words bytes job asked (Err (faults.Limit word fault)) old new h = limit_verdict words bytes job asked word fault h.0
+  fault_of words bytes job asked (Ok x) old new h = tt
+  fault_of words bytes job asked (Err faults.Write) old new h = tt
+  fault_of words bytes job asked (Err faults.Memory) old new h = tt
+  fault_of words bytes job asked (Err faults.Usage) old new h = absurd h.2
+  fault_of words bytes job asked (Err faults.Read) old new h = absurd h.2
+  fault_of words bytes job asked (Err faults.TooLong) old new h = absurd h.2
+  fault_of words bytes job asked (Err (faults.Text fault)) old new h = absurd h.2
+  fault_of words bytes job asked (Err (faults.Grammar fault)) old new h = absurd h.2
 
-pub verdict_of : (words : List (List ℕ)) (bytes : List ℕ) (job : CheckedJob) → IsCheckedJob words bytes job → (result : Result (Unit {0}) Fault) (old new : Option (List ℕ)) → IsJobEnding job.checked.grammar job.checked.algebra job.words result old new → IsOfVerdict (status_after result) → ShowsVerdict words bytes (status_after result) old new
-verdict_of words bytes job asked (Ok x) old new h of = record { verdict = verdicts.Reports h.0; is_verdict = reports_verdict words bytes job asked h.0 h.1; status_is = refl; written = h.2 }
-verdict_of words bytes job asked (Err (faults.Limit word fault)) old new h of = record { verdict = verdicts.Limit word fault; is_verdict = limit_verdict words bytes job asked word fault h.0; status_is = refl; written = h.1 }
-verdict_of words bytes job asked (Err faults.Write) old new h of = absurd of
-verdict_of words bytes job asked (Err faults.Memory) old new h of = absurd of
-verdict_of words bytes job asked (Err faults.Usage) old new h of = absurd h.2
-verdict_of words bytes job asked (Err faults.Read) old new h of = absurd h.2
-verdict_of words bytes job asked (Err faults.TooLong) old new h of = absurd h.2
-verdict_of words bytes job asked (Err (faults.Text fault)) old new h of = absurd h.2
-verdict_of words bytes job asked (Err (faults.Grammar fault)) old new h of = absurd h.2
+  pub verdict_of : (words : List (List ℕ)) (bytes : List ℕ) (job : CheckedJob) → IsCheckedJob words bytes command job → (result : Result (Unit {0}) Fault) (old new : Option (List ℕ)) → IsJobEnding command job.checked.grammar job.checked.algebra job.words result old new → IsOfVerdict (status_after result) → ShowsVerdict words bytes (status_after result) old new
+  verdict_of words bytes job asked (Ok x) old new h of = record { verdict = verdicts.Reports h.0; is_verdict = reports_verdict words bytes job asked h.0 h.1; status_is = refl; written = h.2 }
+  verdict_of words bytes job asked (Err (faults.Limit word fault)) old new h of = record { verdict = verdicts.Limit word fault; is_verdict = limit_verdict words bytes job asked word fault h.0; status_is = refl; written = h.1 }
+  verdict_of words bytes job asked (Err faults.Write) old new h of = absurd of
+  verdict_of words bytes job asked (Err faults.Memory) old new h of = absurd of
+  verdict_of words bytes job asked (Err faults.Usage) old new h of = absurd h.2
+  verdict_of words bytes job asked (Err faults.Read) old new h of = absurd h.2
+  verdict_of words bytes job asked (Err faults.TooLong) old new h of = absurd h.2
+  verdict_of words bytes job asked (Err (faults.Text fault)) old new h of = absurd h.2
+  verdict_of words bytes job asked (Err (faults.Grammar fault)) old new h of = absurd h.2
 
-pub grew_of : (grammar : Grammar) (algebra : ℕ) (words : List (List ℕ)) (result : Result (Unit {0}) Fault) (old new : Option (List ℕ)) → IsJobEnding grammar algebra words result old new → (bytes : List ℕ) × Appends old new bytes
-grew_of grammar algebra words (Ok x) old new h = (_, h.2)
-grew_of grammar algebra words (Err faults.Write) old new h = (_, h.2.2)
-grew_of grammar algebra words (Err faults.Memory) old new (inl none) = ([], none)
-grew_of grammar algebra words (Err faults.Memory) old new (inr h) = (_, h.2.1)
-grew_of grammar algebra words (Err (faults.Limit word fault)) old new h = ([], h.1)
-grew_of grammar algebra words (Err faults.Usage) old new h = absurd h.2
-grew_of grammar algebra words (Err faults.Read) old new h = absurd h.2
-grew_of grammar algebra words (Err faults.TooLong) old new h = absurd h.2
-grew_of grammar algebra words (Err (faults.Text fault)) old new h = absurd h.2
-grew_of grammar algebra words (Err (faults.Grammar fault)) old new h = absurd h.2
+  pub grew_of : (grammar : Grammar) (algebra : ℕ) (words : List (List ℕ)) (result : Result (Unit {0}) Fault) (old new : Option (List ℕ)) → IsJobEnding command grammar algebra words result old new → (bytes : List ℕ) × Appends old new bytes
+  grew_of grammar algebra words (Ok x) old new h = (_, h.2)
+  grew_of grammar algebra words (Err faults.Write) old new h = (_, h.2.2)
+  grew_of grammar algebra words (Err faults.Memory) old new (inl none) = ([], none)
+  grew_of grammar algebra words (Err faults.Memory) old new (inr h) = (_, h.2.1)
+  grew_of grammar algebra words (Err (faults.Limit word fault)) old new h = ([], h.1)
+  grew_of grammar algebra words (Err faults.Usage) old new h = absurd h.2
+  grew_of grammar algebra words (Err faults.Read) old new h = absurd h.2
+  grew_of grammar algebra words (Err faults.TooLong) old new h = absurd h.2
+  grew_of grammar algebra words (Err (faults.Text fault)) old new h = absurd h.2
+  grew_of grammar algebra words (Err (faults.Grammar fault)) old new h = absurd h.2
 
--- the job was refused, and nothing was written
-pub refused : (words : List (List ℕ)) (bytes : List ℕ) (fault : Fault) → IsJobRefusal words bytes fault → (old : Option (List ℕ)) → IsOfVerdict (status_after (Err fault)) → ShowsVerdict words bytes (status_after (Err fault)) old old
-refused words bytes (faults.Text fault) h old of = record { verdict = verdicts.Text fault; is_verdict = h; status_is = refl; written = Appends-nil old }
-refused words bytes (faults.Grammar fault) h old of = record { verdict = verdicts.Grammar fault; is_verdict = h.0; status_is = refl; written = Appends-nil old }
-refused words bytes faults.Memory h old of = absurd of
-refused words bytes faults.Usage h old of = absurd h
-refused words bytes faults.Read h old of = absurd h
-refused words bytes faults.Write h old of = absurd h
-refused words bytes faults.TooLong h old of = absurd h
-refused words bytes (faults.Limit word fault) h old of = absurd h
+  -- the job was refused, and nothing was written
+  pub refused : (words : List (List ℕ)) (bytes : List ℕ) (fault : Fault) → IsJobRefusal words bytes fault → (old : Option (List ℕ)) → IsOfVerdict (status_after (Err fault)) → ShowsVerdict words bytes (status_after (Err fault)) old old
+  refused words bytes (faults.Text fault) h old of = record { verdict = verdicts.Text fault; is_verdict = h; status_is = refl; written = Appends-nil old }
+  refused words bytes (faults.Grammar fault) h old of = record { verdict = verdicts.Grammar fault; is_verdict = h.0; status_is = refl; written = Appends-nil old }
+  refused words bytes faults.Memory h old of = absurd of
+  refused words bytes faults.Usage h old of = absurd h
+  refused words bytes faults.Read h old of = absurd h
+  refused words bytes faults.Write h old of = absurd h
+  refused words bytes faults.TooLong h old of = absurd h
+  refused words bytes (faults.Limit word fault) h old of = absurd h

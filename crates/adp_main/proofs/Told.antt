@@ -1,7 +1,91 @@
--- What is told of bytes that came.
-use Rattle.std.proofs.Common.{◌≡◌, Option, Some, None, IfSome, subst}
+-- What is told of a job that was read: its notes, and that its grammar has sizes and ranks.
+use Rattle.std.proofs.Common.{◌≡◌, ℕ, List, Option, Some, Result, Err, IsErrOf, inl, inr, refl, sym, ap, subst, ◌∙◌}
+use Rattle.adp_model.specs.declared.grammar.Grammar.{Grammar}
+use Rattle.adp_model.specs.declared.job.Job.{Job}
+use Rattle.adp_model.specs.declared.fault.LimitFault.{LimitFault}
+use Rattle.adp_model.specs.CheckableJobs.{AreCheckable}
+use Rattle.adp_model.specs.Checks.{IsChecked}
+use Rattle.adp_model.specs.Command.{Command}
+use Rattle.adp_model.specs.PosedProblem.{PosedProblem}
+use Rattle.adp_model.specs.Verdict.{AsksUnder}
+use Rattle.evaluators.specs.declared.finished.RunNote.{RunNote}
+use Rattle.report.specs.declared.fault.Fault.{Fault}
+use Rattle.report.specs.declared.fault.Fault.TheVariants as faults
+use Rattle.adp_main.specs.declared.checked_job.CheckedJob.{CheckedJob}
+use Rattle.adp_main.specs.declared.status.Status.{Status}
+use Rattle.adp_main.specs.declared.status.Status.TheVariants.{Done}
+use Rattle.adp_main.specs.Faults.{status_of}
+use Rattle.adp_main.specs.Posed.{posed_words}
+use Rattle.adp_main.specs.Reporting.{IsCheckedJob, IsJobRefusal}
+use Rattle.adp_main.specs.RunNotes.{AreNoted, IsJobNoted, ShowsRuns}
 
--- a fact of the bytes that came holds of the bytes that were left, where those are told
-pub told : {A : Type 0} (left : Option A) (came : A) (P : A → Type 0) → IfSome left (λ bytes. came ≡ bytes) → P came → IfSome left P
-told None came P same fact = tt
-told (Some bytes) came P same fact = subst P same fact
+pub undone : (fault : Fault) → status_of fault ≡ Done → ⊥
+undone faults.Usage e = cc
+undone faults.Read e = cc
+undone faults.Write e = cc
+undone faults.TooLong e = cc
+undone (faults.Text fault) e = cc
+undone (faults.Grammar fault) e = cc
+undone (faults.Limit word fault) e = cc
+undone faults.Memory e = cc
+
+pub refused_limit : (words : List (List ℕ)) (bytes : List ℕ) (fault : Fault) → IsJobRefusal words bytes fault
+    → (word : ℕ) (limit : LimitFault) → IsErrOf {T = Unit {0}} (Err fault) (faults.Limit word limit) → ⊥
+refused_limit words bytes (faults.Limit number fault) h word limit e = h
+refused_limit words bytes (faults.Text fault) h word limit e = cc
+refused_limit words bytes (faults.Grammar fault) h word limit e = cc
+refused_limit words bytes faults.Memory h word limit e = cc
+refused_limit words bytes faults.Usage h word limit e = h
+refused_limit words bytes faults.Read h word limit e = h
+refused_limit words bytes faults.Write h word limit e = h
+refused_limit words bytes faults.TooLong h word limit e = h
+
+abbrev pub OneGrammar : Type 0
+OneGrammar = (words : List (List ℕ)) (bytes : List ℕ) (a b : Job) (m n : ℕ) → AsksUnder words bytes a m
+    → AsksUnder words bytes b n → a.grammar ≡ b.grammar
+
+abbrev pub OneAlgebra : Type 0
+OneAlgebra = (words : List (List ℕ)) (bytes : List ℕ) (a b : Job) (m n : ℕ) → AsksUnder words bytes a m
+    → AsksUnder words bytes b n → m ≡ n
+
+-- the grammar that was checked is that of every job that the words and the bytes ask about
+pub checkable : OneGrammar → OneAlgebra → (words : List (List ℕ)) (bytes : List ℕ) (command : Command)
+    (checked : CheckedJob) → IsCheckedJob words bytes command checked
+    → (least : List ℕ) × (greatest : List (Option ℕ)) × (ranks : List ℕ)
+    × IsChecked checked.checked.grammar checked.checked.algebra least greatest ranks
+    → AreCheckable words bytes
+checkable one_grammar one_algebra words bytes command checked asked (least, greatest, ranks, passes) = λ job algebra asks.
+    let grammar : checked.checked.grammar ≡ job.grammar =
+    asked.3 ∙ one_grammar words bytes asked.0 job checked.checked.algebra algebra asked.1 asks in
+    let number = one_algebra words bytes asked.0 job checked.checked.algebra algebra asked.1 asks in (
+      least,
+      greatest,
+      ranks,
+      subst (λ (it : Grammar × ℕ). IsChecked it.0 it.1 least greatest ranks)
+          (λ i. (grammar i, number i)) passes,
+    )
+
+pub runs_of : (words : List (List ℕ)) (bytes : List ℕ) (command : Command) (checked : CheckedJob)
+    → IsCheckedJob words bytes command checked
+    → (status : Status) (old new : Option (List RunNote)) (held held' : Option (List ℕ))
+    → IsJobNoted command (posed_words checked.checked.grammar checked.checked.algebra checked.words) status old new held
+    held'
+    → ShowsRuns words (Some bytes) status old new held held'
+runs_of words bytes command checked asked status old new held held' (inl none) = inl none
+runs_of words bytes command checked asked status old new held held' (inr noted) =
+    let problems : posed_words checked.checked.grammar checked.checked.algebra checked.words
+    ≡ posed_words asked.0.grammar checked.checked.algebra asked.0.words =
+    λ i. posed_words (asked.3 i) checked.checked.algebra (asked.4 i) in
+    let here = subst (λ (ps : List PosedProblem). AreNoted command ps status old new held held') problems noted in
+    inr (inl (
+      bytes,
+      refl,
+      record {
+        job = asked.0;
+        algebra = checked.checked.algebra;
+        asked = asked.1;
+        noted = subst (λ (it : Command). AreNoted it
+            (posed_words asked.0.grammar checked.checked.algebra asked.0.words) status old new held held') (sym asked.2)
+            here;
+      },
+    ))

@@ -1,16 +1,18 @@
 -- The command as the program keeps it, and the options that it has read.
-use Rattle.std.specs.Prelude.{◌≡◌, ℕ, ◌^◌, ◌<◌, ◌≤◌, List, Some, None, IsTrue}
-use Rattle.adp_model.specs.Command.{IsCommand, IsNumberWord, IsValue, Setting, Algebra, Workers, Seed, option_word}
+use Rattle.std.specs.Prelude.{◌≡◌, ℕ, ◌^◌, ◌<◌, ◌≤◌, List, Some, None, IsNone, IsSome, IsTrue}
+use Rattle.adp_model.specs.Command.{IsCommand, IsNumberWord, Setting, Algebra, Workers, Seed, Size, greatest_size, option_word}
 use Rattle.adp_model.specs.Command as asked
 use Rattle.adp_model.specs.WellFormed.{is_name}
 use Rattle.adp_main.specs.declared.words.Command.{Command}
 use Rattle.adp_main.specs.declared.words.Mode.{Mode}
-use Rattle.adp_main.specs.declared.words.Mode.TheVariants.{Best, Serial}
+use Rattle.adp_main.specs.declared.words.Mode.TheVariants.{Best, Serial, Wins, Big}
 use Rattle.adp_main.specs.declared.words.Settings.{Settings}
 
 abbrev pub mode_of : Mode → asked.Mode
 mode_of Best = asked.Best
 mode_of Serial = asked.Serial
+mode_of Wins = asked.Wins
+mode_of Big = asked.Big
 
 -- what the command says
 abbrev pub asked_command : Command → asked.Command
@@ -47,6 +49,14 @@ pub record AddsSeed (before : Settings) (value : List ℕ) (seed : ℕ) (after :
   pub fits : seed < 2 ^ 64
   pub set : after ≡ record before { seed = Some seed }
 
+-- the option is not set before, the value is a size of a word that is made, and then it is set
+pub record AddsSize (before : Settings) (value : List ℕ) (size : ℕ) (after : Settings) : Type 0 where
+  pub free : before.size ≡ None
+  pub number : IsNumberWord value size
+  pub some : 1 ≤ size
+  pub small : size ≤ greatest_size
+  pub set : after ≡ record before { size = Some size }
+
 -- the option and its value at this place are the setting, which is not set before and then is
 abbrev pub Adds : Settings → List ℕ → List ℕ → ℕ → Setting → Settings → Type 0
 Adds before option value place (Algebra named) after =
@@ -55,3 +65,10 @@ Adds before option value place (Workers workers) after =
     (option ≡ option_word (Workers workers)) × AddsWorkers before value workers after
 Adds before option value place (Seed seed) after =
     (option ≡ option_word (Seed seed)) × AddsSeed before value seed after
+Adds before option value place (Size size) after =
+    (option ≡ option_word (Size size)) × AddsSize before value size after
+
+-- the options that are set are those that the mode allows, and those that it needs are among them
+abbrev pub Suits : Mode → Settings → Type 0
+Suits Big set = IsNone set.algebra × IsSome set.size
+Suits mode set = IsNone set.size

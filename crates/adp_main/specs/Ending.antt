@@ -1,10 +1,10 @@
 -- How a run ends: its status, and what it did to the input, the output and the error output.
-use Rattle.std.specs.Prelude.{◌≡◌, ◌↔◌, ◌⊎◌, ℕ, ◌+◌, List, [], length, take, Option, IfSome}
+use Rattle.std.specs.Prelude.{◌≡◌, ◌↔◌, ◌⊎◌, ℕ, ◌+◌, List, [], length, take, Option, Some, IfSome}
 use Rattle.std.specs.List.{concat}
 use Rattle.std.specs.Io.KnownBytes.{Appends, IsAtEnd}
 use Rattle.adp_io.specs.Causes.{RisesWhere, Rose, next_count}
 use Rattle.adp_io.specs.Streams.{AppendsProperPrefix, AsksForAtMost, CallsAtMost, LosesAtMost, SameTold, job_limit, piece_limit}
-use Rattle.adp_model.specs.Command.{HasCommand}
+use Rattle.adp_model.specs.Command.{HasCommand, AsksForJob}
 use Rattle.adp_model.specs.Verdict.{Verdict, IsVerdict}
 use Rattle.adp_model.specs.Verdict as verdicts
 use Rattle.report.specs.declared.fault.Fault.{Fault}
@@ -12,6 +12,12 @@ use Rattle.adp_main.specs.declared.status.Status.{Status}
 use Rattle.adp_main.specs.declared.status.Status.TheVariants.{Done, Usage, ReadFault, WriteFault, Text, Grammar, Limit, Memory}
 use Rattle.report.specs.Faults.{fault_line}
 use Rattle.adp_main.specs.Faults.{status_of, fault_verdict}
+use Rattle.evaluators.specs.declared.finished.RunNote.{RunNote}
+use Rattle.adp_main.specs.RunNotes.{ShowsRuns}
+
+-- the bytes that the input of a run on these words tells; where the words ask for no job none are read, so all will do
+abbrev pub IsInput : List (List ℕ) → Option (List ℕ) → List ℕ → Type 0
+IsInput words told bytes = (told ≡ Some bytes) ⊎ (AsksForJob words → ⊥)
 
 -- the status of a run that comes to this verdict
 abbrev pub verdict_status : Verdict → Status
@@ -74,18 +80,18 @@ ShowsFirst words bytes old new =
     ⊎ ((reports : List (List ℕ)) × (count : ℕ) × IsVerdict words bytes (verdicts.Reports reports)
     × Appends old new (concat (take count reports)))
 
--- what a run with this status did to its input, of which its bytes left, its count of faults, its calls and the most
--- that it was asked for are seen
+-- what a run on these words with this status did to its input, of which its bytes left, its count of faults, its calls
+-- and the most that it was asked for are seen
 pub record InputAfter {S : Type 0} (left : S → Option (List ℕ)) (faults : S → ℕ) (calls asked : S → Option ℕ)
-    (old new : S) (status : Status) : Type 0 where
+    (words : List (List ℕ)) (old new : S) (status : Status) : Type 0 where
   -- its count rose by one at ReadFault, and stood still otherwise
   pub read_fault : RisesWhere (faults old) (faults new) (status ≡ ReadFault)
   pub told : SameTold (left old) (left new)
   -- what was taken at most, and at most where a read failed
   pub taken : LosesAtMost (left old) (left new) (job_limit + 1)
   pub taken_at_fault : status ≡ ReadFault → LosesAtMost (left old) (left new) job_limit
-  pub read_to_end : status ≡ Done → IsAtEnd (left new)
-  pub nothing_read : status ≡ Usage → new ≡ old
+  pub read_to_end : status ≡ Done → AsksForJob words → IsAtEnd (left new)
+  pub nothing_read : (AsksForJob words → ⊥) → new ≡ old
   -- it was called no more often than `read_job` calls it: once for each byte, and once at the end
   pub few_calls : CallsAtMost (calls old) (calls new) (job_limit + 1)
   pub told_calls : IfSome (left old) (λ bytes. CallsAtMost (calls old) (calls new) (length bytes + 1))
@@ -101,19 +107,28 @@ pub record OutputAfter {K : Type 0} (held : K → Option (List ℕ)) (faults : K
   pub untouched : IsBeforeWriting status → new ≡ old
 
 -- how a run on these words ended with this status
-pub record Ending {S K : Type 0} (left : S → Option (List ℕ)) (read_faults : S → ℕ) (calls asked : S → Option ℕ)
-    (held : K → Option (List ℕ)) (write_faults : K → ℕ) (words : List (List ℕ)) (input input' : S) (out out' : K) (status : Status) : Type 0 where
+pub record Ending {S K G : Type 0} (left : S → Option (List ℕ)) (read_faults : S → ℕ) (calls asked : S → Option ℕ)
+    (held : K → Option (List ℕ)) (write_faults : K → ℕ) (runs : G → Option (List RunNote)) (words : List (List ℕ))
+    (input input' : S) (out out' : K) (gate gate' : G) (status : Status) : Type 0 where
   pub usage : (status ≡ Usage) ↔ (HasCommand words → ⊥)
-  pub reading : InputAfter left read_faults calls asked input input' status
+  pub reading : InputAfter left read_faults calls asked words input input' status
   pub writing : OutputAfter held write_faults out out' status
   -- where the input tells its bytes: the status and the reports are those of the verdict on them
-  pub verdict : IsOfVerdict status
-      → IfSome (left input) (λ bytes. ShowsVerdict words bytes status (held out) (held out'))
-  pub part : status ≡ WriteFault → IfSome (left input) (λ bytes. ShowsPart words bytes (held out) (held out'))
-  pub first : status ≡ Memory → IfSome (left input) (λ bytes. ShowsFirst words bytes (held out) (held out'))
+  pub verdict : IsOfVerdict status → (bytes : List ℕ) → IsInput words (left input) bytes
+      → ShowsVerdict words bytes status (held out) (held out')
+  pub part : status ≡ WriteFault → (bytes : List ℕ) → IsInput words (left input) bytes
+      → ShowsPart words bytes (held out) (held out')
+  pub first : status ≡ Memory → (bytes : List ℕ) → IsInput words (left input) bytes
+      → ShowsFirst words bytes (held out) (held out')
+  -- what evaluators ran for is what was written
+  pub noted : ShowsRuns words (left input) status (runs gate) (runs gate') (held out) (held out')
   -- where no count rose, the run comes to a verdict, unless memory runs out
   pub complete : (Rose (read_faults input) (read_faults input') → ⊥)
       → (Rose (write_faults out) (write_faults out') → ⊥) → IsOfVerdict status ⊎ (status ≡ Memory)
+  -- and where the verdict are reports it is done then
+  pub accepted : (bytes : List ℕ) → IsInput words (left input) bytes → (reports : List (List ℕ))
+      → IsVerdict words bytes (verdicts.Reports reports) → (Rose (read_faults input) (read_faults input') → ⊥)
+      → (Rose (write_faults out) (write_faults out') → ⊥) → (status ≡ Done) ⊎ (status ≡ Memory)
 
 -- a text was written whole, or a proper prefix of it where a write failed
 abbrev pub WritesText : Option (List ℕ) → Option (List ℕ) → ℕ → ℕ → List ℕ → Type 0
@@ -126,5 +141,6 @@ pub record ShowsFault (left : Option (List ℕ)) (words : List (List ℕ)) (stat
     (before now : ℕ) : Type 0 where
   pub fault : Fault
   pub status_is : status ≡ status_of fault
-  pub is_verdict : IfSome (fault_verdict fault) (λ verdict. IfSome left (λ bytes. IsVerdict words bytes verdict))
+  pub is_verdict : IfSome (fault_verdict fault) (λ verdict. (bytes : List ℕ) → IsInput words left bytes
+      → IsVerdict words bytes verdict)
   pub written : WritesText old new before now (fault_line fault)

@@ -6,8 +6,8 @@ use Rattle.adp_io.specs.Streams.{AppendsProperPrefix}
 use Rattle.adp_model.specs.declared.grammar.Grammar.{Grammar}
 use Rattle.adp_model.specs.declared.job.Job.{Job}
 use Rattle.adp_model.specs.PosedProblem.{PosedProblem}
-use Rattle.adp_model.specs.Report.{IsReport}
-use Rattle.adp_model.specs.Verdict.{IsVerdict, AsksUnder, KeepLimits, IsFirstLimit, AreReports}
+use Rattle.adp_model.specs.Command as asked
+use Rattle.adp_model.specs.Verdict.{IsVerdict, AsksUnder, KeepLimits, IsFirstLimit, IsReportIn, AreReports}
 use Rattle.adp_model.specs.Verdict as verdicts
 use Rattle.report.specs.declared.fault.Fault.{Fault}
 use Rattle.report.specs.declared.fault.Fault.TheVariants as faults
@@ -27,12 +27,12 @@ abbrev pub grammar_refusal : CheckError → Fault
 grammar_refusal (check_errors.Fault fault) = faults.Grammar fault
 grammar_refusal check_errors.Memory = faults.Memory
 
--- the job's grammar is that of the text that was asked about, and has no fault under the algebra; its words are the
--- text's
-abbrev pub IsCheckedJob : List (List ℕ) → List ℕ → CheckedJob → Type 0
-IsCheckedJob words bytes checked =
-    (job : Job) × AsksUnder words bytes job checked.checked.algebra × (checked.checked.grammar ≡ job.grammar)
-    × (checked.words ≡ job.words)
+-- the job's grammar is that of the text that the command asks about, and has no fault under the algebra; its words are
+-- the text's
+abbrev pub IsCheckedJob : List (List ℕ) → List ℕ → asked.Command → CheckedJob → Type 0
+IsCheckedJob words bytes command checked =
+    (job : Job) × (asks : AsksUnder words bytes job checked.checked.algebra) × (asks.command ≡ command)
+    × (checked.checked.grammar ≡ job.grammar) × (checked.words ≡ job.words)
 
 -- the verdict is the fault of the text or of its grammar, with a short name; of want of memory nothing is said
 abbrev pub IsJobRefusal : List (List ℕ) → List ℕ → Fault → Type 0
@@ -47,23 +47,18 @@ abbrev pub AreShort : ℕ → List (List ℕ) → Type 0
 AreShort longest words =
     (place : ℕ) → place < length words → length (slice_index_or words place []) ≤ longest
 
--- what is asked about each word
-abbrev pub posed_words : Grammar → ℕ → List (List ℕ) → List PosedProblem
-posed_words grammar algebra words =
-    map (λ (word : List ℕ). record { grammar = grammar; algebra = algebra; word = word }) words
-
 -- the fault of the first word that passes a limit; of want of memory nothing is said
 abbrev pub IsLimitOf : Grammar → ℕ → List (List ℕ) → Fault → Type 0
 IsLimitOf grammar algebra words (faults.Limit word fault) = IsFirstLimit grammar algebra 1 words word fault
 IsLimitOf grammar algebra words faults.Memory = Unit {0}
 IsLimitOf grammar algebra words fault = ⊥
 
--- the reports of these problems in order, the first of which has this number
-abbrev pub AreReportsOf : ℕ → List PosedProblem → List (List ℕ) → Type 0
-AreReportsOf number [] [] = Unit {0}
-AreReportsOf number (problem ∷ problems) (report ∷ reports) =
-    IsReport number problem report × AreReportsOf (number + 1) problems reports
-AreReportsOf number problems reports = ⊥
+-- the reports of these problems in order, the first of which has this number, as the command asks for them
+abbrev pub AreReportsOf : asked.Command → ℕ → List PosedProblem → List (List ℕ) → Type 0
+AreReportsOf command number [] [] = Unit {0}
+AreReportsOf command number (problem ∷ problems) (report ∷ reports) =
+    IsReportIn command.mode command.workers number problem report × AreReportsOf command (number + 1) problems reports
+AreReportsOf command number problems reports = ⊥
 
 -- what was written of these reports: all of them, a part that is not the whole, or the first of them
 abbrev pub HasWritten : Result (Unit {0}) Fault → Option (List ℕ) → Option (List ℕ) → List (List ℕ) → Type 0
@@ -73,19 +68,20 @@ HasWritten (Err faults.Memory) old new reports = (count : ℕ) × Appends old ne
 HasWritten (Err fault) old new reports = ⊥
 
 -- the words keep the limits, and these are their reports
-pub record IsReported (grammar : Grammar) (algebra : ℕ) (words : List (List ℕ)) (reports : List (List ℕ)) : Type 0 where
+pub record IsReported (command : asked.Command) (grammar : Grammar) (algebra : ℕ) (words : List (List ℕ))
+    (reports : List (List ℕ)) : Type 0 where
   pub limits : KeepLimits grammar algebra words
-  pub reports_are : AreReports grammar algebra 1 words reports
+  pub reports_are : AreReports command grammar algebra 1 words reports
 
 -- how the words of a checked job were reported: one of them passes a limit and nothing was written, or it was written
 -- of their reports
-abbrev pub IsJobEnding : Grammar → ℕ → List (List ℕ) → Result (Unit {0}) Fault → Option (List ℕ) → Option (List ℕ)
-    → Type 0
-IsJobEnding grammar algebra words (Err (faults.Limit word fault)) old new =
+abbrev pub IsJobEnding : asked.Command → Grammar → ℕ → List (List ℕ) → Result (Unit {0}) Fault → Option (List ℕ)
+    → Option (List ℕ) → Type 0
+IsJobEnding command grammar algebra words (Err (faults.Limit word fault)) old new =
     IsFirstLimit grammar algebra 1 words word fault × Appends old new []
-IsJobEnding grammar algebra words (Err faults.Memory) old new =
+IsJobEnding command grammar algebra words (Err faults.Memory) old new =
     Appends old new []
-    ⊎ ((reports : List (List ℕ)) × IsReported grammar algebra words reports
+    ⊎ ((reports : List (List ℕ)) × IsReported command grammar algebra words reports
     × HasWritten (Err faults.Memory) old new reports)
-IsJobEnding grammar algebra words result old new =
-    (reports : List (List ℕ)) × IsReported grammar algebra words reports × HasWritten result old new reports
+IsJobEnding command grammar algebra words result old new =
+    (reports : List (List ℕ)) × IsReported command grammar algebra words reports × HasWritten result old new reports

@@ -1,7 +1,12 @@
-ghost use Rattle.std.specs.Prelude.{◌≡◌, ◌≤◌, map, length, IfErr, IfSome, IsErrOf};
+ghost use Rattle.std.specs.Prelude.{◌≡◌, ◌≤◌, ℕ, map, length, Some, IfErr, IfSome, IsErrOf};
 ghost use Rattle.std.specs.String.{string_bytes};
 ghost use Rattle.adp_model.specs.Verdict.{IsVerdict, greatest_length};
-ghost use Rattle.adp_main.specs.Commands.{IsCommandOf};
+ghost use Rattle.adp_model.specs.CheckableJobs.{AreCheckable};
+ghost use Rattle.adp_model.specs.Command.{ReadsJob};
+ghost use Rattle.adp_model.specs.declared.fault.LimitFault.{LimitFault};
+ghost use Rattle.adp_main.specs.Commands.{IsCommandOf, asked_command};
+ghost use Rattle.adp_main.specs.Posed.{posed_words};
+ghost use Rattle.adp_main.specs.RunNotes.{IsJobNoted, ShowsRuns};
 ghost use Rattle.adp_io.specs.Causes.{RisesWhere};
 ghost use Rattle.adp_io.specs.Streams.{SameTold};
 ghost use Rattle.adp_main.specs.Ending.{IsBeforeWriting, IsOfVerdict, OutputAfter, ShowsFirst, ShowsPart, ShowsVerdict};
@@ -15,19 +20,25 @@ use crate::limits::judge_words;
 use crate::words::Command;
 use crate::writing::write_words;
 use adp_io::Sink;
+use adp_model::laws::verdict::{asked_grammar_is_unique, command_is_unique};
+use evaluators::Gate;
 use report::Fault;
 use std::alloc::Global;
+use std::thread::Threads;
 
 /// Reads the job that the bytes spell, checks its grammar, judges its words, and writes their reports, each by one
-/// `write_whole`.
-pub(crate) fn answer_bytes<K: Sink>(
+/// `write_whole`. The gate is told of each run of evaluators.
+pub(crate) fn answer_bytes<R: Threads + Sync, K: Sink, G: Gate>(
+    rt: &R,
     alloc: Global,
     words: &[String],
     command: &Command,
     bytes: &[u8],
     out: &mut K,
+    gate: &mut G,
 ) -> Result<(), Fault>
     requires command { IsCommandOf (map string_bytes words.now) command.now }
+    requires reads { ReadsJob (asked_command command.now).mode }
     requires fits { length bytes.now ≤ greatest_length }
     ensures usage { IsErrOf result Fault.Usage → ⊥ }
     ensures read { IsErrOf result Fault.Read → ⊥ }
@@ -35,27 +46,47 @@ pub(crate) fn answer_bytes<K: Sink>(
     ensures short { IfErr result HasShortName }
     ensures fault { IfErr result (λ fault. IfSome (fault_verdict fault)
         (λ verdict. IsVerdict (map string_bytes words.now) bytes.now verdict)) }
+    ensures checkable { (word : ℕ) (limit : LimitFault) → IsErrOf result (Fault.Limit word limit)
+        → AreCheckable (map string_bytes words.now) bytes.now }
     ensures verdict { IsOfVerdict (status_after result) → ShowsVerdict (map string_bytes words.now) bytes.now
         (status_after result) (K.held out.old) (K.held out.new) }
     ensures part { IsErrOf result Fault.Write → ShowsPart (map string_bytes words.now) bytes.now
         (K.held out.old) (K.held out.new) }
     ensures first { IsErrOf result Fault.Memory → ShowsFirst (map string_bytes words.now) bytes.now
         (K.held out.old) (K.held out.new) }
+    ensures noted { ShowsRuns (map string_bytes words.now) (Some bytes.now) (status_after result)
+        (G.runs gate.old) (G.runs gate.new) (K.held out.old) (K.held out.new) }
 {
+    command_is_unique();
+    asked_grammar_is_unique();
     let job = checked_job(alloc, words, command, bytes)?;
-    write_job(alloc, &job, out)
+    job.checked.passes();
+    write_job(rt, alloc, command, &job, out, gate)
 }
 
 /// Writes the reports of the words of a checked job, where each word keeps the limits.
-fn write_job<K: Sink>(alloc: Global, job: &CheckedJob, out: &mut K) -> Result<(), Fault>
-    requires { length job.now.words ≤ 65536 }
+fn write_job<R: Threads + Sync, K: Sink, G: Gate>(
+    rt: &R,
+    alloc: Global,
+    command: &Command,
+    job: &CheckedJob,
+    out: &mut K,
+    gate: &mut G,
+) -> Result<(), Fault>
+    requires mode { ReadsJob (asked_command command.now).mode }
+    requires some { 1 ≤ (asked_command command.now).workers }
+    requires few_workers { (asked_command command.now).workers ≤ 32 }
+    requires few { length job.now.words ≤ 65536 }
     ensures told { SameTold (K.held out.old) (K.held out.new) }
     ensures faults { RisesWhere (K.faults out.old) (K.faults out.new) (status_after result ≡ WriteFault) }
     ensures untouched { IsBeforeWriting (status_after result) → out.new ≡ out.old }
-    ensures ending { IsJobEnding job.now.checked.grammar job.now.checked.algebra job.now.words result
+    ensures ending { IsJobEnding (asked_command command.now) job.now.checked.grammar job.now.checked.algebra job.now.words
+        result (K.held out.old) (K.held out.new) }
+    ensures noted { IsJobNoted (asked_command command.now) (posed_words job.now.checked.grammar
+        job.now.checked.algebra job.now.words) (status_after result) (G.runs gate.old) (G.runs gate.new)
         (K.held out.old) (K.held out.new) }
 {
     let words = job.words.as_slice();
     let rows = judge_words(alloc, &job.checked, words)?;
-    write_words(alloc, &job.checked, &rows, words, out)
+    write_words(rt, alloc, command, &job.checked, &rows, words, out, gate)
 }

@@ -1,6 +1,7 @@
 //! A job whose grammar passed its checks under the algebra that the command asks for.
 ghost use Rattle.std.specs.Prelude.{◌≡◌, ◌≤◌, map, length, IfOk, IfErr, IsTrue};
 ghost use Rattle.std.specs.String.{string_bytes};
+ghost use Rattle.adp_model.specs.Command.{ReadsJob};
 ghost use Rattle.adp_model.specs.Verdict.{asked_name, greatest_length};
 ghost use Rattle.adp_model.specs.WellFormed.{is_name, is_well_formed};
 ghost use Rattle.adp_main.specs.Commands.{IsCommandOf, asked_command};
@@ -30,8 +31,9 @@ pub(crate) fn checked_job(
     bytes: &[u8],
 ) -> Result<CheckedJob, Fault>
     requires command { IsCommandOf (map string_bytes words.now) command.now }
+    requires reads { ReadsJob (asked_command command.now).mode }
     requires fits { length bytes.now ≤ greatest_length }
-    ensures job { IfOk result (IsCheckedJob (map string_bytes words.now) bytes.now) }
+    ensures job { IfOk result (IsCheckedJob (map string_bytes words.now) bytes.now (asked_command command.now)) }
     ensures few_words { IfOk result (λ job. length job.words ≤ 65536) }
     ensures refusal { IfErr result (IsJobRefusal (map string_bytes words.now) bytes.now) }
 {

@@ -2,10 +2,13 @@
 #![tactic(auto)]
 
 mod answering;
+mod big;
 mod checked_job;
+mod evaluating;
 mod fault;
 mod limits;
 mod status;
+mod sweeping;
 mod top_call;
 mod words;
 mod writing;

@@ -5,7 +5,8 @@ ghost use Rattle.adp_model.specs.LimitFaults.{IsLimitFault};
 ghost use Rattle.adp_model.specs.ProblemFields.{IsAdmissible, KeepsLimits, most_letters};
 ghost use Rattle.grammar_check.specs.Admitted.{IsProblemOf};
 ghost use Rattle.grammar_check.specs.ToldRows.{AreRowsOf};
-ghost use Rattle.adp_main.specs.Reporting.{AreShort, IsLimitOf, posed_words};
+ghost use Rattle.adp_main.specs.Posed.{posed_words};
+ghost use Rattle.adp_main.specs.Reporting.{AreShort, IsLimitOf};
 
 use adp_model::laws::limits::limits_are_kept_or_passed;
 use adp_model::{LimitFault, Problem, Text};

@@ -1,34 +1,41 @@
 ghost use Rattle.std.specs.Prelude.{◌≡◌, ◌≤◌, map, length, IfErr, IfSome, IsErrOf, List, ℕ};
 ghost use Rattle.std.specs.String.{string_bytes};
 ghost use Rattle.adp_model.specs.Verdict.{IsVerdict};
-ghost use Rattle.adp_main.specs.Ending.{Ending, ShowsFault};
+ghost use Rattle.adp_main.specs.Ending.{Ending, IsInput, ShowsFault};
 ghost use Rattle.adp_main.specs.Faults.{fault_verdict, status_after};
 ghost use Rattle.report.specs.Faults.{HasShortName};
 
 use crate::answering::answer_bytes;
+use crate::big::answer_big;
 use crate::fault::{reading_fault, status_of};
 use crate::status::Status;
 use crate::words::read_words;
 use adp_io::{Sink, Source, read_job, write_whole};
+use adp_model::laws::verdict::{command_is_unique, verdict_is_unique};
+use evaluators::Gate;
 use report::{Fault, fault_line};
 use std::alloc::Global;
+use std::thread::Threads;
 
 /// Reads a job from `input` and writes the reports of its words to `out`, or the line of a fault to `err`. The words
-/// are those after the program's name.
-pub fn run<S: Source, K: Sink, E: Sink>(
+/// are those after the program's name. Evaluators run in threads where there are any; the gate is passed before each
+/// load of a record word of the table that they share, and told of each run whose report was written.
+pub fn run<R: Threads + Sync, S: Source, K: Sink, E: Sink, G: Gate>(
+    rt: &R,
     alloc: Global,
     words: &[String],
     input: &mut S,
     out: &mut K,
     err: &mut E,
+    gate: &mut G,
 ) -> Status
-    ensures ending { Ending S.left S.faults S.calls S.asked K.held K.faults (map string_bytes words.now)
-        input.old input.new out.old out.new result }
+    ensures ending { Ending S.left S.faults S.calls S.asked K.held K.faults G.runs (map string_bytes words.now)
+        input.old input.new out.old out.new gate.old gate.new result }
     ensures silent { result ≡ Status.Done → err.new ≡ err.old }
     ensures fault { (result ≡ Status.Done → ⊥) → ShowsFault (S.left input.old) (map string_bytes words.now) result
         (E.held err.old) (E.held err.new) (E.faults err.old) (E.faults err.new) }
 {
-    match answer(alloc, words, input, out) {
+    match answer(rt, alloc, words, input, out, gate) {
         Ok(()) => Status::Done,
         Err(fault) => {
             // A line that cannot be written changes nothing else.
@@ -38,23 +45,31 @@ pub fn run<S: Source, K: Sink, E: Sink>(
     }
 }
 
-/// Reads the job and writes its reports.
-fn answer<S: Source, K: Sink>(
+/// Reads the job and writes its reports, or writes the report of the word that is made.
+fn answer<R: Threads + Sync, S: Source, K: Sink, G: Gate>(
+    rt: &R,
     alloc: Global,
     words: &[String],
     input: &mut S,
     out: &mut K,
+    gate: &mut G,
 ) -> Result<(), Fault>
-    ensures ending { Ending S.left S.faults S.calls S.asked K.held K.faults (map string_bytes words.now)
-        input.old input.new out.old out.new (status_after result) }
+    ensures ending { Ending S.left S.faults S.calls S.asked K.held K.faults G.runs (map string_bytes words.now)
+        input.old input.new out.old out.new gate.old gate.new (status_after result) }
     ensures short { IfErr result HasShortName }
     ensures fault { IfErr result (λ fault. IfSome (fault_verdict fault)
-        (λ verdict. IfSome (S.left input.old) (λ bytes. IsVerdict (map string_bytes words.now) bytes verdict))) }
+        (λ verdict. (bytes : List ℕ) → IsInput (map string_bytes words.now) (S.left input.old) bytes
+        → IsVerdict (map string_bytes words.now) bytes verdict)) }
 {
+    command_is_unique();
+    verdict_is_unique();
     let command = read_words(words)?;
+    if !command.mode.reads_job() {
+        return answer_big(rt, alloc, &command, out, gate);
+    }
     let bytes = match read_job(alloc, input) {
         Ok(bytes) => bytes,
         Err(fault) => return Err(reading_fault(fault)),
     };
-    answer_bytes(alloc, words, &command, &bytes, out)
+    answer_bytes(rt, alloc, words, &command, &bytes, out, gate)
 }

@@ -1,12 +1,18 @@
-ghost use Rattle.std.specs.Prelude.{◌≡◌, ◌↔◌, ◌<◌, ◌+◌, ◌^◌, ℕ, map, None, IsOk, IfOk, IfSome, IfNone, OnErr, SomeIff};
+ghost use Rattle.std.specs.Prelude.{◌≡◌, ◌↔◌, ◌<◌, ◌^◌, ℕ, map, IsOk, IfOk, IsTrue, OnErr, SomeIff};
 ghost use Rattle.std.specs.String.{string_bytes};
 ghost use Rattle.std.specs.Str.Parse.{IsNumeral, digits_value};
-ghost use Rattle.adp_model.specs.Command.{HasCommand, IsValue, mode_word, option_word};
+ghost use Rattle.adp_model.specs.Command.{HasCommand, mode_word};
 ghost use Rattle.adp_model.specs.Command as asked;
 ghost use Rattle.adp_main.specs.declared.words.Settings.{Settings};
-ghost use Rattle.adp_main.specs.Commands.{Adds, AddsAlgebra, AddsSeed, AddsWorkers, IsCommandOf, mode_of};
+ghost use Rattle.adp_main.specs.Commands.{Adds, AddsAlgebra, AddsSeed, AddsSize, AddsWorkers, IsCommandOf, Suits, mode_of};
 
 use adp_model::is_name;
+
+/// The most workers.
+const MOST_WORKERS: u64 = 32;
+
+/// The greatest size of a word that is made.
+const GREATEST_SIZE: u64 = 2046;
 
 /// What the program is asked for.
 #[derive(Clone, Copy, Debug, PartialEq, Eq)]
@@ -15,16 +21,24 @@ pub enum Mode {
     Best,
     /// The report of each word, by one sweep.
     Serial,
+    /// The report of each word with the wins of its evaluators.
+    Wins,
+    /// The answer for a word that is made.
+    Big,
 }
 
-/// The words of the command line, read: the mode, the place of the algebra's name among the words where one is
-/// named, how many workers there are, the seed of their orders, and a size, which is 0 where the mode has none.
+/// What the words of the command line say.
 #[derive(Clone, Copy, Debug, PartialEq, Eq)]
 pub struct Command {
+    /// What is asked for.
     pub mode: Mode,
+    /// The place of the algebra's name among the words, where one is named.
     pub algebra: Option<usize>,
+    /// How many workers there are, 1 to 32.
     pub workers: u32,
+    /// The seed of the workers' orders.
     pub seed: u64,
+    /// The size of the word that is made, 1 to 2,046 for `Big`, or 0 where none is set.
     pub size: u32,
 }
 
@@ -38,7 +52,7 @@ pub fn read_words(words: &[String]) -> Result<Command, Usage>
     ensures taken { IsOk result ↔ HasCommand (map string_bytes words.now) }
     ensures command { IfOk result (IsCommandOf (map string_bytes words.now)) }
 {
-    /// A mode, and two words for each option.
+    // A mode, and two words for each option.
     if words.len() % 2 == 0 {
         return Err(Usage);
     }
@@ -47,18 +61,22 @@ pub fn read_words(words: &[String]) -> Result<Command, Usage>
         algebra: None,
         workers: None,
         seed: None,
+        size: None,
     };
     let mut place = words.len();
     while place > 1 {
         place -= 2;
         set = set.add(words[place].as_str(), words[place + 1].as_str(), place + 1)?;
     }
+    if !set.suits(mode) {
+        return Err(Usage);
+    }
     Ok(Command {
         mode,
         algebra: set.algebra,
         workers: set.workers.unwrap_or(1),
         seed: set.seed.unwrap_or(0),
-        size: 0,
+        size: set.size.unwrap_or(0),
     })
 }
 
@@ -66,13 +84,13 @@ fn read_mode(word: &str) -> Result<Mode, Usage>
     ensures known { IfOk result (λ mode. word.now ≡ mode_word (mode_of mode)) }
     ensures unknown { OnErr result ((mode : asked.Mode) → word.now ≡ mode_word mode → ⊥) }
 {
-    if word == "best" {
-        return Ok(Mode::Best);
+    match word {
+        "best" => Ok(Mode::Best),
+        "serial" => Ok(Mode::Serial),
+        "wins" => Ok(Mode::Wins),
+        "big" => Ok(Mode::Big),
+        _ => Err(Usage),
     }
-    if word == "serial" {
-        return Ok(Mode::Serial);
-    }
-    Err(Usage)
 }
 
 /// The values of the options that are set.
@@ -81,27 +99,25 @@ struct Settings {
     algebra: Option<usize>,
     workers: Option<u32>,
     seed: Option<u64>,
+    size: Option<u32>,
 }
 
 impl Settings {
     /// One more option with its value, which stands at this place among the words. It is an error where the option is
-    // set already.
+    /// set already.
     fn add(self, option: &str, value: &str, place: usize) -> Result<Settings, Usage>
         ensures added { IfOk result (λ after. (setting : asked.Setting)
             × Adds self option.now value.now place setting after) }
         ensures refused { OnErr result ((setting : asked.Setting) (after : Settings)
             → Adds self option.now value.now place setting after → ⊥) }
     {
-        if option == "--algebra" {
-            return self.add_algebra(value, place);
+        match option {
+            "--algebra" => self.add_algebra(value, place),
+            "--workers" => self.add_workers(value),
+            "--seed" => self.add_seed(value),
+            "--size" => self.add_size(value),
+            _ => Err(Usage),
         }
-        if option == "--workers" {
-            return self.add_workers(value);
-        }
-        if option == "--seed" {
-            return self.add_seed(value);
-        }
-        Err(Usage)
     }
 
     fn add_algebra(self, value: &str, place: usize) -> Result<Settings, Usage>
@@ -123,12 +139,10 @@ impl Settings {
             → AddsWorkers self value.now workers after → ⊥) }
     {
         match number(value) {
-            Some(workers) if self.workers.is_none() && 1 <= workers && workers <= 32 => {
-                Ok(Settings {
-                    workers: Some(workers as u32),
-                    ..self
-                })
-            }
+            Some(workers @ 1..=MOST_WORKERS) if self.workers.is_none() => Ok(Settings {
+                workers: Some(workers as u32),
+                ..self
+            }),
             _ => Err(Usage),
         }
     }
@@ -143,6 +157,29 @@ impl Settings {
                 ..self
             }),
             _ => Err(Usage),
+        }
+    }
+
+    fn add_size(self, value: &str) -> Result<Settings, Usage>
+        ensures added { IfOk result (λ after. (size : ℕ) × AddsSize self value.now size after) }
+        ensures refused { OnErr result ((size : ℕ) (after : Settings) → AddsSize self value.now size after → ⊥) }
+    {
+        match number(value) {
+            Some(size @ 1..=GREATEST_SIZE) if self.size.is_none() => Ok(Settings {
+                size: Some(size as u32),
+                ..self
+            }),
+            _ => Err(Usage),
+        }
+    }
+
+    /// Whether the mode allows the options that are set, and those that it needs are among them.
+    fn suits(self, mode: Mode) -> bool
+        ensures { IsTrue result ↔ Suits mode self }
+    {
+        match mode {
+            Mode::Best | Mode::Serial | Mode::Wins => self.size.is_none(),
+            Mode::Big => self.algebra.is_none() && self.size.is_some(),
         }
     }
 }

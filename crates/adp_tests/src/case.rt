@@ -1,27 +1,54 @@
 // One case: what the top call is given, what it has to give, and how the two differ.
 
+use crate::wins::without_wins;
 use adp_io::{MemSink, MemSource};
 use adp_main::run;
+use evaluators::OpenGate;
 use std::alloc::{AllocError, Global};
+use std::thread::Threads;
 
-/// What a run is given and what has to come of it. Bytes are read and written in pieces; calls that fail are told by
-/// their numbers from 0.
+/// How a sink takes what is written: the most bytes of a call, how many bytes it takes at all, and the calls that fail,
+/// by their numbers from 0.
+#[derive(Drop)]
+pub(crate) struct Taking {
+    pub(crate) piece: usize,
+    pub(crate) room: usize,
+    pub(crate) failing: Vec<u64>,
+}
+
+impl Taking {
+    fn new(alloc: Global, piece: usize, room: usize) -> Taking {
+        Taking {
+            piece,
+            room,
+            failing: Vec::new(alloc),
+        }
+    }
+
+    fn sink(&self, alloc: Global) -> Result<MemSink, AllocError> {
+        MemSink::new(alloc, self.room, self.piece.max(1), self.failing.clone()?)
+    }
+}
+
+/// What a run is given and what has to come of it, with each of some commands. Bytes are read and written in pieces;
+/// calls that fail are told by their numbers from 0. Where `winners` is set, each report has a line of the wins of so
+/// many evaluators, which `output` leaves out.
 #[derive(Drop)]
 pub(crate) struct Case {
     pub(crate) name: String,
-    pub(crate) words: Vec<String>,
+    pub(crate) commands: Vec<Vec<String>>,
     pub(crate) input: Vec<u8>,
     pub(crate) read_piece: usize,
     pub(crate) failing_reads: Vec<u64>,
-    pub(crate) write_piece: usize,
-    pub(crate) room: usize,
-    pub(crate) failing_writes: Vec<u64>,
+    pub(crate) writes: Taking,
+    pub(crate) error_writes: Taking,
     pub(crate) output: Vec<u8>,
     pub(crate) error: Vec<u8>,
     pub(crate) status: u8,
+    pub(crate) winners: Option<usize>,
 }
 
-/// The name of a case, and how its run differed: not at all where that is empty.
+/// The name of a case, and how its runs differed: not at all where that is empty.
 #[derive(Drop)]
 pub(crate) struct Outcome {
     pub(crate) name: String,
@@ -47,58 +74,90 @@ impl Outcome {
 }
 
 impl Case {
-    /// A case without words and bytes, which gives nothing and ends with status 0.
+    /// A case without commands and bytes, which gives nothing and ends with status 0.
     pub(crate) fn new(alloc: Global, name: &str) -> Result<Case, AllocError> {
         Ok(Case {
             name: String::from_str(alloc, name)?,
-            words: Vec::new(alloc),
+            commands: Vec::new(alloc),
             input: Vec::new(alloc),
             read_piece: 4096,
             failing_reads: Vec::new(alloc),
-            write_piece: 4096,
-            room: 16_777_216,
-            failing_writes: Vec::new(alloc),
+            writes: Taking::new(alloc, 4096, 16_777_216),
+            error_writes: Taking::new(alloc, 100, 100),
             output: Vec::new(alloc),
             error: Vec::new(alloc),
             status: 0,
+            winners: None,
         })
     }
 
-    /// Runs the case and compares.
-    pub(crate) fn outcome(self, alloc: Global) -> Result<Outcome, AllocError> {
-        let mut source = MemSource::new(self.input, self.read_piece.max(1), self.failing_reads);
-        let mut out = MemSink::new(
-            alloc,
-            self.room,
-            self.write_piece.max(1),
-            self.failing_writes,
-        )?;
-        let mut err = MemSink::new(alloc, 100, 100, Vec::new(alloc))?;
-        let status = run(alloc, &self.words, &mut source, &mut out, &mut err).number();
+    /// Runs the case with each command, or without words where there is none, and compares.
+    pub(crate) fn outcome<R: Threads + Sync>(
+        self,
+        rt: &R,
+        alloc: Global,
+    ) -> Result<Outcome, AllocError> {
         let mut difference = String::new(alloc);
-        if status != self.status {
-            push_difference(&mut difference, "status", &format!(in alloc; "{status}")?)?;
+        if self.commands.is_empty() {
+            self.compare(rt, alloc, &[], &mut difference)?;
         }
-        if out.bytes() != self.output.as_slice() {
-            push_difference(&mut difference, "output", &shown(alloc, out.bytes())?)?;
-        }
-        if err.bytes() != self.error.as_slice() {
-            push_difference(&mut difference, "error", &shown(alloc, err.bytes())?)?;
+        for words in &self.commands {
+            self.compare(rt, alloc, words, &mut difference)?;
         }
         Ok(Outcome {
             name: self.name,
             difference,
         })
     }
+
+    // Runs the case with these words, and appends how what came differs from what has to come.
+    fn compare<R: Threads + Sync>(
+        &self,
+        rt: &R,
+        alloc: Global,
+        words: &[String],
+        difference: &mut String,
+    ) -> Result<(), AllocError> {
+        let reads = self.failing_reads.clone()?;
+        let mut source = MemSource::new(self.input.clone()?, self.read_piece.max(1), reads);
+        let mut out = self.writes.sink(alloc)?;
+        let mut err = self.error_writes.sink(alloc)?;
+        let mut gate = OpenGate;
+        let status = run(rt, alloc, words, &mut source, &mut out, &mut err, &mut gate);
+        let status = status.number();
+        let is_same_output = match self.winners {
+            None => out.bytes() == self.output.as_slice(),
+            Some(winners) => without_wins(alloc, out.bytes(), winners)?.is_some_and(
+                |rest| rest.as_slice() == self.output.as_slice(),
+            ),
+        };
+        let is_same_error = err.bytes() == self.error.as_slice();
+        if status == self.status && is_same_output && is_same_error {
+            return Ok(());
+        }
+        for word in words {
+            difference.push_str(word.as_str())?;
+            difference.push_str(" ")?;
+        }
+        if status != self.status {
+            push_difference(difference, "status", &format!(in alloc; "{status}")?)?;
+        }
+        if !is_same_output {
+            push_difference(difference, "output", &shown(alloc, out.bytes())?)?;
+        }
+        if !is_same_error {
+            push_difference(difference, "error", &shown(alloc, err.bytes())?)?;
+        }
+        Ok(())
+    }
 }
 
 fn push_difference(difference: &mut String, what: &str, is: &String) -> Result<(), AllocError> {
-    if !difference.is_empty() {
-        difference.push_str(", ")?;
-    }
+    difference.push_str("(")?;
     difference.push_str(what)?;
     difference.push_str(" is ")?;
-    difference.push_str(is.as_str())
+    difference.push_str(is.as_str())?;
+    difference.push_str(") ")
 }
 
 // The bytes up to the first 300, with ` / ` for the end of a line.

@@ -5,18 +5,20 @@
 mod bytes;
 mod case;
 mod script;
+mod wins;
 
 use anyhow::{Context, Result};
 use std::fs;
 
 // The files of cases, in order.
-const FILES: [&str; 6] = [
+const FILES: [&str; 7] = [
     "first.cases",
     "commands.cases",
     "texts.cases",
     "grammars.cases",
     "answers.cases",
     "faults.cases",
+    "workers.cases",
 ];
 
 fn main(rt: HostRuntime) -> Result<()> {
@@ -24,7 +26,7 @@ fn main(rt: HostRuntime) -> Result<()> {
     let mut failed = 0u32;
     for file in FILES {
         let text = fs::read_to_string(&rt, file).context(file)?;
-        for outcome in script::outcomes(rt.alloc(), text.as_str())? {
+        for outcome in script::outcomes(&rt, rt.alloc(), text.as_str())? {
             if outcome.difference.is_empty() {
                 passed = passed.saturating_add(1);
                 println!(rt; "ok {}", outcome.name)?;

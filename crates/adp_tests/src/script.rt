@@ -3,6 +3,7 @@
 use crate::bytes::{push_numbered, push_text, push_times};
 use crate::case::{Case, Outcome};
 use std::alloc::{AllocError, Global};
+use std::thread::Threads;
 
 // Bytes with a name, which several cases begin with.
 #[derive(Drop)]
@@ -20,7 +21,11 @@ enum Open {
 }
 
 /// Runs the cases of a file, and tells how each ended.
-pub(crate) fn outcomes(alloc: Global, text: &str) -> Result<Vec<Outcome>, AllocError> {
+pub(crate) fn outcomes<R: Threads + Sync>(
+    rt: &R,
+    alloc: Global,
+    text: &str,
+) -> Result<Vec<Outcome>, AllocError> {
     let mut outcomes = Vec::new(alloc);
     let mut blocks: Vec<Block> = Vec::new(alloc);
     let mut open = Open::Nothing;
@@ -43,7 +48,7 @@ pub(crate) fn outcomes(alloc: Global, text: &str) -> Result<Vec<Outcome>, AllocE
                 match done {
                     Open::Nothing => {}
                     Open::Block(block) => blocks.push(block)?,
-                    Open::Case(case) => outcomes.push(case.outcome(alloc)?)?,
+                    Open::Case(case) => outcomes.push(case.outcome(rt, alloc)?)?,
                 }
             }
             _ => {
@@ -91,9 +96,16 @@ fn read_case_line(
     if let Some(form) = word.strip_prefix('!') {
         return push_form(alloc, &mut case.error, blocks, form, rest);
     }
-    if word == "words" {
-        push_words(alloc, &mut case.words, rest)?;
-        return Ok(true);
+    match word {
+        "words" => {
+            case.commands.push(command(alloc, rest)?)?;
+            return Ok(true);
+        }
+        "vary" => {
+            case.commands = varied(alloc, &case.commands, rest)?;
+            return Ok(true);
+        }
+        _ => {}
     }
     let Ok(number) = rest.parse::<u32>() else {
         return Ok(false);
@@ -102,20 +114,45 @@ fn read_case_line(
         "status" => case.status = u8::try_from(number).unwrap_or(255),
         "read" => case.read_piece = number as usize,
         "read-fails" => case.failing_reads.push(u64::from(number))?,
-        "write" => case.write_piece = number as usize,
-        "write-fails" => case.failing_writes.push(u64::from(number))?,
-        "room" => case.room = number as usize,
+        "write" => case.writes.piece = number as usize,
+        "write-fails" => case.writes.failing.push(u64::from(number))?,
+        "room" => case.writes.room = number as usize,
+        "error-write" => case.error_writes.piece = number as usize,
+        "error-write-fails" => case.error_writes.failing.push(u64::from(number))?,
+        "winners" => case.winners = Some(number as usize),
         _ => return Ok(false),
     }
     Ok(true)
 }
 
 // The words of a command, with one space between two.
-fn push_words(alloc: Global, words: &mut Vec<String>, rest: &str) -> Result<(), AllocError> {
+fn command(alloc: Global, rest: &str) -> Result<Vec<String>, AllocError> {
+    let mut words = Vec::new(alloc);
     for word in rest.split(' ') {
         words.push(String::from_str(alloc, word)?)?;
     }
-    Ok(())
+    Ok(words)
+}
+
+// Each command with a further option, once for each of its values.
+fn varied(
+    alloc: Global,
+    commands: &[Vec<String>],
+    option_and_values: &str,
+) -> Result<Vec<Vec<String>>, AllocError> {
+    let (option, values) = option_and_values
+        .split_once(' ')
+        .unwrap_or((option_and_values, ""));
+    let mut varied = Vec::new(alloc);
+    for command in commands {
+        for value in values.split(' ') {
+            let mut words = command.clone()?;
+            words.push(String::from_str(alloc, option)?)?;
+            words.push(String::from_str(alloc, value)?)?;
+            varied.push(words)?;
+        }
+    }
+    Ok(varied)
 }
 
 // Appends what a line spells: a text with its end, or in another form. Says whether there is such a form.

@@ -20,7 +20,7 @@ returns-in_err-checked-clause-refusal c =
     let same : c.new-name.result ≡ c.named_algebra-name.result.now = c.new-name.ensures ∙ c.in_ok-from_slice.ensures.items in
     rw (p.1, p.2)
     (grammar_refused _ c.args.bytes.now (asked_command c.args.command.now) job c.new-name.result c.check.result c.in_err-checked.field-0.0
-    (record { is_command = c.requires.command; short_enough = c.requires.fits; is_text = text })
+    (record { is_command = c.requires.command; reads = c.requires.reads; short_enough = c.requires.fits; is_text = text })
     (same ∙ c.named_algebra-name.ensures.asked)
     (rw same c.named_algebra-name.ensures.name)
     (record { short = c.names_are_short_and_printable.ensures.short; rules = c.parts_have_names.ensures.rules job.grammar job.well_formed; signs = c.parts_have_names.ensures.signs job.grammar job.well_formed })
@@ -32,7 +32,7 @@ returns-clause-job c =
     let text = is_text c.args.bytes.now job c.read_text.result c.read_text.ensures (gave_ok _ c.read_text.result job _ c.in_ok-job.ensures.variant c.in_ok-job.ensures.cases) in
     let same : c.new-name.result ≡ c.named_algebra-name.result.now = c.new-name.ensures ∙ c.in_ok-from_slice.ensures.items in
     let found = is_checked _ c.args.bytes.now (asked_command c.args.command.now) job c.new-name.result c.check.result c.in_ok-checked.checked
-    (record { is_command = c.requires.command; short_enough = c.requires.fits; is_text = text })
+    (record { is_command = c.requires.command; reads = c.requires.reads; short_enough = c.requires.fits; is_text = text })
     (same ∙ c.named_algebra-name.ensures.asked)
     c.check.ensures (gave_ok _ c.check.result c.in_ok-checked.checked _ c.in_ok-checked.ensures.variant c.in_ok-checked.ensures.cases) in
-    (job, found.0, found.1, (λ i. job.words))
+    (job, found.0, found.1, found.2, (λ i. job.words))

@@ -4,7 +4,7 @@ use Rattle.std.specs.List.{AllByRecursion}
 use Rattle.adp_model.specs.declared.fault.LimitFault.{LimitFault}
 use Rattle.adp_model.specs.LimitFaults.{IsLimitFault}
 use Rattle.adp_model.specs.ProblemFields.{IsAdmissible}
-use Rattle.adp_main.specs.Reporting.{posed_words}
+use Rattle.adp_main.specs.Posed.{posed_words}
 use Rattle.adp_main.proofs.FirstLimit.{first_limit, first_limit-more}
 use Rattle.adp_main.proofs.limits.judge_words.Goals as goal
 

@@ -2,7 +2,7 @@
 use Rattle.std.proofs.Common.{take}
 use Rattle.std.specs.List.{AllByRecursion}
 use Rattle.adp_model.specs.ProblemFields.{IsAdmissible}
-use Rattle.adp_main.specs.Reporting.{posed_words}
+use Rattle.adp_main.specs.Posed.{posed_words}
 use Rattle.adp_main.proofs.limits.judge_words.Given as goal
 
 abbrev pub invariant-loop-place : goal.invariant-loop-place

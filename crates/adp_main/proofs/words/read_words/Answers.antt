@@ -2,7 +2,7 @@ use Rattle.std.proofs.Common.{refl, arith}
 use Rattle.std.proofs.lemmas.List.{length-map}
 use Rattle.std.proofs.lemmas.Result.{err_from_is_err_and}
 use Rattle.std.specs.String.{string_bytes}
-use Rattle.adp_main.proofs.Options.{odd_words, stop, turn, finish}
+use Rattle.adp_main.proofs.Options.{odd_words, stop, turn, finish, refuse}
 use Rattle.adp_main.proofs.words.read_words.Goals as goal
 
 pub returns-then-words-eq0-clause-taken : goal.returns-then-words-eq0-clause-taken
@@ -16,25 +16,41 @@ returns-in_err-set-clause-taken c =
     let p = err_from_is_err_and c.from_residual-in_err-set.result c.from_residual-in_err-set.ensures.1 in
     rw p.1 (
       λ e. cc,
-      λ has. absurd (stop string_bytes c.args.words.now c.loop-place.place c.index-words-place.result c.index-words-place-in-loop-place.result _ _ c.loop-place.set
-          c.loop-place-test.true c.loop-place.invariant.odd c.loop-place.invariant.within c.index-words-place.is c.index-words-place-in-loop-place.is
-          c.as_str-in-loop-place.ensures.value c.as_str-in-loop-place-2.ensures.value c.loop-place.invariant.read c.in_err-set.ensures.refused has),
+      λ has. absurd (stop string_bytes c.args.words.now c.loop-place.place c.index-words-place.result
+          c.index-words-place-in-loop-place.result _ _ c.loop-place.set c.loop-place-test.true
+          c.loop-place.invariant.odd c.loop-place.invariant.within c.index-words-place.is
+          c.index-words-place-in-loop-place.is c.as_str-in-loop-place.ensures.value
+          c.as_str-in-loop-place-2.ensures.value c.loop-place.invariant.read c.in_err-set.ensures.refused has),
     )
 
 pub loop-place-preserved : goal.loop-place-preserved
 loop-place-preserved c = record {
   odd = omega (arith, c.loop-place.invariant.odd, c.loop-place-test.true);
   within = omega arith;
-  read = turn string_bytes c.args.words.now c.loop-place.place c.index-words-place.result c.index-words-place-in-loop-place.result _ _ c.loop-place.set _
-      c.loop-place-test.true c.loop-place.invariant.odd c.loop-place.invariant.within c.index-words-place.is c.index-words-place-in-loop-place.is
-      c.as_str-in-loop-place.ensures.value c.as_str-in-loop-place-2.ensures.value c.loop-place.invariant.read c.in_ok-set.ensures.added;
+  read = turn string_bytes c.args.words.now c.loop-place.place c.index-words-place.result
+      c.index-words-place-in-loop-place.result _ _ c.loop-place.set c.loop-place-test.true
+      c.loop-place.invariant.odd c.loop-place.invariant.within c.index-words-place.is
+      c.index-words-place-in-loop-place.is c.as_str-in-loop-place.ensures.value
+      c.as_str-in-loop-place-2.ensures.value c.loop-place.invariant.read _ c.in_ok-set.ensures.added;
 }
+
+pub returns-then-not-suits-clause-taken : goal.returns-then-not-suits-clause-taken
+returns-then-not-suits-clause-taken c = (
+  λ e. cc,
+  λ has. absurd (refuse string_bytes c.args.words.now c.index-words-0.result c.as_str.result.now c.in_ok-mode.mode
+      c.loop-place.place c.loop-place.set (omega (arith, c.if-words-eq0.false)) c.index-words-0.is
+      c.as_str.ensures.value c.in_ok-mode.ensures.known c.loop-place.invariant.odd c.loop-place-test.false
+      c.loop-place.invariant.read
+      (λ suits. let tested = c.suits.ensures.1 suits in let failed = c.if-not-suits.true in cc) has),
+)
 
 pub returns-clause-command : goal.returns-clause-command
 returns-clause-command c =
-    finish string_bytes c.args.words.now c.index-words-0.result c.as_str.result.now c.in_ok-mode.mode c.loop-place.place c.loop-place.set _ _
-    (omega (arith, c.if-words-eq0.false)) c.index-words-0.is c.as_str.ensures.value c.in_ok-mode.ensures.known c.loop-place.invariant.odd c.loop-place-test.false
-    c.loop-place.invariant.read c.unwrap_or.ensures c.unwrap_or-2.ensures
+    finish string_bytes c.args.words.now c.index-words-0.result c.as_str.result.now c.in_ok-mode.mode
+    c.loop-place.place c.loop-place.set (omega (arith, c.if-words-eq0.false)) c.index-words-0.is
+    c.as_str.ensures.value c.in_ok-mode.ensures.known c.loop-place.invariant.odd c.loop-place-test.false
+    c.loop-place.invariant.read (c.suits.ensures.0 c.if-not-suits.false) _ _ _ c.unwrap_or.ensures
+    c.unwrap_or-2.ensures c.unwrap_or-3.ensures
 
 pub returns-clause-taken : goal.returns-clause-taken
 returns-clause-taken c = (λ _. (_, returns-clause-command c), λ _. refl)

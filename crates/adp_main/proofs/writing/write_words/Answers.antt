@@ -1,40 +1,92 @@
-use Rattle.std.proofs.Common.{◌∙◌, sym, arith}
-use Rattle.std.proofs.lemmas.Bool.{false≢true}
+use Rattle.std.proofs.Common.{◌≡◌, ◌≤◌, ℕ, List, [], length, take, ◌∙◌, refl, sym, subst, arith}
+use Rattle.std.specs.List.{concat}
+use Rattle.std.proofs.KnownBytes.{Appends-nil}
+use Rattle.std.proofs.lemmas.List.{length-map, take_all}
 use Rattle.std.proofs.lemmas.Result.{err_from_is_err_and}
-use Rattle.adp_main.specs.Reporting.{posed_words}
+use Rattle.adp_model.specs.PosedProblem.{PosedProblem}
+use Rattle.adp_main.specs.Commands.{asked_command}
+use Rattle.adp_main.specs.Posed.{posed_words}
+use Rattle.adp_main.specs.Reporting.{AreReportsOf}
 use Rattle.adp_main.proofs.FirstLimit.{admissible-at, posed_at}
-use Rattle.adp_main.proofs.Written.{on_err, on_ok, stopped, one_more, grew_more, broken}
+use Rattle.adp_main.proofs.Running.{adds_none, adds_more, all_noted, failed_noted, failed_written, one_more_run, run_reports}
+use Rattle.adp_main.proofs.Written.{grew_more}
 use Rattle.adp_main.proofs.writing.write_words.Goals as goal
 
 pub admitted-problem-requires-clause-limits : goal.admitted-problem-requires-clause-limits
 admitted-problem-requires-clause-limits g c =
-    (admissible-at c.args.checked.now.grammar c.args.checked.now.algebra c.args.words.now c.loop-place.place c.index-words-place.result (omega (arith, c.loop-place-test.true)) c.index-words-place.is c.requires.admissible).limits
+    (admissible-at c.args.checked.now.grammar c.args.checked.now.algebra c.args.words.now c.loop-place.place
+    c.index-words-place.result (omega (arith, c.loop-place-test.true)) c.index-words-place.is c.requires.admissible).limits
 
-pub returns-in_err-report-clause-written : goal.returns-in_err-report-clause-written
-returns-in_err-report-clause-written g c =
+pub returns-in_err-write_word-clause-written : goal.returns-in_err-write_word-clause-written
+returns-in_err-write_word-clause-written g c =
     let p = err_from_is_err_and c.from_residual.result c.from_residual.ensures.1 in
-    let w = c.loop-place.invariant.written in
-    rw (p.1, p.2) (stopped c.words_have_reports.ensures (posed_words c.args.checked.now.grammar c.args.checked.now.algebra c.args.words.now) c.loop-place.place c.requires.admissible w.0 w.1 _ _ w.2)
+    let command = asked_command c.args.command.now in
+    let problems = posed_words c.args.checked.now.grammar c.args.checked.now.algebra c.args.words.now in
+    let w = c.loop-place.invariant.ran in
+    let at = posed_at c.args.checked.now.grammar c.args.checked.now.algebra c.args.words.now c.loop-place.place
+    c.index-words-place.result c.admitted-problem.result (omega (arith, c.loop-place-test.true)) c.index-words-place.is
+    c.admitted-problem.ensures in
+    rw (p.1, p.2) (failed_written command
+    (λ number q admissible. c.words_have_reports.ensures command.mode command.workers number q c.requires.mode
+    c.requires.some admissible)
+    problems c.requires.admissible c.loop-place.place w.0 w.1 w.2 _ _ _ _ _ _ w.3 w.4 c.admitted-problem.result at.0 at.1
+    c.in_err-write_word.field-0.0 c.in_err-write_word.ensures.ending)
 
-pub returns-then-is_err-clause-written : goal.returns-then-is_err-clause-written
-returns-then-is_err-clause-written g c =
-    let w = c.loop-place.invariant.written in
-    let at = posed_at c.args.checked.now.grammar c.args.checked.now.algebra c.args.words.now c.loop-place.place c.index-words-place.result c.admitted-problem.result (omega (arith, c.loop-place-test.true)) c.index-words-place.is c.admitted-problem.ensures in
-    broken c.words_have_reports.ensures (posed_words c.args.checked.now.grammar c.args.checked.now.algebra c.args.words.now) c.loop-place.place c.admitted-problem.result at.0 at.1
-    c.requires.admissible w.0 w.1 c.in_ok-report.report.items c.deref.result.now c.in_ok-report.ensures c.deref.ensures.value _ _ _ w.2
-    (on_err c.write_whole.result (sym c.is_err.ensures.value ∙ c.if-is_err.true) c.write_whole.ensures.part)
+pub returns-in_err-write_word-clause-noted : goal.returns-in_err-write_word-clause-noted
+returns-in_err-write_word-clause-noted g c =
+    let p = err_from_is_err_and c.from_residual.result c.from_residual.ensures.1 in
+    let command = asked_command c.args.command.now in
+    let problems = posed_words c.args.checked.now.grammar c.args.checked.now.algebra c.args.words.now in
+    let w = c.loop-place.invariant.ran in
+    rw (p.1, p.2) (failed_noted command
+    (λ number q admissible. c.words_have_reports.ensures command.mode command.workers number q c.requires.mode
+    c.requires.some admissible)
+    problems c.requires.admissible c.loop-place.place w.0 w.1 w.2 _ _ _ _ _ _ w.3 w.4 c.admitted-problem.result
+    c.in_err-write_word.field-0.0 c.in_err-write_word.ensures.ending)
 
 pub loop-place-preserved : goal.loop-place-preserved
 loop-place-preserved g c =
-    let w = c.loop-place.invariant.written in
-    let ok = sym c.is_err.ensures.value ∙ c.if-is_err.false in
-    let at = posed_at c.args.checked.now.grammar c.args.checked.now.algebra c.args.words.now c.loop-place.place c.index-words-place.result c.admitted-problem.result (omega (arith, c.loop-place-test.true)) c.index-words-place.is c.admitted-problem.ensures in
+    let w = c.loop-place.invariant.ran in
+    let e = c.in_ok-write_word.ensures.ending in
+    let at = posed_at c.args.checked.now.grammar c.args.checked.now.algebra c.args.words.now c.loop-place.place
+    c.index-words-place.result c.admitted-problem.result (omega (arith, c.loop-place-test.true)) c.index-words-place.is
+    c.admitted-problem.ensures in
     record {
-      told = c.write_whole.ensures.told ∙ c.loop-place.invariant.told;
-      faults = c.write_whole.ensures.faults.stands (λ failed. false≢true (sym ok ∙ failed)) ∙ c.loop-place.invariant.faults;
-      written = (
+      told = c.in_ok-write_word.ensures.told ∙ c.loop-place.invariant.told;
+      faults = c.in_ok-write_word.ensures.faults.stands (λ failed. cc) ∙ c.loop-place.invariant.faults;
+      ran = (
         _,
-        one_more (posed_words c.args.checked.now.grammar c.args.checked.now.algebra c.args.words.now) c.loop-place.place c.admitted-problem.result at.0 at.1 w.0 w.1 c.in_ok-report.report.items c.in_ok-report.ensures,
-        grew_more w.0 c.in_ok-report.report.items c.deref.result.now c.deref.ensures.value _ _ _ w.2 (on_ok c.write_whole.result ok c.write_whole.ensures.whole),
+        _,
+        one_more_run (asked_command c.args.command.now)
+            (posed_words c.args.checked.now.grammar c.args.checked.now.algebra c.args.words.now) c.loop-place.place
+            c.admitted-problem.result at.0 at.1 w.0 w.1 w.2 e.0 e.1 e.2,
+        adds_more _ _ _ w.1 e.1 w.3 e.3,
+        grew_more w.0 e.0 e.0 refl _ _ _ w.4 e.4,
       );
     }
+
+pub returns-clause-written : goal.returns-clause-written
+returns-clause-written g c =
+    let w = c.loop-place.invariant.ran in
+    let problems = posed_words c.args.checked.now.grammar c.args.checked.now.algebra c.args.words.now in
+    let number : length problems ≡ length c.args.words.now = length-map c.args.words.now _ in
+    let all : length problems ≤ c.loop-place.place = omega (arith, number, c.loop-place-test.false) in (
+      w.0,
+      subst (λ (ps : List PosedProblem). AreReportsOf (asked_command c.args.command.now) 1 ps w.0)
+          (take_all c.loop-place.place problems all)
+          (run_reports (asked_command c.args.command.now) 1 _ w.0 w.1 w.2),
+      w.4,
+    )
+
+pub returns-clause-noted : goal.returns-clause-noted
+returns-clause-noted g c =
+    let command = asked_command c.args.command.now in
+    let w = c.loop-place.invariant.ran in
+    let problems = posed_words c.args.checked.now.grammar c.args.checked.now.algebra c.args.words.now in
+    let number : length problems ≡ length c.args.words.now = length-map c.args.words.now _ in
+    let all : length problems ≤ c.loop-place.place = omega (arith, number, c.loop-place-test.false) in
+    all_noted command
+    (λ number q admissible. c.words_have_reports.ensures command.mode command.workers number q c.requires.mode
+    c.requires.some admissible)
+    problems c.requires.admissible c.loop-place.place w.0 w.1 w.2 _ _ (g.G.Gate.runs c.loop-place.gate) _ _
+    (g.K.Sink.held c.loop-place.out) w.3 w.4 all

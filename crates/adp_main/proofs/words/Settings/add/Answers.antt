@@ -1,30 +1,34 @@
-use Rattle.std.proofs.Common.{codes, refl, ◌≡◌}
-use Rattle.std.specs.Cmp.Lexicographic.{same_text}
-use Rattle.adp_model.specs.Command.{Algebra, Workers, Seed}
-use Rattle.adp_main.proofs.Options.{added_if, refused_if, not_workers, not_seed}
+use Rattle.std.proofs.Common.{refl}
+use Rattle.adp_model.specs.Command.{Algebra, Workers, Seed, Size}
+use Rattle.adp_main.proofs.Options.{added_if, refused_if, not_workers, not_seed, not_size}
 use Rattle.adp_main.proofs.words.Settings.add.Goals as goal
 
-pub returns-then-eq-clause-added : goal.returns-then-eq-clause-added
-returns-then-eq-clause-added c =
-    let is : c.args.option.now ≡ codes "--algebra" = same_text _ _ (cc) in
-    added_if c.add_algebra.result _ _ (λ after adds. (Algebra c.args.place, (is, refl, adds))) c.add_algebra.ensures.added
+pub returns-in-text-clause-added : goal.returns-in-text-clause-added
+returns-in-text-clause-added c =
+    added_if c.add_algebra.result _ _ (λ after adds. (Algebra c.args.place, (c.in-text.is, refl, adds)))
+    c.add_algebra.ensures.added
 
-pub returns-then-eq-2-clause-added : goal.returns-then-eq-2-clause-added
-returns-then-eq-2-clause-added c =
-    let is : c.args.option.now ≡ codes "--workers" = same_text _ _ (cc) in
-    added_if c.add_workers.result _ _ (λ after adds. (Workers adds.0, (is, adds.1))) c.add_workers.ensures.added
+pub returns-in-text-2-clause-added : goal.returns-in-text-2-clause-added
+returns-in-text-2-clause-added c =
+    added_if c.add_workers.result _ _ (λ after adds. (Workers adds.0, (c.in-text-2.is, adds.1)))
+    c.add_workers.ensures.added
 
-pub returns-then-eq-2-clause-refused : goal.returns-then-eq-2-clause-refused
-returns-then-eq-2-clause-refused c =
-    let is : c.args.option.now ≡ codes "--workers" = same_text _ _ (cc) in
-    refused_if c.add_workers.result _ _ (λ refuses. not_workers _ _ _ _ is refuses) c.add_workers.ensures.refused
+pub returns-in-text-2-clause-refused : goal.returns-in-text-2-clause-refused
+returns-in-text-2-clause-refused c =
+    refused_if c.add_workers.result _ _ (not_workers _ _ _ _ c.in-text-2.is) c.add_workers.ensures.refused
 
-pub returns-then-eq-3-clause-added : goal.returns-then-eq-3-clause-added
-returns-then-eq-3-clause-added c =
-    let is : c.args.option.now ≡ codes "--seed" = same_text _ _ (cc) in
-    added_if c.add_seed.result _ _ (λ after adds. (Seed adds.0, (is, adds.1))) c.add_seed.ensures.added
+pub returns-in-text-3-clause-added : goal.returns-in-text-3-clause-added
+returns-in-text-3-clause-added c =
+    added_if c.add_seed.result _ _ (λ after adds. (Seed adds.0, (c.in-text-3.is, adds.1))) c.add_seed.ensures.added
 
-pub returns-then-eq-3-clause-refused : goal.returns-then-eq-3-clause-refused
-returns-then-eq-3-clause-refused c =
-    let is : c.args.option.now ≡ codes "--seed" = same_text _ _ (cc) in
-    refused_if c.add_seed.result _ _ (λ refuses. not_seed _ _ _ _ is refuses) c.add_seed.ensures.refused
+pub returns-in-text-3-clause-refused : goal.returns-in-text-3-clause-refused
+returns-in-text-3-clause-refused c =
+    refused_if c.add_seed.result _ _ (not_seed _ _ _ _ c.in-text-3.is) c.add_seed.ensures.refused
+
+pub returns-in-text-4-clause-added : goal.returns-in-text-4-clause-added
+returns-in-text-4-clause-added c =
+    added_if c.add_size.result _ _ (λ after adds. (Size adds.0, (c.in-text-4.is, adds.1))) c.add_size.ensures.added
+
+pub returns-in-text-4-clause-refused : goal.returns-in-text-4-clause-refused
+returns-in-text-4-clause-refused c =
+    refused_if c.add_size.result _ _ (not_size _ _ _ _ c.in-text-4.is) c.add_size.ensures.refused

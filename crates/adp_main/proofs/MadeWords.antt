@@ -1,0 +1,90 @@
+-- The word that is made: its grammar has no fault, its length is its size, and what is reported of it.
+use Rattle.std.proofs.Common.{◌≡◌, Option, Result, Err, ℕ, zero, suc, ◌<◌, ◌≤◌, List, [], ◌∷◌, ℤ, length, codes, refl, sym, ap, subst, ◌∙◌, arith}
+use Rattle.adp_model.specs.declared.cell.Answer.{Answer}
+use Rattle.adp_model.specs.declared.cell.Answer.TheVariants.{NoCandidate, Best}
+use Rattle.adp_model.specs.declared.cell.Choice.{Choice}
+use Rattle.adp_model.specs.declared.fault.GrammarFault.{GrammarFault}
+use Rattle.adp_model.specs.declared.grammar.Grammar.{Grammar}
+use Rattle.adp_model.specs.Answers.{IsAnswer}
+use Rattle.adp_model.specs.BigReport.{big_lines, letter_of, made_problem, made_word, next_state, pairs_grammar, IsBigReport}
+use Rattle.adp_model.specs.Command.{Command}
+use Rattle.adp_model.specs.Demand.{IsDemandedCount}
+use Rattle.adp_model.specs.Derivation.{Derives}
+use Rattle.adp_model.specs.GrammarFaults.{HasOtherTerm, IsFaultless, IsGrammarFault, IsNamed, NoAlgebra, Unproductive, Loop, NotMonotone}
+use Rattle.adp_model.specs.PosedProblem.{PosedProblem, axiom_cell}
+use Rattle.adp_model.specs.Tree.{Tree}
+use Rattle.evaluators.specs.declared.finished.RunNote.{RunNote}
+use Rattle.report.specs.declared.fault.Fault.{Fault}
+use Rattle.report.specs.declared.fault.Fault.TheVariants as faults
+use Rattle.adp_io.specs.Streams.{AppendsProperPrefix}
+use Rattle.adp_main.specs.Making.{IsBigEnding}
+use Rattle.adp_main.specs.RunNotes.{IsNoteFor}
+use Rattle.adp_main.specs.Writing.{IsReportWritten}
+
+pub made_length : (seed size : ℕ) → length (made_word seed size) ≡ size
+made_length seed zero = refl
+made_length seed (suc size) = ap suc (made_length (next_state seed) size)
+
+-- there is one algebra
+only_algebra : (name : List ℕ) (algebra : ℕ) → IsNamed pairs_grammar name algebra → algebra ≡ 0
+only_algebra name algebra named = omega (arith, named.in_range)
+
+pub first_algebra : (name : List ℕ) (algebra : ℕ) → IsFaultless pairs_grammar name algebra → algebra ≡ 0
+first_algebra name algebra sound = only_algebra name algebra sound.named
+
+pub no_fault : (name : List ℕ) (fault : GrammarFault) → IsFaultless pairs_grammar name 0
+    → IsGrammarFault pairs_grammar name fault → ⊥
+no_fault name fault sound (NoAlgebra none) = none 0 sound.named
+no_fault name fault sound (Unproductive other rule named first) = first.faulty (sound.productive rule first.in_range)
+no_fault name fault sound (Loop other rule named productive first) = sound.no_loop rule first.in_range first.faulty
+no_fault name fault sound (NotMonotone other sign named productive off first) =
+    subst (λ n. HasOtherTerm pairs_grammar n sign) (only_algebra name other named) first.faulty
+    (sound.monotone sign first.in_range)
+
+-- the problem of the word under the checked grammar
+pub problem_is : (problem : PosedProblem) (grammar : Grammar) (algebra seed size : ℕ) (word : List ℕ)
+    → problem ≡ record { grammar = grammar; algebra = algebra; word = word } → grammar ≡ pairs_grammar → algebra ≡ 0
+    → word ≡ made_word seed size → problem ≡ made_problem seed size
+problem_is problem grammar algebra seed size word is g a w =
+    is ∙ (λ i. record { grammar = g i; algebra = a i; word = w i })
+
+-- a word that is made has a candidate
+pub has_candidate : (p : PosedProblem) (seed size : ℕ) → p ≡ made_problem seed size
+    → (tree : Tree) × Derives (made_problem seed size) (axiom_cell (made_problem seed size)) tree
+    → (answer : Answer) → IsAnswer p (axiom_cell p) answer → answer ≡ NoCandidate → ⊥
+has_candidate p seed size is tree answer answered none =
+    let there = subst (λ it. IsAnswer (made_problem seed size) (axiom_cell (made_problem seed size)) it) none
+    (subst (λ (q : PosedProblem). IsAnswer q (axiom_cell q) answer) is answered) in
+    there tree.0 tree.1
+
+-- its report
+pub is_report : (p : PosedProblem) (seed size : ℕ) → p ≡ made_problem seed size → (score : ℤ) (choice : Choice)
+    → IsAnswer p (axiom_cell p) (Best score choice) → (cells : ℕ) → IsDemandedCount p cells → (report : List ℕ)
+    → report ≡ big_lines size score cells → IsBigReport seed size report
+is_report p seed size is score choice answered cells counted report lines =
+    let made = made_problem seed size in
+    let there = subst (λ (q : PosedProblem). IsAnswer q (axiom_cell q) (Best score choice)) is answered in (
+      there.0,
+      cells,
+      there.1,
+      subst (λ (q : PosedProblem). IsDemandedCount q cells) is counted,
+      lines ∙ ap (λ it. big_lines size it cells) there.2,
+    )
+
+pub note_is : (command : Command) (p : PosedProblem) (seed size : ℕ) → p ≡ made_problem seed size → (note : RunNote)
+    → IsNoteFor command p note → IsNoteFor command (made_problem seed size) note
+note_is command p seed size is note for = subst (λ (q : PosedProblem). IsNoteFor command q note) is for
+
+-- its report was not written whole
+pub unwritten_made : (command : Command) (report bytes : List ℕ) → IsBigReport command.seed command.size report
+    → bytes ≡ report → (fault : Fault) (runs : Option (List RunNote)) (held held' : Option (List ℕ))
+    → IsReportWritten (Err fault) held held' bytes → IsBigEnding command (Err fault) runs runs held held'
+unwritten_made command report bytes is same faults.Write runs held held' part =
+    (refl, report, is, subst (AppendsProperPrefix held held') same part)
+unwritten_made command report bytes is same faults.Usage runs held held' h = absurd h
+unwritten_made command report bytes is same faults.Read runs held held' h = absurd h
+unwritten_made command report bytes is same faults.TooLong runs held held' h = absurd h
+unwritten_made command report bytes is same (faults.Text fault) runs held held' h = absurd h
+unwritten_made command report bytes is same (faults.Grammar fault) runs held held' h = absurd h
+unwritten_made command report bytes is same (faults.Limit word fault) runs held held' h = absurd h
+unwritten_made command report bytes is same faults.Memory runs held held' h = absurd h

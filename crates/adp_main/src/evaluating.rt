@@ -1,0 +1,70 @@
+//! Reports by evaluators that share a table.
+ghost use Rattle.std.specs.Prelude.{◌≡◌, ◌++◌, IfOk, MatchBool};
+ghost use Rattle.adp_model.specs.Command.{ReadsJob};
+ghost use Rattle.adp_model.specs.Command as asked;
+ghost use Rattle.adp_model.specs.Report.{wins_line};
+ghost use Rattle.evaluators.specs.Runs.{IsFinished};
+ghost use Rattle.adp_main.specs.Commands.{asked_command, mode_of};
+ghost use Rattle.adp_main.specs.Writing.{IsReportOfRun};
+
+use crate::words::{Command, Mode};
+use adp_model::Problem;
+use evaluators::Finished;
+use report::{Outcome, push_wins, word_report};
+use std::alloc::{AllocError, Global};
+use traceback::preorder;
+
+impl Mode {
+    /// Whether words are answered by evaluators, and not by one sweep.
+    pub(crate) fn runs_evaluators(self) -> bool
+        ensures { MatchBool result (mode_of self ≡ asked.Serial → ⊥) (mode_of self ≡ asked.Serial) }
+    {
+        match self {
+            Mode::Serial => false,
+            Mode::Best | Mode::Wins | Mode::Big => true,
+        }
+    }
+
+    /// Whether a job is read, and no word made.
+    pub(crate) fn reads_job(self) -> bool
+        ensures { MatchBool result (ReadsJob (mode_of self)) (mode_of self ≡ asked.Big) }
+    {
+        match self {
+            Mode::Big => false,
+            Mode::Best | Mode::Serial | Mode::Wins => true,
+        }
+    }
+}
+
+/// The report of a word, with the wins of its evaluators where the mode tells them.
+pub(crate) fn evaluated_report(
+    alloc: Global,
+    command: &Command,
+    number: u32,
+    problem: &Problem<'_>,
+    finished: &Finished<'_>,
+) -> Result<Vec<u8>, AllocError>
+    requires mode { ReadsJob (asked_command command.now).mode }
+    requires finished { IsFinished problem.now (asked_command command.now).seed finished.now }
+    ensures { IfOk result (λ report. IsReportOfRun (asked_command command.now).mode number problem.now finished.now report.items) }
+{
+    let nodes = preorder(alloc, problem, &finished.closed)?;
+    let outcome = Outcome {
+        answer: finished.answer,
+        nodes,
+        cells: finished.closed.len(),
+    };
+    let report = word_report(alloc, number, problem, &outcome)?;
+    match command.mode {
+        Mode::Wins => with_wins(report, &finished.wins),
+        Mode::Best | Mode::Serial | Mode::Big => Ok(report),
+    }
+}
+
+/// The report with the line of the wins behind it.
+fn with_wins(mut report: Vec<u8>, wins: &[u64]) -> Result<Vec<u8>, AllocError>
+    ensures { IfOk result (λ whole. whole.items ≡ report.items ++ wins_line wins.now) }
+{
+    push_wins(&mut report, wins)?;
+    Ok(report)
+}

@@ -1,0 +1,27 @@
+//! Reports by one sweep over the demanded cells.
+ghost use Rattle.std.specs.Prelude.{◌≡◌, IfOk};
+ghost use Rattle.adp_model.specs.Report.{IsReport};
+
+use adp_model::{Problem, axiom_answer};
+use report::{Outcome, word_report};
+use seq_reference::solve;
+use std::alloc::{AllocError, Global};
+use traceback::preorder;
+
+/// The report of a word.
+pub(crate) fn swept_report(
+    alloc: Global,
+    number: u32,
+    problem: &Problem<'_>,
+) -> Result<Vec<u8>, AllocError>
+    ensures { IfOk result (λ report. IsReport number problem.now report.items) }
+{
+    let solved = solve(alloc, problem)?;
+    let nodes = preorder(alloc, problem, &solved)?;
+    let outcome = Outcome {
+        answer: axiom_answer(problem, &solved),
+        nodes,
+        cells: solved.cells(),
+    };
+    word_report(alloc, number, problem, &outcome)
+}
