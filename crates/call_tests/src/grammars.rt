@@ -7,7 +7,11 @@ use std::test::Fail;
 use yield_sizes::cell_bound;
 
 /// The job's grammar, checked under its first algebra, and the words.
-fn checked(rt: &impl Abort, alloc: Global, job: Job) -> Result<(Checked, Vec<Text>), Fail> {
+pub(crate) fn checked(
+    rt: &impl Abort,
+    alloc: Global,
+    job: Job,
+) -> Result<(Checked, Vec<Text>), Fail> {
     let algebras = job.grammar.algebras.as_slice();
     assert!(rt; !algebras.is_empty());
     let name = Text::new(Vec::from_slice(alloc, algebras[0].name.bytes())?);

@@ -10,6 +10,12 @@ mod grammars;
 #[cfg(test)]
 mod jobs;
 #[cfg(test)]
+mod machines;
+#[cfg(test)]
+mod made;
+#[cfg(test)]
+mod runs;
+#[cfg(test)]
 mod streams;
 #[cfg(test)]
 mod terms;
