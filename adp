@@ -16,16 +16,19 @@ adp: the best score of a word under a tree grammar, and the first tree that has 
 usage: adp MODE [OPTION VALUE].. [--explain] [FILE]..
 
 modes
-  best               the report of each word of the job
-  serial             the same reports, by one sweep over each word
+  best               the report of each word of the job, by evaluators that share one table
+  serial             the same bytes, by one sweep over each word
+  wins               as best, and behind each report how many answers each evaluator put into the table
+  big                a word that is made from seed and size: its size, best score and cells; reads no job
 
 options, in any order, each at most once
-  --algebra NAME     the algebra that scores; the first of the job where none is named
+  --algebra NAME     the algebra that scores; the first of the job where none is named; not of big
   --workers N        how many evaluators, 1 to 32; 1 where nothing is said
-  --seed N           the seed of their visiting orders, below 2^64; 0 where nothing is said
+  --seed N           the seed of their visiting orders, and of the word of big, below 2^64; 0 where nothing is said
+  --size N           how many letters are made, 1 to 2046; of big, which needs it
 
-Each FILE is a job, run in its turn; `-`, or no file, is standard input. The status is that of the first run that did
-not end with 0; after a faulty command or a failed output no further file is run.
+Each FILE is a job, run in its turn; `-`, or no file, is standard input, which big doesn't read. The status is that of
+the first run that did not end with 0; after a faulty command or a failed output no further file is run.
 
 of the launcher
   --explain          tells behind a fault's line what is wrong, where, and what to do
@@ -305,7 +308,8 @@ tick() {
 
 # (not while a job is typed)
 begin_time() {
-  [ -t 2 ] && [ ! -t 0 ] || return 0
+  [ -t 2 ] || return 0
+  [ ! -t 0 ] || [ "${words[0]-}" = big ] || return 0
   tick $BASHPID </dev/null >/dev/null &
   ticker=$!
 }

@@ -1,4 +1,4 @@
-"""Jobs of adp from Python: `solve` runs the program, and gives its reports as objects.
+"""Jobs of adp from Python: `solve` runs the program, and gives its reports as objects; `solve_big` needs no job.
 
     from adp import solve
 
@@ -84,12 +84,14 @@ class _Mark(str):
 
 @dataclass
 class Report:
-    """What is said of a word: its number, from 1; the best score and the first tree of it, or None; its cells."""
+    """What is said of a word: its number, from 1; the best score and the first tree of it, or None; its cells; and by
+    the mode `wins` how many answers each evaluator put into the table."""
 
     word: int
     score: int | None
     tree: Node | None
     cells: int
+    wins: list[int] | None = None
 
 
 def quoted(letters):
@@ -122,19 +124,23 @@ def read_tree(text):
 
 def read_reports(text):
     """The reports of what the program wrote, one after the other."""
-    lines = iter(text.splitlines())
+    lines = iter([*text.splitlines(), None])
 
     def behind(front, line):
         if line is None or not line.startswith(front + " "):
             raise Malformed(f"no report: {front!r} should stand where {str(line)[:60]!r} does")
         return line[len(front) + 1 :]
 
-    for line in lines:
+    line = next(lines)
+    while line is not None:
         word, second = int(behind("word", line)), next(lines, None)
-        score = tree = None
+        score = tree = wins = None
         if second != "none":
             score, tree = int(behind("score", second)), read_tree(behind("tree", next(lines, None)))
-        yield Report(word, score, tree, int(behind("cells", next(lines, None))))
+        cells, line = int(behind("cells", next(lines, None))), next(lines, None)
+        if line is not None and line.startswith("wins"):
+            wins, line = [int(number) for number in behind("wins", line).split(" ")], next(lines, None)
+        yield Report(word, score, tree, cells, wins)
 
 
 def write_job(*, signs, algebras, rules, words=(), classes=None, grammar=None):
@@ -164,14 +170,29 @@ def find_program():
 
 
 def solve(job=None, *, mode="best", algebra=None, program=None, workers=None, seed=None, **parts):
-    """The reports of a job, which is a text, or is made of its parts (see `write_job`). A fault is raised."""
+    """The reports of a job, which is a text, or is made of its parts (see `write_job`). A fault is raised. The mode is one
+    that reads a job: 'best', 'serial' or 'wins'."""
     if (job is None) == (not parts):
         raise TypeError("a job is a text, or is given by its parts")
-    words = [program or find_program(), mode]
-    for name, value in (("--algebra", algebra), ("--workers", workers), ("--seed", seed)):
-        words += [] if value is None else [name, str(value)]
     text = write_job(**parts) if job is None else job
+    options = {"algebra": algebra, "workers": workers, "seed": seed}
+    return list(read_reports(_written(program, mode, options, text)))
+
+
+def solve_big(size, *, seed=None, workers=None, program=None):
+    """The best score and the number of cells of a word of this size that is made from a seed. A fault is raised."""
+    lines = _written(program, "big", {"size": size, "seed": seed, "workers": workers}, "").splitlines()
+    told = dict(line.split(" ", 1) for line in lines)
+    if list(told) != ["size", "score", "cells"]:
+        raise Malformed(f"no report of a word that is made: {lines!r}")
+    return int(told["score"]), int(told["cells"])
+
+
+def _written(program, mode, options, text):
+    words = [program or find_program(), mode]
+    for name, value in options.items():
+        words += [] if value is None else ["--" + name, str(value)]
     ran = subprocess.run(words, input=text.encode(), capture_output=True, check=False)
     if ran.returncode != 0:
         raise Fault(ran.stderr.decode(errors="replace").strip(), ran.returncode)
-    return list(read_reports(ran.stdout.decode()))
+    return ran.stdout.decode()

@@ -18,8 +18,9 @@ BEGIN {
   for (code = 1; code < 256; code++) code_of[sprintf("%c", code)] = code
   HEX = "0123456789ABCDEF"
   said_words = split("class sign algebra let rule grammar words", KEYWORDS, " ")
-  split("best serial", MODES, " ")
-  split("--algebra --workers --seed", OPTIONS, " ")
+  split("best serial wins big", MODES, " ")
+  said_options = split("--algebra --workers --seed --size", OPTIONS, " ")
+  MODES_IN_WORDS = "best, serial, wins or big"
   count = split(fault, part, " ")
   if (part[1] != "fault") exit
   if (part[2] == "text" && part[3] == "line") explain_text(part[4] + 0, part[6] + 0, part[8])
@@ -1384,27 +1385,47 @@ function is_score(sign, name,    j) {
 
 # ---- The command
 
-function explain_usage(    i, words, word, value, given, near) {
+function explain_usage(    i, words, word, given, is_told) {
   words = "adp"
   for (i = 1; i < ARGC; i++) words = words " " ARGV[i]
   print ""
   print bold "The command: " printed(words) plain
   word = ARGV[1]
-  if (ARGC == 1) tell("The first word is the mode: best or serial, as in `adp best " (name_of_job == \
+  if (ARGC == 1) tell("The first word is the mode: " MODES_IN_WORDS ", as in `adp best " (name_of_job == \
       "standard input" ? "FILE" : name_of_job) "`.")
-  else if (word != MODES[1] && word != MODES[2]) tell_mode(word)
+  else if (!is_one_of(word, MODES)) tell_mode(word)
   else {
-    for (i = 2; i < ARGC; i += 2) if (tell_option(ARGV[i], i + 1 < ARGC, ARGV[i + 1], given)) break
+    for (i = 2; i < ARGC && !is_told; i += 2) is_told = tell_option(word, ARGV[i], i + 1 < ARGC, ARGV[i + 1], given)
+    if (!is_told) tell_lacking_option(word, given)
   }
   tell_row("fault usage")
+}
+
+function is_one_of(word, list,    i) {
+  for (i in list) if (list[i] == word) return 1
+  return 0
 }
 
 function tell_mode(word,    near) {
   near = nearest(word, MODES)
   if (near != "") tell("The mode " quoted(word) " is none: is " quoted(near) " meant?")
-  else if (word ~ /^-/) tell(quoted(word) " stands first, where the mode has to be: best or serial. Options follow it.")
+  else if (word ~ /^-/) tell(quoted(word) " stands first, where the mode has to be: " MODES_IN_WORDS ". Options " \
+      "follow it.")
   else if (is_file(word)) tell("The mode stands before the file: adp best " printed(word))
-  else tell("The first word is the mode, best or serial, and not " quoted(word) ".")
+  else tell("The first word is the mode, " MODES_IN_WORDS ", and not " quoted(word) ".")
+}
+
+# Tells which option a mode needs and lacks.
+function tell_lacking_option(mode, given) {
+  if (mode == "big" && !("--size" in given)) tell("The mode big needs a size, which says how many letters are made: " \
+      "as `--size 400`.")
+}
+
+# Why a mode doesn't take an option; nothing where it does.
+function refusal(mode, option) {
+  if (option == "--algebra" && mode == "big") return "The mode big has an algebra of its own, and takes no --algebra."
+  if (option == "--size" && mode != "big") return "The option --size is of the mode big alone: a job has its own words."
+  return ""
 }
 
 function is_file(path,    line, got) {
@@ -1414,23 +1435,24 @@ function is_file(path,    line, got) {
 }
 
 # Tells what is wrong with an option and its value; 0 where nothing is.
-function tell_option(word, has_value, value, given,    near, most) {
+function tell_option(mode, word, has_value, value, given,    near, least, most) {
   if (word !~ /^--/) {
     if (word ~ /^-[a-z]/) {
       near = "--algebra"
-      for (most = 1; most <= 3; most++) if (index(OPTIONS[most], "-" word) == 1) near = OPTIONS[most]
+      for (most = said_options; most; most--) if (index(OPTIONS[most], "-" word) == 1) near = OPTIONS[most]
       tell(quoted(word) " is no option: options have two dashes and a whole word, as " near ".")
     }
     else tell(quoted(word) " is no file that is there, and no option: options begin with `--`.")
     return 1
   }
   if (word ~ /=/ ) { tell(quoted(word) ": a space stands between an option and its value, and no `=`."); return 1 }
-  if (word != OPTIONS[1] && word != OPTIONS[2] && word != OPTIONS[3]) {
+  if (!is_one_of(word, OPTIONS)) {
     near = nearest(word, OPTIONS)
-    tell(quoted(word) " is no option" (near == "" ? ": there are --algebra, --workers and --seed." : ": is " near \
-        " meant?"))
+    tell(quoted(word) " is no option: " (near == "" ? "there are --algebra, --workers, --seed and --size." : "is " \
+        near " meant?"))
     return 1
   }
+  if (refusal(mode, word) != "") { tell(refusal(mode, word)); return 1 }
   if (word in given) { tell("The option " word " stands twice."); return 1 }
   given[word] = 1
   if (!has_value) { tell("The option " word " has no value behind it."); return 1 }
@@ -1440,13 +1462,13 @@ function tell_option(word, has_value, value, given,    near, most) {
         "and `_`.")
     return 1
   }
-  most = word == "--workers" ? "32" : "18446744073709551615"
   if (!is_digits(value) && is_file(value)) { tell("The option " word " lacks its value: the file " quoted(value) \
       " stands in its place."); return 1 }
+  least = word == "--seed" ? 0 : 1
+  most = word == "--workers" ? "32" : word == "--size" ? "2046" : "18446744073709551615"
   if (!is_digits(value)) { tell("The value of " word " is digits alone, and not " quoted(value) "."); return 1 }
-  if (is_more(value, most) || (word == "--workers" && value + 0 == 0)) {
-    tell("The value of " word " lies between " (word == "--workers" ? 1 : 0) " and " most ", and is not " \
-        quoted(value) ".")
+  if (is_more(value, most) || value + 0 < least) {
+    tell("The value of " word " lies between " least " and " most ", and is not " quoted(value) ".")
     return 1
   }
   return 0
@@ -1455,6 +1477,6 @@ function tell_option(word, has_value, value, given,    near, most) {
 # Faults of reading, writing and memory.
 function explain_run() {
   print ""
-  print bold name_of_job ":" plain
+  print bold (ARGV[1] == "big" ? "adp big" : name_of_job) ":" plain
   tell_row(fault)
 }

@@ -39,10 +39,11 @@ __attribute__((constructor)) static void begin(void) {
 
 /* Whether this call, of the sort that fails, is one that does. */
 static int fails(void) {
-  calls++;
-  if (calls < first_failing || (calls > first_failing && !fails_after))
+  /* (threads call, too) */
+  long call = __atomic_add_fetch(&calls, 1, __ATOMIC_SEQ_CST);
+  if (call < first_failing || (call > first_failing && !fails_after))
     return 0;
-  if (calls == first_failing)
+  if (call == first_failing)
     syscall(SYS_write, (int)told, "", 1);
   return 1;
 }

@@ -1,4 +1,15 @@
-# Completion of `adp` for bash: modes, options, algebras of the job that is named, and files.
+# Completion of `adp` for bash: modes, options of the mode, algebras of the job that is named, and files.
+_adp_options() {
+  local word
+  for word in "${COMP_WORDS[@]:1}"; do
+    case $word in
+      big) echo '--workers --seed --size --explain'; return ;;
+      best | serial | wins) break ;;
+    esac
+  done
+  echo '--algebra --workers --seed --explain'
+}
+
 _adp() {
   local word=${COMP_WORDS[COMP_CWORD]} before=${COMP_WORDS[COMP_CWORD - 1]} job
   COMPREPLY=()
@@ -12,14 +23,14 @@ _adp() {
       return
       ;;
     --workers) mapfile -t COMPREPLY < <(compgen -W '1 2 4 8 16 32' -- "$word"); return ;;
-    --seed) return ;;
+    --seed | --size) return ;;
   esac
   if [ "$COMP_CWORD" = 1 ]; then
-    mapfile -t COMPREPLY < <(compgen -W 'best serial --explain --version --help' -- "$word")
+    mapfile -t COMPREPLY < <(compgen -W 'best serial wins big --explain --version --help' -- "$word")
   elif [ "${word#-}" != "$word" ]; then
-    mapfile -t COMPREPLY < <(compgen -W '--algebra --workers --seed --explain' -- "$word")
+    mapfile -t COMPREPLY < <(compgen -W "$(_adp_options)" -- "$word")
   elif [[ $before == --explain && $COMP_CWORD == 2 ]]; then
-    mapfile -t COMPREPLY < <(compgen -W 'best serial' -- "$word")
+    mapfile -t COMPREPLY < <(compgen -W 'best serial wins big' -- "$word")
   else
     compopt -o filenames 2>/dev/null
     mapfile -t COMPREPLY < <(compgen -f -- "$word")
