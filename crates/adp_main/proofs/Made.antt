@@ -56,7 +56,7 @@ module _ (words : List (List ℕ)) (command : Command) (is : IsCommand words com
     };
     part = λ e. cc;
     first = λ e. cc;
-    noted = λ _. inr (inr (record {
+    noted = λ _. inr (inr (refl, record {
       command = command;
       is_command = is;
       makes = makes;

@@ -93,10 +93,10 @@ pub record RunOfMade (words : List (List ℕ)) (old new : Option (List RunNote))
   pub noted : AddsNotes old new (note ∷ [])
 
 -- what a run with this status told its gate: nothing, which is not done then; notes of the words of the job that its
--- input spells; or the note of the word that is made
+-- input spells; or, where it is done, the note of the word that is made
 abbrev pub ShowsRuns : List (List ℕ) → Option (List ℕ) → Status → Option (List RunNote) → Option (List RunNote)
     → Option (List ℕ) → Option (List ℕ) → Type 0
 ShowsRuns words left status old new held held' =
     ((new ≡ old) × (status ≡ Done → ⊥))
     ⊎ (((bytes : List ℕ) × IfSome left (λ told. bytes ≡ told) × RunsOfJob words bytes status old new held held')
-    ⊎ RunOfMade words old new)
+    ⊎ ((status ≡ Done) × RunOfMade words old new))

@@ -80,8 +80,8 @@ fn write_job<R: Threads + Sync, K: Sink, G: Gate>(
     ensures told { SameTold (K.held out.old) (K.held out.new) }
     ensures faults { RisesWhere (K.faults out.old) (K.faults out.new) (status_after result ≡ WriteFault) }
     ensures untouched { IsBeforeWriting (status_after result) → out.new ≡ out.old }
-    ensures ending { IsJobEnding (asked_command command.now) job.now.checked.grammar job.now.checked.algebra job.now.words
-        result (K.held out.old) (K.held out.new) }
+    ensures ending { IsJobEnding (asked_command command.now) job.now.checked.grammar job.now.checked.algebra
+        job.now.words result (K.held out.old) (K.held out.new) }
     ensures noted { IsJobNoted (asked_command command.now) (posed_words job.now.checked.grammar
         job.now.checked.algebra job.now.words) (status_after result) (G.runs gate.old) (G.runs gate.new)
         (K.held out.old) (K.held out.new) }

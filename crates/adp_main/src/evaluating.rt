@@ -46,7 +46,8 @@ pub(crate) fn evaluated_report(
 ) -> Result<Vec<u8>, AllocError>
     requires mode { ReadsJob (asked_command command.now).mode }
     requires finished { IsFinished problem.now (asked_command command.now).seed finished.now }
-    ensures { IfOk result (λ report. IsReportOfRun (asked_command command.now).mode number problem.now finished.now report.items) }
+    ensures { IfOk result (λ report. IsReportOfRun (asked_command command.now).mode number problem.now finished.now
+        report.items) }
 {
     let nodes = preorder(alloc, problem, &finished.closed)?;
     let outcome = Outcome {

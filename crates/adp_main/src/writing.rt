@@ -52,7 +52,8 @@ pub(crate) fn write_words<R: Threads + Sync, K: Sink, G: Gate>(
     ensures told { SameTold (K.held out.old) (K.held out.new) }
     ensures faults { RisesWhere (K.faults out.old) (K.faults out.new) (status_after result ≡ WriteFault) }
     ensures written { (reports : List (List ℕ))
-        × AreReportsOf (asked_command command.now) 1 (posed_words checked.now.grammar checked.now.algebra words.now) reports
+        × AreReportsOf (asked_command command.now) 1
+            (posed_words checked.now.grammar checked.now.algebra words.now) reports
         × HasWritten result (K.held out.old) (K.held out.new) reports }
     ensures noted { AreNoted (asked_command command.now)
         (posed_words checked.now.grammar checked.now.algebra words.now) (status_after result)

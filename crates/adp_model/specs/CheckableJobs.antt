@@ -1,5 +1,5 @@
--- Command lines and bytes whose grammar, where it has no fault, has sizes and ranks: that is what the checks of a grammar
--- find, so it holds wherever these come to an end.
+-- Command lines and bytes whose grammar, where it has no fault, has sizes and ranks: that is what the checks of a
+-- grammar find, so it holds wherever these come to an end.
 use Rattle.std.specs.Prelude.{ℕ, Option, List}
 use Rattle.adp_model.specs.declared.job.Job.{Job}
 use Rattle.adp_model.specs.Checks.{IsChecked}

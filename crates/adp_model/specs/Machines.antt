@@ -37,9 +37,10 @@ pub record MachineState (Notes Probe : Type 0) : Type 0 where
 
 -- ---- visits
 
--- how far a frame's visit has come. `Known` are the cells that the pass knows, `Noted` those that the machine noted, and
--- `sought` is the cell that is being looked up or was opened from this frame, where there is one
-pub record IsVisit (p : PosedProblem) (Known Noted : Cell → Type 0) (sought : Option Cell) (visit : Visit) : Type 0 where
+-- how far a frame's visit has come. `Known` are the cells that the pass knows, `Noted` those that the machine noted,
+-- and `sought` is the cell that is being looked up or was opened from this frame, where there is one
+pub record IsVisit (p : PosedProblem) (Known Noted : Cell → Type 0) (sought : Option Cell)
+    (visit : Visit) : Type 0 where
   pub walk : IsWalk p visit
   -- the frame's cell isn't known to the pass
   pub not_known : Known visit.cell → ⊥
@@ -110,7 +111,8 @@ module _ {Pass Probe : Type 0} (memo : Meaning Pass Probe) where
 
   -- where an answer is there, it is that of the top frame's cell, whose demanded children are all noted, and no look is
   -- being made
-  abbrev pub IsReady : PosedProblem → (Cell → Type 0) → Option Answer → Option (Hand Probe) → List (Frame Probe) → Type 0
+  abbrev pub IsReady : PosedProblem → (Cell → Type 0) → Option Answer → Option (Hand Probe) → List (Frame Probe)
+      → Type 0
   IsReady p Noted None hand frames = Unit {0}
   IsReady p Noted (Some answer) hand [] = ⊥
   IsReady p Noted (Some answer) hand (top ∷ below) =
@@ -120,16 +122,16 @@ module _ {Pass Probe : Type 0} (memo : Meaning Pass Probe) where
   -- ---- machines
 
   -- a machine that goes on
-  pub record IsGoing (p : PosedProblem) (Noted : Cell → Type 0) (hand : Option (Hand Probe)) (frames : List (Frame Probe))
-      (ready : Option Answer) (pass : Pass) : Type 0 where
+  pub record IsGoing (p : PosedProblem) (Noted : Cell → Type 0) (hand : Option (Hand Probe))
+      (frames : List (Frame Probe)) (ready : Option Answer) (pass : Pass) : Type 0 where
     pub demanded : IsDemanded p (axiom_cell p)
     pub visits : AreFrames p (memo.known pass) Noted (sought_by hand) frames
     pub in_hand : (it : Hand Probe) → hand ≡ Some it → IsInHand pass it
     pub probes : AreProbes ready pass frames
     pub ready_is : IsReady p Noted ready hand frames
 
-  -- a machine that has ended: nothing is left, and the pass knows the axiom's cell, whose score the machine keeps, or no
-  -- cell is demanded
+  -- a machine that has ended: nothing is left, and the pass knows the axiom's cell, whose score the machine keeps, or
+  -- no cell is demanded
   pub record IsAtEnd (p : PosedProblem) (hand : Option (Hand Probe)) (frames : List (Frame Probe)) (score : Option ℤ)
       (pass : Pass) : Type 0 where
     pub no_hand : hand ≡ None

@@ -20,8 +20,8 @@ step_bound m arguments = (arguments + 1) * probe_steps m + 4 * m
 abbrev pub is_cell : Cell → Cell → Bool
 is_cell cell other = nat_eq cell.rule other.rule && (nat_eq cell.from other.from && nat_eq cell.to other.to)
 
--- the argument is still to be looked up: where its cell is a frame's, the frame's visit has still to come to it; where it
--- is no frame's, the pass doesn't know it, and it may be opened yet
+-- the argument is still to be looked up: where its cell is a frame's, the frame's visit has still to come to it; where
+-- it is no frame's, the pass doesn't know it, and it may be opened yet
 abbrev pub is_left : {Probe : Type 0} → PosedProblem → (Cell → Bool) → List (Frame Probe) → SplitArgument → Bool
 is_left p knows [] argument = not (knows argument.cell)
 is_left p knows (frame ∷ below) argument =
@@ -32,7 +32,8 @@ is_left p knows (frame ∷ below) argument =
 abbrev pub left_of : {Probe : Type 0} → PosedProblem → (Cell → Bool) → List (Frame Probe) → List SplitArgument → ℕ
 left_of p knows frames arguments = count_by (is_left p knows frames) arguments
 
-module _ {Pass Probe : Type 0} (memo : Meaning Pass Probe) (p : PosedProblem) (m : ℕ) (arguments : List SplitArgument) where
+module _ {Pass Probe : Type 0} (memo : Meaning Pass Probe) (p : PosedProblem) (m : ℕ)
+    (arguments : List SplitArgument) where
   -- those of the look that is being made; where nothing has begun, those of the look for the axiom's cell
   abbrev pub steps_at_hand : Option (Hand Probe) → List (Frame Probe) → ℕ
   steps_at_hand None [] = probe_steps m
@@ -47,8 +48,8 @@ module _ {Pass Probe : Type 0} (memo : Meaning Pass Probe) (p : PosedProblem) (m
       steps_at_hand hand frames + sum_by (λ (frame : Frame Probe). memo.remaining m frame.probe) frames
       + probe_steps m * left_of p (is_known memo pass) frames arguments
 
--- the remaining bound of a machine and a pass, where m cells are demanded and `arguments` are all rule arguments of their
--- viable splits
+-- the remaining bound of a machine and a pass, where m cells are demanded and `arguments` are all rule arguments of
+-- their viable splits
 abbrev pub remaining_bound : {Notes Pass Probe : Type 0} → Meaning Pass Probe → ℕ → List SplitArgument
     → MachineState Notes Probe → Pass → ℕ
 remaining_bound memo m arguments machine pass =

@@ -4,8 +4,8 @@ use crate::steps::Steps;
 use std::sync::ledger::Ledger;
 
 /// A memo of the answers of a problem's demanded cells, shared by those who have a pass. Each step of a probe is one
-/// step on one word of the memo. An answer is put once, by an exchange of its cell's record word from 0, and then stays.
-/// None of the calls takes memory.
+/// step on one word of the memo. An answer is put once, by an exchange of its cell's record word from 0, and then
+/// stays. None of the calls takes memory.
 pub trait Memo {
     ghost use Rattle.std.specs.Prelude.{◌≡◌, ◌≢◌, ◌↔◌, ℕ, ◌+◌, ◌*◌, ◌<◌, ◌≤◌, ◌⊎◌, Bool, true};
     ghost use Rattle.adp_model.specs.declared.cell.Cell.{Cell};

@@ -26,9 +26,9 @@ pub fn asked_grammar_is_unique()
         → AsksUnder words bytes b n → m ≡ n }
 {}
 
-/// A command line and bytes have one verdict, where the grammar of the bytes has sizes and ranks if it has no fault; but
-/// reports that tell the wins of evaluators may tell others. Where the verdict are reports there is no fault; that no word
-/// passes a limit needs sizes and ranks.
+/// A command line and bytes have one verdict, where the grammar of the bytes has sizes and ranks if it has no fault;
+/// but reports that tell the wins of evaluators may tell others. Where the verdict are reports there is no fault; that
+/// no word passes a limit needs sizes and ranks.
 pub fn verdict_is_unique()
     ensures same { (words : List (List ℕ)) (bytes : List ℕ) → AreCheckable words bytes → (a b : Verdict)
         → IsVerdict words bytes a → IsVerdict words bytes b → (a ≡ b) ⊎ AreOfWins words a b }
