@@ -6,7 +6,7 @@ use Rattle.adp_model.specs.declared.visit.Hand.{Hand}
 use Rattle.adp_model.specs.declared.visit.Frame.{Frame}
 use Rattle.adp_model.specs.PosedProblem.{PosedProblem, axiom_cell}
 use Rattle.adp_model.specs.Demand.{IsDemanded}
-use Rattle.adp_model.specs.Memos.{Meaning}
+use Rattle.adp_model.specs.Memos.{Meaning, IsOnRecordWord}
 use Rattle.adp_model.specs.Machines.{MachineState}
 use Rattle.cell_tables.specs.Noted.{Notes, IsNoted}
 use Rattle.rand_pcg.specs.Lcg.{Lcg}
@@ -63,3 +63,14 @@ loads_at memo fresh false None None = fresh
 
 abbrev pub next_loads : {Pass Probe : Type 0} → Meaning Pass Probe → Bool → MachineState (Option Notes) Probe → Bool
 next_loads memo fresh machine = loads_at memo fresh machine.ended machine.hand machine.ready
+
+-- the cell for which the next step looks, where it is a step of a look
+abbrev pub looked_for : {Probe : Type 0} → PosedProblem → Option (Hand Probe) → Option Answer → Option Cell
+looked_for p (Some hand) ready = Some hand.cell
+looked_for p None (Some answer) = None
+looked_for p None None = Some (axiom_cell p)
+
+-- a step that looked for this cell loaded its record word exactly where that was told
+abbrev pub LoadsAsTold : {Pass Probe : Type 0} → Meaning Pass Probe → Pass → Option Cell → Bool → Type 0
+LoadsAsTold memo pass None told = told ≡ false
+LoadsAsTold memo pass (Some cell) told = (told ≡ true) ↔ ((found : ℕ) × IsOnRecordWord memo pass cell found)

@@ -10,7 +10,7 @@ ghost use Rattle.adp_model.specs.Machines.{IsMachine};
 ghost use Rattle.adp_model.specs.StepBound.{step_bound, remaining_bound};
 ghost use Rattle.cell_core.specs.Working.{IsTurn};
 ghost use Rattle.cell_core.specs.FrameChanges.{standing, ChangesFrames, GainsWins};
-ghost use Rattle.cell_core.specs.MachineViews.{IsNotedIn, IsFresh, next_loads};
+ghost use Rattle.cell_core.specs.MachineViews.{IsNotedIn, IsFresh, LoadsAsTold, looked_for, next_loads};
 
 use crate::cell_notes::CellNotes;
 use crate::work::{Turn, Work, fresh_work, make_step};
@@ -112,6 +112,9 @@ impl<'a, M: Memo> Machine<'a, M> {
             (standing self.old.machine.frames self.old.machine.opened self.old.orders)
             (standing self.new.machine.frames self.new.machine.opened self.new.orders) }
         ensures turn { IsTurn self.new.machine.ended self.new.machine.score result }
+        ensures loads { self.old.machine.ended ≡ false → LoadsAsTold M.meaning pass.new
+            (looked_for self.old.machine.problem self.old.machine.hand self.old.machine.ready)
+            (next_loads M.meaning (M.fresh_loads memo.now) self.old.machine) }
         ensures bound { self.old.machine.ended ≡ false → (m : ℕ) (arguments : List SplitArgument)
             → IsDemandedCount self.old.machine.problem m → AreRuleArguments self.old.machine.problem arguments
             → remaining_bound M.meaning m arguments self.new.machine pass.new

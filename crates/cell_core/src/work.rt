@@ -6,11 +6,12 @@ ghost use Rattle.adp_model.specs.Demand.{IsDemanded, IsDemandedCount};
 ghost use Rattle.adp_model.specs.SplitArguments.{SplitArgument, AreRuleArguments};
 ghost use Rattle.adp_model.specs.StepsMade.{steps_made};
 ghost use Rattle.adp_model.specs.Visits.{IsWalk};
-ghost use Rattle.adp_model.specs.Memos.{IsScoreOf, StayKnown};
+ghost use Rattle.adp_model.specs.Memos.{IsOnRecordWord, IsScoreOf, StayKnown};
 ghost use Rattle.adp_model.specs.Machines.{IsUnderWay};
 ghost use Rattle.rand_pcg.specs.Lcg.{Lcg};
 ghost use Rattle.random_orders.specs.Draws.{drawn_turns};
 ghost use Rattle.cell_core.specs.Working.{all_frames, with_hand, with_top, IsSound, IsOpened, IsClosed, IsFreshWork, work_left};
+ghost use Rattle.cell_core.specs.MachineViews.{loads_at, looked_for, LoadsAsTold};
 ghost use Rattle.cell_core.specs.FrameChanges.{standing, turn_bounds, ChangesFrames, GainsWins};
 
 use crate::notes::Notes;
@@ -108,6 +109,8 @@ fn first_look<M: Memo, N: Notes>(
     requires no_answer { work.now.ready ≡ None }
     requires fresh { work.now.top ≡ None }
     requires sound { IsSound M.meaning problem.now (N.noted notes.now) work.now pass.now }
+    ensures cell { result.cell ≡ axiom_cell problem.now }
+    ensures loads { M.meaning.loads result.probe ≡ M.fresh_loads memo.now }
     ensures sound { IsSound M.meaning problem.now (N.noted notes.now) (with_hand work.now result) pass.now }
     ensures lower { (m : ℕ) (arguments : List SplitArgument) → IsDemandedCount problem.now m
         → work_left M.meaning problem.now m arguments (with_hand work.now result) pass.now
@@ -235,6 +238,8 @@ fn look<M: Memo, N: Notes, L: Ledger>(
         (standing (all_frames work.new) work.new.opened orders.new) }
     ensures next { (work.new.hand ≡ None) → work.new.ended ≡ false → work.new.top ≢ None }
     ensures no_answer { work.new.ready ≡ None }
+    ensures loads { (M.meaning.loads hand.probe ≡ true)
+        ↔ ((found : ℕ) × IsOnRecordWord M.meaning pass.new hand.cell found) }
     ensures steps { steps_made steps.new ≡ steps_made steps.old + 1 }
     ensures sound { IsSound M.meaning problem.now (N.noted notes.new) work.new pass.new }
     ensures lower { (m : ℕ) (arguments : List SplitArgument) → IsDemandedCount problem.now m
@@ -413,6 +418,8 @@ pub fn make_step<M: Memo, N: Notes, L: Ledger>(
     ensures frames { ChangesFrames M.meaning problem.now pass.old pass.new
         (standing (all_frames work.old) work.old.opened orders.old)
         (standing (all_frames work.new) work.new.opened orders.new) }
+    ensures loads { LoadsAsTold M.meaning pass.new (looked_for problem.now work.old.hand work.old.ready)
+        (loads_at M.meaning (M.fresh_loads memo.now) work.old.ended work.old.hand work.old.ready) }
     ensures steps { steps_made steps.new ≡ steps_made steps.old + 1 }
     ensures under_way { IsUnderWay work.new.hand work.new.ready (all_frames work.new) }
     ensures sound { IsSound M.meaning problem.now (N.noted notes.new) work.new pass.new }

@@ -1,4 +1,4 @@
-use Rattle.std.proofs.Common.{inl, inr, ◌∷◌, refl, sym, subst, ap, ◌∙◌, arith}
+use Rattle.std.proofs.Common.{◌≡◌, ◌↔◌, ℕ, true, inl, inr, ◌∷◌, refl, sym, subst, ap, ◌∙◌, arith}
 use Rattle.std.specs.Prelude.{reverse}
 use Rattle.adp_model.specs.declared.cell.Cell.{Cell}
 use Rattle.adp_model.specs.Demand.{IsDemandedCount}
@@ -59,6 +59,12 @@ returns-in-Unpublished-clause-frames g c =
     (ap (λ t. frames_of t c.open.new.work.below.items) o.top ∙ ap (λ xs. (record { visit = c.opened_visit-visit.result; probe = c.look_step.new.probe }) ∷ xs) o.frames) v.cell (hand_below g.M.Memo.meaning c.args.problem.now (heights c.args.problem.now c.admissible.ensures c.heights_fall.ensures.falls c.heights_fall.ensures.few) (g.N.Notes.noted c.args.notes.now) c.args.pass.now (with_hand c.args.work.now c.args.hand) c.args.hand (frames_of c.args.work.now.top c.args.work.now.below.items) (record { going = c.requires.going; hand_is = refl; frames_are = refl; ready_is = c.requires.no_answer }) c.requires.sound)
     (subst (λ (cell : Cell). IsOnRecordWord g.M.Memo.meaning c.look_step.new.pass cell 0) own.cell (e.unpublished.0 refl))
     e.look.1 (λ h. e.look.2 (subst (g.M.Memo.meaning.known c.args.pass.now) (sym own.cell) h)) v.drawn o.opened))
+
+pub returns-in-Unpublished-clause-loads : goal.returns-in-Unpublished-clause-loads
+returns-in-Unpublished-clause-loads g c =
+    let e = c.in-Unpublished.ensures in
+    let own = hand_is_in g.M.Memo.meaning c.args.problem.now (heights c.args.problem.now c.admissible.ensures c.heights_fall.ensures.falls c.heights_fall.ensures.few) (g.N.Notes.noted c.args.notes.now) c.args.pass.now (with_hand c.args.work.now c.args.hand) c.args.hand (frames_of c.args.work.now.top c.args.work.now.below.items) (record { going = c.requires.going; hand_is = refl; frames_are = refl; ready_is = c.requires.no_answer }) c.requires.sound in
+    subst (λ (cell : Cell). (g.M.Memo.meaning.loads c.args.hand.probe ≡ true) ↔ ((found : ℕ) × IsOnRecordWord g.M.Memo.meaning c.look_step.new.pass cell found)) own.cell e.loads
 
 pub returns-in-Unpublished-clause-sound : goal.returns-in-Unpublished-clause-sound
 returns-in-Unpublished-clause-sound g c =
