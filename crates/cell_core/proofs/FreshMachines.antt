@@ -1,17 +1,13 @@
 -- What holds of a fresh machine.
-use Rattle.std.proofs.Common.{◌≡◌, ℕ, ◌-◌, ◌+◌, ◌*◌, ◌<◌, ◌≤◌, Bool, true, false, Option, Some, None, List, [], ◌∷◌, length, refl, sym, subst, ap, ◌∙◌, arith}
-use Rattle.std.specs.Prelude.{reverse}
-use Rattle.std.proofs.lemmas.Bool.{false≢true}
+use Rattle.std.proofs.Common.{◌≡◌, ℕ, ◌-◌, ◌≤◌, Bool, true, false, Option, Some, None, List, [], length, refl, sym, subst, ap, arith}
 use Rattle.adp_model.specs.declared.cell.Cell.{Cell}
-use Rattle.adp_model.specs.declared.visit.Hand.{Hand}
-use Rattle.adp_model.specs.declared.visit.Frame.{Frame}
 use Rattle.adp_model.specs.PosedProblem.{PosedProblem, axiom_cell}
 use Rattle.adp_model.specs.Cells.{IsCounted}
 use Rattle.adp_model.specs.Sizes.{IsWithinSizes}
 use Rattle.adp_model.specs.Demand.{IsDemanded}
 use Rattle.adp_model.specs.SplitArguments.{SplitArgument}
 use Rattle.adp_model.specs.Memos.{Meaning}
-use Rattle.adp_model.specs.Machines.{IsGoing, IsAtEnd, IsUnderWay, IsMachine}
+use Rattle.adp_model.specs.Machines.{IsGoing, IsUnderWay, IsMachine}
 use Rattle.adp_model.specs.StepBound.{step_bound, steps_left, remaining_bound}
 use Rattle.cell_tables.specs.Noted.{Notes}
 use Rattle.cell_core.specs.declared.work.Work.{Work}

@@ -19,7 +19,7 @@ pub mod PlainRecords
 pub mod LineOrder
 pub mod LineSplits
 pub mod Skipped
-pub mod NextPlaces
+pub mod NotedPlaces
 pub mod ViableCuts
 pub mod LineHere
 pub mod SkipSteps

@@ -1,9 +1,8 @@
 -- What contracts see of a machine, and of a fresh one.
-use Rattle.std.specs.Prelude.{◌≡◌, ◌↔◌, ℕ, Bool, true, false, Option, Some, None, List, [], ◌∷◌, IsSome, IfSome}
+use Rattle.std.specs.Prelude.{◌≡◌, ◌↔◌, Bool, true, false, Option, Some, None, []}
 use Rattle.adp_model.specs.declared.cell.Answer.{Answer}
 use Rattle.adp_model.specs.declared.cell.Cell.{Cell}
 use Rattle.adp_model.specs.declared.visit.Hand.{Hand}
-use Rattle.adp_model.specs.declared.visit.Frame.{Frame}
 use Rattle.adp_model.specs.PosedProblem.{PosedProblem, axiom_cell}
 use Rattle.adp_model.specs.Demand.{IsDemanded}
 use Rattle.adp_model.specs.Memos.{Meaning, IsOnRecordWord}

@@ -31,15 +31,18 @@ pub record IsNotedAt (Noted : Cell → Type 0) (pair : OpenPair) (place : ℕ) :
   pub first : (child : Cell) → IsCellOf pair.first.now pair.from place child → Noted child
   pub second : (child : Cell) → IsCellOf pair.second.now (place + pair.letters) pair.last child → Noted child
 
+-- at the boundary's places from `begin` on and before `past`, the cells of both arguments of a line are noted
+abbrev pub AreNotedBetween : (Cell → Type 0) → OpenPair → ℕ → ℕ → Type 0
+AreNotedBetween Noted pair begin past =
+    (place : ℕ) → Contains pair.places.now place → begin ≤ place → place < past → IsNotedAt Noted pair place
+
+-- the end lies behind no place, or right behind one, or before it
+abbrev pub EndsByAPlace : List ℕ → ℕ → Type 0
+EndsByAPlace places past = (last : ℕ) × Contains places last × (past ≤ last + 1)
+
 -- the place is one of the boundary's and comes behind this one, and from this one up to it the cells of both arguments
 -- are noted
 pub record IsLastNoted (Noted : Cell → Type 0) (cell : Cell) (turn : ℕ) (pair : OpenPair) (from to : ℕ) : Type 0 where
   pub behind : rank_of cell turn from < rank_of cell turn to
   pub noted : (place : ℕ) → Contains pair.places.now place → rank_of cell turn from ≤ rank_of cell turn place
       → rank_of cell turn place ≤ rank_of cell turn to → IsNotedAt Noted pair place
-
--- the place of this index comes next
-pub record IsNextIndex (cell : Cell) (turn : ℕ) (places : List ℕ) (here there : ℕ) : Type 0 where
-  pub behind : rank_of cell turn here < rank_of cell turn there
-  pub next : (place : ℕ) → Contains places place
-      → (rank_of cell turn place ≤ rank_of cell turn here) ⊎ (rank_of cell turn there ≤ rank_of cell turn place)

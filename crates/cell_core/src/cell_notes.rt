@@ -25,6 +25,20 @@ impl<'a> NotedCells for Noted<'a> {
     fn has(&self, cell: Cell) -> bool {
         Noted::has(self, cell)
     }
+
+    fn noted_ends(&self, rule: u32, from: u16, first: u16, past: u16, bits: &[u64]) -> u16 {
+        match self.first_missing_end(rule, from, first, past, bits) {
+            Some(missing) => missing,
+            None => past,
+        }
+    }
+
+    fn noted_starts(&self, rule: u32, to: u16, first: u16, past: u16, bits: &[u64]) -> u16 {
+        match self.first_missing_start(rule, to, first, past, bits) {
+            Some(missing) => missing,
+            None => past,
+        }
+    }
 }
 
 /// Tells of no cell that it is noted.
@@ -35,6 +49,14 @@ impl NotedCells for NothingNoted {
 
     fn has(&self, _cell: Cell) -> bool {
         false
+    }
+
+    fn noted_ends(&self, _rule: u32, _from: u16, first: u16, _past: u16, _bits: &[u64]) -> u16 {
+        first
+    }
+
+    fn noted_starts(&self, _rule: u32, _to: u16, first: u16, _past: u16, _bits: &[u64]) -> u16 {
+        first
     }
 }
 

@@ -37,7 +37,7 @@ fn gone_on<N: NotedCells>(
 }
 
 /// The next argument of a visit whose cell isn't noted, with its cell; `None` where all are. Along a line of splits
-/// each place of its boundary costs two tests of notes. Takes no memory.
+/// the notes of 64 places of its boundary are tested at a time. Takes no memory.
 pub fn seek<N: NotedCells>(
     lines: &Lines<'_>,
     problem: &Problem<'_>,

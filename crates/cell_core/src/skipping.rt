@@ -10,7 +10,8 @@ ghost use Rattle.adp_model.specs.Splits.{IsViable};
 ghost use Rattle.adp_model.specs.SplitArguments.{IsSplitArgument};
 ghost use Rattle.adp_model.specs.Visits.{argument_at, IsWalk};
 ghost use Rattle.split_lines.specs.Laid.{IsCellOf};
-ghost use Rattle.cell_core.specs.Skipping.{IsSkipped, AreNotedBefore, IsNotedAt, IsLastNoted, IsNextIndex};
+ghost use Rattle.split_lines.specs.Flags.{AreBitsAmong};
+ghost use Rattle.cell_core.specs.Skipping.{IsSkipped, AreNotedBefore, AreNotedBetween, EndsByAPlace, IsLastNoted};
 
 use crate::noted_cells::NotedCells;
 use crate::walk::{asked, end_of, start_of};
@@ -20,38 +21,56 @@ use adp_model::{Arg, Cell, Position, Problem, Visit};
 use split_lines::Lines;
 
 /// The two arguments of a line on a span, and the places at which the boundary between them may stand: the first one
-/// begins at `from`, the second one `letters` behind the boundary, and ends at `last`.
+/// begins at `from`, the second one `letters` behind the boundary, and ends at `last`. Bits tell where the first one may
+/// end and where the second one may begin.
 #[derive(Clone, Copy)]
 pub struct OpenPair<'s> {
     pub first: &'s Arg,
     pub second: &'s Arg,
     pub from: u16,
     pub places: &'s [u16],
+    pub here: &'s [u64],
+    pub behind: &'s [u64],
     pub letters: u16,
     pub last: u16,
 }
 
-/// Whether the cell of an argument on a span is noted, where the argument is a rule.
-fn is_noted_on<N: NotedCells>(noted: &N, argument: &Arg, from: u16, to: u16) -> bool
-    ensures { OnTrue result ((child : AnyCell) → IsCellOf argument.now from to child → N.is_noted noted.now child) }
+/// A place from `begin` up to `past` before which, from `begin` on, the cells of the first argument are noted.
+fn first_noted<N: NotedCells>(noted: &N, pair: OpenPair<'_>, begin: u16, past: u16) -> u16
+    requires order { begin ≤ past }
+    requires up_to { EndsByAPlace pair.places.now past }
+    requires here { AreBitsAmong pair.places.now 0 pair.here.now }
+    ensures low { begin ≤ result }
+    ensures high { result ≤ past }
+    ensures noted { (place : ℕ) → Contains pair.entry.places.now place → begin ≤ place → place < result
+        → (child : AnyCell) → IsCellOf pair.entry.first.now pair.entry.from place child → N.is_noted noted.now child }
 {
-    match argument {
-        Arg::Rule(rule) => noted.has(Cell {
-            rule: *rule,
-            from,
-            to,
-        }),
-        _ => true,
+    match pair.first {
+        Arg::Rule(rule) => noted.noted_ends(*rule, pair.from, begin, past, pair.here),
+        _ => past,
     }
 }
 
-/// Whether the cells of both arguments of a line are noted with the boundary here.
-fn is_noted_at<N: NotedCells>(noted: &N, pair: OpenPair<'_>, place: u16) -> bool
-    requires { place + pair.letters ≤ 4000 }
-    ensures { OnTrue result (IsNotedAt (N.is_noted noted.now) pair.entry place) }
+/// The same of the second argument.
+fn second_noted<N: NotedCells>(noted: &N, pair: OpenPair<'_>, begin: u16, past: u16) -> u16
+    requires order { begin ≤ past }
+    requires up_to { EndsByAPlace pair.places.now past }
+    requires short { past + pair.letters ≤ 4001 }
+    requires behind { AreBitsAmong pair.places.now pair.letters pair.behind.now }
+    ensures low { begin ≤ result }
+    ensures high { result ≤ past }
+    ensures noted { (place : ℕ) → Contains pair.entry.places.now place → begin ≤ place → place < result
+        → (child : AnyCell) → IsCellOf pair.entry.second.now (place + pair.entry.letters) pair.entry.last child
+        → N.is_noted noted.now child }
 {
-    is_noted_on(noted, pair.first, pair.from, place)
-        && is_noted_on(noted, pair.second, place + pair.letters, pair.last)
+    let letters = pair.letters;
+    match pair.second {
+        Arg::Rule(rule) => {
+            let first = begin + letters;
+            noted.noted_starts(*rule, pair.last, first, past + letters, pair.behind) - letters
+        }
+        _ => past,
+    }
 }
 
 /// Whether the cells of the first arguments of a split, so many of them, are noted where they are rules.
@@ -82,34 +101,44 @@ fn are_noted_before<N: NotedCells>(
     true
 }
 
-/// The index of the place that is visited next, where the positions of a boundary are visited from `pivot` on.
-fn next_index(cell: Cell, turn: u32, places: &[u16], index: usize) -> Option<usize>
-    requires rising { AllAdjacentBelow (λ (a b : ℕ). a < b) places.now (length places.now) }
-    requires within { (place : ℕ) → Contains places.now place → (cell.from ≤ place) × (place ≤ cell.to) }
-    requires turn { turn ≤ cell.to - cell.from }
-    requires order { cell.from ≤ cell.to }
-    requires index { index < length places.now }
-    ensures inside { IfSome result (λ next. next < length places.now) }
-    ensures next { IfSome result (λ next. IsNextIndex cell turn places.now (slice_index places.now index)
-        (slice_index places.now next)) }
+/// A place from `begin` up to `past` before which, from `begin` on, the cells of both arguments are noted.
+fn both_noted<N: NotedCells>(noted: &N, pair: OpenPair<'_>, begin: u16, past: u16) -> u16
+    requires order { begin ≤ past }
+    requires up_to { EndsByAPlace pair.places.now past }
+    requires short { past + pair.letters ≤ 4001 }
+    requires here { AreBitsAmong pair.places.now 0 pair.here.now }
+    requires behind { AreBitsAmong pair.places.now pair.letters pair.behind.now }
+    ensures low { begin ≤ result }
+    ensures high { result ≤ past }
+    ensures noted { AreNotedBetween (N.is_noted noted.now) pair.entry begin result }
 {
-    ranks_begin_at_the_turn();
-    let pivot = u32::from(cell.from) + turn;
-    let crosses = u32::from(places[index]) < pivot;
-    if index + 1 < places.len() {
-        if crosses && u32::from(places[index + 1]) >= pivot {
-            return None;
-        }
-        return Some(index + 1);
-    }
-    if crosses || u32::from(places[0]) >= pivot {
-        return None;
-    }
-    Some(0)
+    let past = first_noted(noted, pair, begin, past);
+    second_noted(noted, pair, begin, past)
 }
 
-/// The last place up to which, from this one on, the cells of both arguments are noted; `None` where there is none
-/// behind it.
+/// The last of the places before `past`, where it isn't before `begin`.
+fn last_between(places: &[u16], begin: u16, past: u16) -> Option<u16>
+    ensures { IfSome result (λ last. Contains places.now last × (begin ≤ last) × (last < past)) }
+{
+    if past <= begin {
+        return None;
+    }
+    let behind = match places.binary_search(&past) {
+        Ok(index) => index,
+        Err(index) => index,
+    };
+    if behind == 0 {
+        return None;
+    }
+    let last = places[behind - 1];
+    if last < begin || last >= past {
+        return None;
+    }
+    Some(last)
+}
+
+/// The last place up to which, from this one on, the cells of both arguments of a line are noted; `None` where there is
+/// none behind it.
 fn last_noted<N: NotedCells>(
     noted: &N,
     cell: Cell,
@@ -120,6 +149,8 @@ fn last_noted<N: NotedCells>(
     requires rising { AllAdjacentBelow (λ (a b : ℕ). a < b) pair.places.now (length pair.places.now) }
     requires within { (other : ℕ) → Contains pair.places.now other → (cell.from ≤ other) × (other ≤ cell.to) }
     requires short { (other : ℕ) → Contains pair.places.now other → other + pair.letters ≤ 4000 }
+    requires here { AreBitsAmong pair.places.now 0 pair.here.now }
+    requires behind { AreBitsAmong pair.places.now pair.letters pair.behind.now }
     requires turn { turn ≤ cell.to - cell.from }
     requires order { cell.from ≤ cell.to }
     requires place { (cell.from ≤ place) × (place ≤ cell.to) }
@@ -127,26 +158,27 @@ fn last_noted<N: NotedCells>(
 {
     ranks_begin_at_the_turn();
     let places = pair.places;
-    let Ok(start) = places.binary_search(&place) else {
-        return None;
-    };
-    if !is_noted_at(noted, pair, places[start]) {
+    if places.is_empty() {
         return None;
     }
-    let mut index = start;
-    for _ in 0..places.len() {
-        let Some(next) = next_index(cell, turn, places, index) else {
-            break;
-        };
-        if !is_noted_at(noted, pair, places[next]) {
-            break;
-        }
-        index = next;
-    }
-    if index == start {
+    let (first, last) = (places[0], places[places.len() - 1]);
+    if last <= place {
         return None;
     }
-    Some(places[index])
+    let pivot = cell.from + turn as u16;
+    if place < pivot {
+        let stop = both_noted(noted, pair, place, pivot.min(last + 1));
+        return last_between(places, place + 1, stop);
+    }
+    let stop = both_noted(noted, pair, place, last + 1);
+    if stop <= last || pivot <= first {
+        return last_between(places, place + 1, stop);
+    }
+    let stop = both_noted(noted, pair, first, pivot);
+    match last_between(places, first, stop) {
+        Some(place) => Some(place),
+        None => Some(last),
+    }
 }
 
 /// The cuts with the boundary of a line, and the tokens behind it, moved to a place.
@@ -232,6 +264,8 @@ pub fn skipped<N: NotedCells>(
         second: &arguments[between + 1],
         from,
         places: boundary.places,
+        here: boundary.here,
+        behind: boundary.behind,
         letters: boundary.letters,
         last: boundary.last,
     };

@@ -1,4 +1,4 @@
-use Rattle.std.proofs.Common.{◌≡◌, Some, sym, subst, ap, ◌∙◌}
+use Rattle.std.proofs.Common.{Some, sym, subst, ap, ◌∙◌}
 use Rattle.cell_core.specs.Working.{frames_of, all_frames}
 use Rattle.cell_core.specs.FrameChanges.{Standing, standing, ChangesFrames}
 use Rattle.cell_core.proofs.work.make_step.Goals as goal

@@ -1,4 +1,4 @@
-use Rattle.std.proofs.Common.{◌≡◌, refl, sym, subst, ap, ◌∙◌}
+use Rattle.std.proofs.Common.{sym, ◌∙◌}
 use Rattle.cell_core.proofs.cell_notes.CellNotes.new.Goals as goal
 
 pub invariant_of-result : goal.invariant_of-result

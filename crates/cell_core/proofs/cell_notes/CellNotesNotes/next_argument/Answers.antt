@@ -1,4 +1,4 @@
-use Rattle.std.proofs.Common.{◌≡◌, sym, subst}
+use Rattle.std.proofs.Common.{subst}
 use Rattle.std.specs.Prelude.{MatchOption}
 use Rattle.adp_model.specs.SplitArguments.{IsSplitArgument}
 use Rattle.adp_model.specs.Visits.{argument_at}

@@ -1,5 +1,4 @@
-use Rattle.std.proofs.Common.{◌≡◌, Some, sym, subst}
-use Rattle.cell_core.specs.Working.{IsFreshWork}
+use Rattle.std.proofs.Common.{Some}
 use Rattle.cell_core.proofs.FreshMachines.{fresh_machine, fresh_bound}
 use Rattle.cell_core.proofs.machine.Machine.on.Goals as goal
 

@@ -1,4 +1,4 @@
-use Rattle.std.proofs.Common.{◌≡◌, Option, Some, sym, subst}
+use Rattle.std.proofs.Common.{sym, subst}
 use Rattle.adp_model.specs.Machines.{IsMachine}
 use Rattle.cell_core.specs.MachineViews.{MachineView, state_of, IsNotedIn}
 use Rattle.cell_core.proofs.Stepped.{sound_from}
