@@ -1,5 +1,5 @@
 -- What contracts see of a machine, and of a fresh one.
-use Rattle.std.specs.Prelude.{◌≡◌, ◌↔◌, Bool, true, false, Option, Some, None, []}
+use Rattle.std.specs.Prelude.{◌≡◌, ◌↔◌, ℕ, Bool, true, false, Option, Some, None, []}
 use Rattle.adp_model.specs.declared.cell.Answer.{Answer}
 use Rattle.adp_model.specs.declared.cell.Cell.{Cell}
 use Rattle.adp_model.specs.declared.visit.Hand.{Hand}
