@@ -1,5 +1,5 @@
 -- Limits are kept or passed, and not both; of those that are passed one is the first.
-use Rattle.std.proofs.Common.{◌≡◌, ℕ, ◌<◌, ◌≤◌, Option, List, refl, sym, ap, arith}
+use Rattle.std.proofs.Common.{◌≡◌, ℕ, ◌<◌, ◌≤◌, Option, List, refl, ap, arith}
 use Rattle.adp_model.specs.declared.fault.LimitFault.{LimitFault}
 use Rattle.adp_model.specs.declared.grammar.Grammar.{Grammar}
 use Rattle.adp_model.specs.Cells.{IsCellBound}

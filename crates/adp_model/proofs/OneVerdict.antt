@@ -1,5 +1,5 @@
 -- A command line and bytes have one verdict.
-use Rattle.std.proofs.Common.{◌≡◌, ℕ, zero, suc, ◌+◌, ◌^◌, ◌<◌, ◌≤◌, ◌⊎◌, inl, inr, Bool, true, false, not, ◌&&◌, IsTrue, nat_eq, Option, Some, None, Result, Ok, Err, List, [], ◌∷◌, length, map, drop, codes, get_or, slice_index_or, refl, sym, ap, ap₂, subst, ◌∙◌, arith}
+use Rattle.std.proofs.Common.{◌≡◌, ℕ, zero, suc, ◌+◌, ◌^◌, ◌<◌, ◌≤◌, ◌⊎◌, inl, inr, Bool, true, false, not, ◌&&◌, IsTrue, nat_eq, Option, Result, Ok, Err, List, [], ◌∷◌, length, map, drop, get_or, slice_index_or, refl, sym, ap, ap₂, subst, ◌∙◌, arith}
 use Rattle.std.specs.List.{list_any}
 use Rattle.std.proofs.lemmas.List.{get_or-map, length-map}
 use Rattle.std.proofs.lemmas.List.Folds.{list_any_at}
@@ -12,10 +12,10 @@ use Rattle.adp_model.specs.declared.job.Job.{Job}
 use Rattle.adp_model.specs.declared.fault.TextFault.{TextFault}
 use Rattle.adp_model.specs.declared.fault.GrammarFault.{GrammarFault}
 use Rattle.adp_model.specs.declared.fault.LimitFault.{LimitFault}
-use Rattle.adp_model.specs.Parts.{algebra_at, sign_at}
+use Rattle.adp_model.specs.Parts.{sign_at}
 use Rattle.adp_model.specs.WellFormed.{are_distinct, is_well_formed, counts_fit, names_differ, parts_fit}
-use Rattle.adp_model.specs.Command.{Mode, Best, Serial, Wins, Big, mode_word, Setting, Algebra as ByAlgebra, Workers, Seed, Size, option_word, IsValue, AreSettings, algebra_set, workers_set, seed_set, size_set, greatest_size, Command, IsCommand, HasCommand, ReadsJob, ShowsWins, AsksForJob}
-use Rattle.adp_model.specs.JobText.{Accepted, text_verdict, IsText, IsFaultOf}
+use Rattle.adp_model.specs.Command.{Mode, Best, Serial, Wins, Replay, Big, mode_word, Setting, Algebra as ByAlgebra, Workers, Seed, Schedule, Size, option_word, IsValue, AreSettings, algebra_set, workers_set, seed_set, schedule_set, size_set, greatest_size, Command, IsCommand, HasCommand, ReadsJob, ShowsWins, AsksForJob}
+use Rattle.adp_model.specs.JobText.{Accepted, IsText, IsFaultOf}
 use Rattle.adp_model.specs.Lengths.{IsProductive}
 use Rattle.adp_model.specs.Loops.{IsOnLoop}
 use Rattle.adp_model.specs.GrammarFaults.{rule_name, IsNamed, IsFirstFaulty, IsUnproductive, IsOffLoops, HasMonotoneTerm, HasOtherTerm, IsFaultless, IsGrammarFault, NoAlgebra, Unproductive, Loop, NotMonotone}
@@ -26,47 +26,20 @@ use Rattle.adp_model.specs.Verdict.{AsksFor, AsksUnder, asked_name, greatest_len
 use Rattle.adp_model.proofs.WellFormedParts.{and_first, and_second}
 use Rattle.adp_model.proofs.LimitsKept.{kept_not_passed, one_fault}
 use Rattle.adp_model.specs.Report.{IsReport}
-use Rattle.adp_model.specs.BigReport.{made_problem, IsBigReport}
+use Rattle.adp_model.specs.BigReport.{IsBigReport}
 use Rattle.adp_model.specs.Verdict.{IsReportIn}
 use Rattle.adp_model.proofs.Reports.{IsReport_unique, IsBigReport_unique}
 
 -- ---- the command
 
-algebra≢workers : codes "--algebra" ≡ codes "--workers" → ⊥
-algebra≢workers e = omega (arith, ap (λ (w : List ℕ). get_or w 2 0) e)
-
-algebra≢seed : codes "--algebra" ≡ codes "--seed" → ⊥
-algebra≢seed e = omega (arith, ap length e)
-
-algebra≢size : codes "--algebra" ≡ codes "--size" → ⊥
-algebra≢size e = omega (arith, ap length e)
-
-workers≢seed : codes "--workers" ≡ codes "--seed" → ⊥
-workers≢seed e = omega (arith, ap length e)
-
-workers≢size : codes "--workers" ≡ codes "--size" → ⊥
-workers≢size e = omega (arith, ap length e)
-
-seed≢size : codes "--seed" ≡ codes "--size" → ⊥
-seed≢size e = omega (arith, ap (λ (w : List ℕ). get_or w 3 0) e)
-
+-- the words of two options differ at their fourth letter
 setting_unique : (place : ℕ) (value : List ℕ) (a b : Setting) → option_word a ≡ option_word b → IsValue place value a → IsValue place value b → a ≡ b
 setting_unique place value (ByAlgebra m) (ByAlgebra n) e v w = ap ByAlgebra (v.1 ∙ sym w.1)
-setting_unique place value (ByAlgebra m) (Workers n) e v w = absurd (algebra≢workers e)
-setting_unique place value (ByAlgebra m) (Seed n) e v w = absurd (algebra≢seed e)
-setting_unique place value (ByAlgebra m) (Size n) e v w = absurd (algebra≢size e)
-setting_unique place value (Workers m) (ByAlgebra n) e v w = absurd (algebra≢workers (sym e))
 setting_unique place value (Workers m) (Workers n) e v w = ap Workers (v.0.1 ∙ sym w.0.1)
-setting_unique place value (Workers m) (Seed n) e v w = absurd (workers≢seed e)
-setting_unique place value (Workers m) (Size n) e v w = absurd (workers≢size e)
-setting_unique place value (Seed m) (ByAlgebra n) e v w = absurd (algebra≢seed (sym e))
-setting_unique place value (Seed m) (Workers n) e v w = absurd (workers≢seed (sym e))
 setting_unique place value (Seed m) (Seed n) e v w = ap Seed (v.0.1 ∙ sym w.0.1)
-setting_unique place value (Seed m) (Size n) e v w = absurd (seed≢size e)
-setting_unique place value (Size m) (ByAlgebra n) e v w = absurd (algebra≢size (sym e))
-setting_unique place value (Size m) (Workers n) e v w = absurd (workers≢size (sym e))
-setting_unique place value (Size m) (Seed n) e v w = absurd (seed≢size (sym e))
+setting_unique place value (Schedule m) (Schedule n) e v w = ap Schedule (v.1 ∙ sym w.1)
 setting_unique place value (Size m) (Size n) e v w = ap Size (v.0.1 ∙ sym w.0.1)
+setting_unique place value a b e v w = absurd (omega (arith, ap (λ (w : List ℕ). get_or w 3 0) e))
 
 settings_unique : (place : ℕ) (words : List (List ℕ)) (a b : List Setting) → AreSettings place words a → AreSettings place words b → a ≡ b
 settings_unique place [] [] [] h k = refl
@@ -79,41 +52,14 @@ settings_unique place (option ∷ value ∷ words) (s ∷ a) [] h k = absurd k
 settings_unique place (option ∷ value ∷ words) (s ∷ a) (t ∷ b) h k =
     ap₂ (λ x xs. x ∷ xs) (setting_unique (place + 1) value s t (sym h.0 ∙ k.0) h.1 k.1) (settings_unique (place + 2) words a b h.2 k.2)
 
-best≢serial : codes "best" ≡ codes "serial" → ⊥
-best≢serial e = omega (arith, ap length e)
-
-best≢wins : codes "best" ≡ codes "wins" → ⊥
-best≢wins e = omega (arith, ap (λ (w : List ℕ). get_or w 0 0) e)
-
-best≢big : codes "best" ≡ codes "big" → ⊥
-best≢big e = omega (arith, ap length e)
-
-serial≢wins : codes "serial" ≡ codes "wins" → ⊥
-serial≢wins e = omega (arith, ap length e)
-
-serial≢big : codes "serial" ≡ codes "big" → ⊥
-serial≢big e = omega (arith, ap length e)
-
-wins≢big : codes "wins" ≡ codes "big" → ⊥
-wins≢big e = omega (arith, ap length e)
-
+-- the words of two modes differ at their third letter
 mode_unique : (a b : Mode) → mode_word a ≡ mode_word b → a ≡ b
 mode_unique Best Best e = refl
-mode_unique Best Serial e = absurd (best≢serial e)
-mode_unique Best Wins e = absurd (best≢wins e)
-mode_unique Best Big e = absurd (best≢big e)
-mode_unique Serial Best e = absurd (best≢serial (sym e))
 mode_unique Serial Serial e = refl
-mode_unique Serial Wins e = absurd (serial≢wins e)
-mode_unique Serial Big e = absurd (serial≢big e)
-mode_unique Wins Best e = absurd (best≢wins (sym e))
-mode_unique Wins Serial e = absurd (serial≢wins (sym e))
 mode_unique Wins Wins e = refl
-mode_unique Wins Big e = absurd (wins≢big e)
-mode_unique Big Best e = absurd (best≢big (sym e))
-mode_unique Big Serial e = absurd (serial≢big (sym e))
-mode_unique Big Wins e = absurd (wins≢big (sym e))
+mode_unique Replay Replay e = refl
 mode_unique Big Big e = refl
+mode_unique a b e = absurd (omega (arith, ap (λ (w : List ℕ). get_or w 2 0) e))
 
 pub command_unique : (words : List (List ℕ)) (a b : Command) → IsCommand words a → IsCommand words b → a ≡ b
 command_unique words a b h k =
@@ -124,12 +70,14 @@ command_unique words a b h k =
     let algebra = h.algebra_is ∙ ap algebra_set settings ∙ sym k.algebra_is in
     let workers = h.workers_are ∙ ap workers_set settings ∙ sym k.workers_are in
     let seed = h.seed_is ∙ ap seed_set settings ∙ sym k.seed_is in
+    let schedule = h.schedule_is ∙ ap schedule_set settings ∙ sym k.schedule_is in
     let size = h.size_is ∙ ap size_set settings ∙ sym k.size_is in
     λ i. record {
       mode = mode i;
       algebra = algebra i;
       workers = workers i;
       seed = seed i;
+      schedule = schedule i;
       size = size i;
     }
 
@@ -148,6 +96,8 @@ numbers_in_range place (option ∷ value ∷ words) (Workers workers ∷ setting
 numbers_in_range place (option ∷ value ∷ words) (Seed seed ∷ settings) h =
     let rest = numbers_in_range (place + 2) words settings h.2 in
     (rest.0, rest.1, h.1.1, rest.3)
+numbers_in_range place (option ∷ value ∷ words) (Schedule named ∷ settings) h =
+    numbers_in_range (place + 2) words settings h.2
 numbers_in_range place (option ∷ value ∷ words) (Size size ∷ settings) h =
     let rest = numbers_in_range (place + 2) words settings h.2 in
     (rest.0, rest.1, rest.2, h.1.2)
@@ -290,7 +240,8 @@ PlainOrWins mode = ShowsWins mode ⊎ ((workers number : ℕ) (p : PosedProblem)
 plain_or_wins : (mode : Mode) → PlainOrWins mode
 plain_or_wins Best = inr (λ workers number p report is. is)
 plain_or_wins Serial = inr (λ workers number p report is. is)
-plain_or_wins Wins = inl refl
+plain_or_wins Wins = inl (inl refl)
+plain_or_wins Replay = inl (inr refl)
 plain_or_wins Big = inr (λ workers number p report is. absurd is)
 
 module _ (command : Command) (plain : (workers number : ℕ) (p : PosedProblem) (report : List ℕ)

@@ -7,10 +7,10 @@ use Rattle.adp_model.specs.declared.cell.Answer.TheVariants.{NoCandidate, Best}
 use Rattle.adp_model.specs.PosedProblem.{PosedProblem, axiom_cell}
 use Rattle.adp_model.specs.Answers.{IsAnswer}
 use Rattle.adp_model.specs.ProblemFields.{IsAdmissible}
-use Rattle.adp_model.specs.Command.{Mode, Best, Serial, Wins, Big, ReadsJob}
+use Rattle.adp_model.specs.Command.{Mode, Best, Serial, Wins, Replay, Big, ReadsJob}
 use Rattle.adp_model.specs.Demand.{IsDemandedCount}
-use Rattle.adp_model.specs.Report.{line, tree_lines, wins_line, IsAnswerText, IsReport, IsWinsReport}
-use Rattle.adp_model.specs.Verdict.{IsReportIn}
+use Rattle.adp_model.specs.Report.{line, tree_lines, wins_line, IsAnswerText, IsReport}
+use Rattle.adp_model.specs.Verdict.{IsReportIn, IsReportOfWins}
 use Rattle.adp_model.proofs.Checked.{Bellman-admissible}
 use Rattle.adp_model.proofs.DemandDecided.{number_exists}
 
@@ -41,7 +41,7 @@ no_wins_sum zero = refl
 no_wins_sum (suc count) = no_wins_sum count
 
 wins_report : (workers number : ℕ) (p : PosedProblem) → 1 ≤ workers → IsAdmissible p
-    → (report : List ℕ) × IsReportIn Wins workers number p report
+    → (report : List ℕ) × IsReportOfWins workers number p report
 wins_report zero number p some admissible = absurd (omega (arith, some))
 wins_report (suc others) number p some admissible =
     let plain = report_exists number p admissible in
@@ -62,4 +62,5 @@ pub report_in_mode : (mode : Mode) (workers number : ℕ) (p : PosedProblem) →
 report_in_mode Best workers number p reads some admissible = report_exists number p admissible
 report_in_mode Serial workers number p reads some admissible = report_exists number p admissible
 report_in_mode Wins workers number p reads some admissible = wins_report workers number p some admissible
+report_in_mode Replay workers number p reads some admissible = wins_report workers number p some admissible
 report_in_mode Big workers number p reads some admissible = absurd (reads refl)

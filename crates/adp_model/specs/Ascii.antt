@@ -41,6 +41,9 @@ underscore = 95
 abbrev pub small_a : ℕ
 small_a = 97
 
+abbrev pub small_v : ℕ
+small_v = 118
+
 abbrev pub small_x : ℕ
 small_x = 120
 

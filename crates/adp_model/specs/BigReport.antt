@@ -2,7 +2,6 @@
 use Rattle.std.specs.Prelude.{◌≡◌, ℕ, zero, suc, ◌+◌, ◌*◌, ◌/◌, ◌%◌, ◌^◌, ℤ, pos, List, [], ◌∷◌, ◌++◌, codes, get_or}
 use Rattle.std.specs.Fmt.{decimal, signed_decimal}
 use Rattle.adp_model.specs.declared.grammar.Alt.{Alt}
-use Rattle.adp_model.specs.declared.grammar.Arg.{Arg}
 use Rattle.adp_model.specs.declared.grammar.Arg.TheVariants.{Rule, Literal, Letter}
 use Rattle.adp_model.specs.declared.grammar.Goal.TheVariants.{Greatest}
 use Rattle.adp_model.specs.declared.grammar.Grammar.{Grammar}

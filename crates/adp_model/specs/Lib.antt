@@ -30,6 +30,7 @@ pub mod Heights
 pub mod ProblemFields
 pub mod GrammarFaults
 pub mod LimitFaults
+pub mod ScheduleText
 pub mod Command
 pub mod Verdict
 pub mod TermText

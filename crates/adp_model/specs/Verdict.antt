@@ -13,7 +13,7 @@ use Rattle.adp_model.specs.ProblemFields.{KeepsLimits}
 use Rattle.adp_model.specs.PosedProblem.{PosedProblem}
 use Rattle.adp_model.specs.Report.{IsReport, IsWinsReport}
 use Rattle.adp_model.specs.BigReport.{IsBigReport}
-use Rattle.adp_model.specs.Command.{Mode, ShowsWins, Best, Serial, Wins, Big, Command, IsCommand, HasCommand, ReadsJob, AsksForJob}
+use Rattle.adp_model.specs.Command.{Mode, ShowsWins, Best, Serial, Wins, Replay, Big, Command, IsCommand, HasCommand, ReadsJob, AsksForJob}
 
 -- a job has at most this many bytes
 abbrev pub greatest_length : ℕ
@@ -63,12 +63,17 @@ IsFirstLimit grammar algebra number (word ∷ words) first fault =
     ((first ≡ number) × IsLimitFault grammar algebra (length word) fault)
     ⊎ (KeepsLimits grammar algebra (length word) × IsFirstLimit grammar algebra (number + 1) words first fault)
 
+-- the report of the word with this number, with the wins of so many evaluators
+abbrev pub IsReportOfWins : ℕ → ℕ → PosedProblem → List ℕ → Type 0
+IsReportOfWins workers number p report = (wins : List ℕ) × (length wins ≡ workers) × IsWinsReport number p wins report
+
 -- the report that a mode asks for of the word with this number: the plain one, or one with the wins of so many
 -- evaluators
 abbrev pub IsReportIn : Mode → ℕ → ℕ → PosedProblem → List ℕ → Type 0
 IsReportIn Best workers number p report = IsReport number p report
 IsReportIn Serial workers number p report = IsReport number p report
-IsReportIn Wins workers number p report = (wins : List ℕ) × (length wins ≡ workers) × IsWinsReport number p wins report
+IsReportIn Wins workers number p report = IsReportOfWins workers number p report
+IsReportIn Replay workers number p report = IsReportOfWins workers number p report
 IsReportIn Big workers number p report = ⊥
 
 -- the reports of these words in order, the first of which has this number, as the command asks for them
