@@ -2,4 +2,5 @@ pub mod Posts
 pub mod Driving
 pub mod Working
 pub mod Runs
+pub mod Schedules
 pub mod Joined
