@@ -172,7 +172,12 @@ pub(crate) fn join_all<'a, G: Gate>(
 }
 
 /// Closes the table, from which the answers are read then.
-pub(crate) fn finish<'a>(table: Table, problem: &'a Problem<'a>, seed: u64, left: Leavings<'a>) -> Finished<'a>
+pub(crate) fn finish<'a>(
+    table: Table,
+    problem: &'a Problem<'a>,
+    seed: u64,
+    left: Leavings<'a>,
+) -> Finished<'a>
     requires same { problem_of table ≡ problem.now }
     requires joined { IsJoined table seed (plan_of table).seats left }
     ensures finished { IsFinished problem.now seed result }
