@@ -111,6 +111,6 @@ module _ (words : Words) (worker : TableWorker) (machine : MachineView TableProb
         let all_was = subst (λ (p : PosedProblem). AreRuleArguments p arguments) on.problem all in
         let fewer = falls m arguments count_was all_was in
         let most : remaining_bound table_meaning m arguments worker.machine.machine worker.pass
-            ≤ step_bound m (length arguments) = was.bound m arguments count_was all_was in
+        ≤ step_bound m (length arguments) = was.bound m arguments count_was all_was in
         omega (arith, fewer, most);
   }

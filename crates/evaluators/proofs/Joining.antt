@@ -153,8 +153,8 @@ whole_of_none f xs none (inr whole) = whole
 -- ---- what is kept of workers while their passes are joined
 
 -- those that are left, and the pass, the wins and the machines of the others, the last of which come first
-pub record IsGathered {A : Type 0} (worker_of : A → TableWorker) (words : Words) (seed count : ℕ) (workers left : List A)
-    (pass : Pass) (won : List ℕ) (machines : List (MachineView Probe)) : Type 0 where
+pub record IsGathered {A : Type 0} (worker_of : A → TableWorker) (words : Words) (seed count : ℕ)
+    (workers left : List A) (pass : Pass) (won : List ℕ) (machines : List (MachineView Probe)) : Type 0 where
   pub own : IsPassOf words pass
   pub spare : (view_of pass).spare ≡ 0
   pub weight : (view_of pass).weight ≡ length machines
@@ -323,8 +323,8 @@ pub all_joined : {A : Type 0} (worker_of : A → TableWorker) (words : Words) (s
     → HasFirstEnded (map (λ one. (worker_of one).machine) workers) → left ≡ [] → leavings.pass ≡ pass
     → leavings.wins.items ≡ reverse won → leavings.machines.items ≡ reverse machines
     → vec_len leavings.machines ≡ length leavings.machines.items → IsJoined words seed count leavings
-all_joined worker_of words seed count workers left pass won machines leavings was first none pass_is won_are machines_are
-    len_is =
+all_joined worker_of words seed count workers left pass won machines leavings was first none pass_is won_are
+    machines_are len_is =
     let p = problem_of words in
     let nobody : length left ≡ 0 = ap length none in
     let number_was = was.number in

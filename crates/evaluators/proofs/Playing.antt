@@ -1,7 +1,6 @@
 -- Workers that are stepped by the entries of a schedule.
-use Rattle.std.proofs.Common.{◌≡◌, ℕ, zero, suc, ◌+◌, ◌-◌, ◌^◌, ◌<◌, ◌≤◌, ◌⊎◌, inl, inr, min, if◌then◌else◌, Bool, true, false, List, [], ◌∷◌, length, map, take, set, get_or, All, nat_eq, refl, sym, ap, ◌∙◌, subst, arith}
-use Rattle.std.proofs.Math.Nat.{min-eq_left}
-use Rattle.std.proofs.lemmas.Bool.{eq-eqb, eqb-true, false≢true}
+use Rattle.std.proofs.Common.{◌≡◌, ℕ, zero, suc, ◌+◌, ◌-◌, ◌^◌, ◌<◌, ◌≤◌, Bool, true, false, List, [], ◌∷◌, length, map, take, set, get_or, All, nat_eq, refl, sym, subst, arith}
+use Rattle.std.proofs.lemmas.Bool.{eq-eqb, eqb-true}
 use Rattle.std.proofs.lemmas.List.{length-take-le}
 use Rattle.std.proofs.lemmas.List.Elements.{All-nil, All-cons, All-head, All-tail}
 use Rattle.std.proofs.lemmas.List.Sums.{count_by-le-length, count_by_more_no, count_by_more_yes}
@@ -10,8 +9,8 @@ use Rattle.memo_table.specs.declared.probe.Probe.{Probe}
 use Rattle.cell_core.specs.MachineViews.{MachineView}
 use Rattle.evaluators.specs.Runs.{HasFirstEnded, wins_of, moves_of, ended_of}
 use Rattle.evaluators.specs.Working.{TableWorker, IsReady, IsDone}
-use Rattle.evaluators.specs.Schedules.{entries_of, KeepsEntries, HasKeptEntries, KeepEntriesFrom, HaveKeptSchedule}
-use Rattle.evaluators.specs.Playing.{AllFrom, IsPlayed}
+use Rattle.evaluators.specs.Schedules.{entries_of, KeepEntriesFrom}
+use Rattle.evaluators.specs.Playing.{HasKeptEntries, HaveKeptSchedule, AllFrom, IsPlayed}
 
 -- ---- numbered items
 
@@ -40,25 +39,22 @@ module _ {A : Type 0} where
     pub others_go : (n : ℕ) (xs : List A) → ((m : ℕ) → n ≤ m → m < n + length xs → m ≡ k → ⊥) → AllFrom P n xs
         → AllFrom Q n xs
     others_go n [] other all = tt
-    others_go n (x ∷ xs) other all =
-        (
-          goes n x (other n (omega arith) (omega arith)) all.0,
-          others_go (n + 1) xs (λ m above below. other m (omega (arith, above)) (omega (arith, below))) all.1,
-        )
+    others_go n (x ∷ xs) other all = (
+      goes n x (other n (omega arith) (omega arith)) all.0,
+      others_go (n + 1) xs (λ m above below. other m (omega (arith, above)) (omega (arith, below))) all.1,
+    )
 
     -- there is a new item of this number
     pub item_put : (y : A) → Q k y → (n i : ℕ) (xs : List A) → n + i ≡ k → AllFrom P n xs → AllFrom Q n (set xs i y)
     item_put y here n i [] e all = tt
-    item_put y here n zero (x ∷ xs) e all =
-        (
-          subst (λ m. Q m y) (omega (arith, e)) here,
-          others_go (n + 1) xs (λ m above below same. omega (arith, e, above, same)) all.1,
-        )
-    item_put y here n (suc i) (x ∷ xs) e all =
-        (
-          goes n x (λ same. omega (arith, e, same)) all.0,
-          item_put y here (n + 1) i xs (omega (arith, e)) all.1,
-        )
+    item_put y here n zero (x ∷ xs) e all = (
+      subst (λ m. Q m y) (omega (arith, e)) here,
+      others_go (n + 1) xs (λ m above below same. omega (arith, e, above, same)) all.1,
+    )
+    item_put y here n (suc i) (x ∷ xs) e all = (
+      goes n x (λ same. omega (arith, e, same)) all.0,
+      item_put y here (n + 1) i xs (omega (arith, e)) all.1,
+    )
 
 -- ---- entries
 
@@ -113,7 +109,8 @@ module _ {A : Type 0} (worker_of : A → TableWorker) (words : Words) (schedule 
       → ((entries : ℕ) → entries < 2 ^ 64 - 1 → HasKeptEntries entries before.machine
       → HasKeptEntries (entries + 1) (worker_of one).machine)
       → AllFrom (λ number one. IsPlayed words (take at schedule) number (worker_of one)) 0 workers
-      → AllFrom (λ number one. IsPlayed words (take (at + 1) schedule) number (worker_of one)) 0 (set workers number one)
+      → AllFrom (λ number one. IsPlayed words (take (at + 1) schedule) number (worker_of one)) 0
+      (set workers number one)
   played_by number workers one before is few was ready stepped =
       let count = few_entries number schedule at (omega (arith, inside)) in
       let here : IsPlayed words (take (at + 1) schedule) number (worker_of one) =

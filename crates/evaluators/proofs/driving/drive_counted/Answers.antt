@@ -34,10 +34,11 @@ steps-preserved g c =
 pub unreachable-requires : goal.unreachable-requires
 unreachable-requires g c =
     let inv = c.steps.invariant in
-    let count = c.demanded_cells_are_listed.ensures.count c.args.machine.now.machine.problem c.requires.ready.admissible in
-    let listed = c.rule_arguments_are_listed.ensures c.args.machine.now.machine.problem c.requires.ready.admissible in
-    let few = c.rule_arguments_are_few.ensures c.args.machine.now.machine.problem c.requires.ready.admissible listed.0
-    listed.1 in
+    let p = c.args.machine.now.machine.problem in
+    let admissible = c.requires.ready.admissible in
+    let count = c.demanded_cells_are_listed.ensures.count p admissible in
+    let listed = c.rule_arguments_are_listed.ensures p admissible in
+    let few = c.rule_arguments_are_few.ensures p admissible listed.0 listed.1 in
     let left = inv.left count.0 listed.0 count.1 listed.1 in
     let bound = few_steps count.0 (length listed.0) count.2 few in
     omega (arith, left, bound, c.steps-test.false)
