@@ -25,13 +25,20 @@ pub nothing : {A : Type 0} (xs : List A) → length xs ≡ 0 → xs ≡ []
 nothing [] none = refl
 nothing (x ∷ xs) none = absurd (omega (arith, none))
 
+pub same_length : {A B : Type 0} (f : A → B) (xs ys : List A) → map f ys ≡ map f xs → length ys ≡ length xs
+same_length f xs ys same = sym (length-map ys f) ∙ ap length same ∙ length-map xs f
+
 -- a vector of so many items, into which a slice of all of them is written back
-pub map_written_back : {A B : Type 0} (f : A → B) (xs ys : List A) (len : ℕ) → len ≡ length xs → map f ys ≡ map f xs
-    → map f (take len (ys ++ drop (length ys) xs)) ≡ map f xs
-map_written_back f xs ys len count same =
-    let lengths : length ys ≡ length xs = sym (length-map ys f) ∙ ap length same ∙ length-map xs f in
+pub map_after : {A B C : Type 0} (f : A → B) (g : A → C) (xs ys : List A) (len : ℕ) → len ≡ length xs
+    → map g ys ≡ map g xs → map f (take len (ys ++ drop (length ys) xs)) ≡ map f ys
+map_after f g xs ys len count same =
+    let lengths = same_length g xs ys same in
     let none : length (drop (length ys) xs) ≡ 0 =
     let left = length-drop (length ys) xs in omega (arith, left, lengths) in
     let all = length-append ys (drop (length ys) xs) in
     ap (map f) (take_whole (ys ++ drop (length ys) xs) len (omega (arith, all, none, lengths, count)))
-    ∙ ap (λ rest. map f (ys ++ rest)) (nothing (drop (length ys) xs) none) ∙ ap (map f) (append-nil ys) ∙ same
+    ∙ ap (λ rest. map f (ys ++ rest)) (nothing (drop (length ys) xs) none) ∙ ap (map f) (append-nil ys)
+
+pub map_written_back : {A B : Type 0} (f : A → B) (xs ys : List A) (len : ℕ) → len ≡ length xs → map f ys ≡ map f xs
+    → map f (take len (ys ++ drop (length ys) xs)) ≡ map f xs
+map_written_back f xs ys len count same = map_after f f xs ys len count same ∙ same

@@ -1,5 +1,5 @@
 -- Teams of workers: fresh ones.
-use Rattle.std.proofs.Common.{◌≡◌, ℕ, suc, ◌+◌, ◌*◌, List, [], ◌∷◌, ◌++◌, map, All, refl, sym, ap, ◌∙◌, subst, arith}
+use Rattle.std.proofs.Common.{◌≡◌, ℕ, suc, ◌+◌, ◌*◌, inl, List, [], ◌∷◌, ◌++◌, map, All, refl, sym, ap, ◌∙◌, subst, arith}
 use Rattle.std.proofs.lemmas.List.{map-append}
 use Rattle.std.proofs.lemmas.List.Elements.{All-push}
 use Rattle.rand_pcg.specs.Lcg.{Lcg, state_after}
@@ -10,9 +10,11 @@ use Rattle.adp_model.specs.Machines.{IsMachine}
 use Rattle.memo_words.specs.declared.words.Words.{Words}
 use Rattle.memo_words.specs.Passes.{IsPassOf, view_of, problem_of}
 use Rattle.memo_table.specs.Meanings.{table_meaning}
-use Rattle.cell_core.specs.MachineViews.{IsFresh, IsNotedIn}
+use Rattle.memo_table.specs.declared.probe.Probe.{Probe}
+use Rattle.cell_core.specs.MachineViews.{MachineView, IsFresh, IsNotedIn}
 use Rattle.evaluators.specs.Posts.{Post, post, posts_of}
 use Rattle.evaluators.specs.Driving.{HasStepsOfFresh}
+use Rattle.evaluators.specs.Schedules.{HasKeptEntries}
 use Rattle.evaluators.specs.Working.{TableWorker, IsReady, first_orders, post_of}
 
 none_drawn : (orders : Lcg) → after_draws 0 orders ≡ orders
@@ -43,6 +45,12 @@ ready_worker words worker p seed number same admissible own fresh machine bound 
       };
       bound = bound;
     }
+
+-- a fresh machine made no step
+pub unmoved_when_fresh : (p : PosedProblem) (orders : Lcg) (machine : MachineView Probe) → IsFresh p orders machine
+    → HasKeptEntries 0 machine
+unmoved_when_fresh p orders machine fresh =
+    record { steps = inl fresh.no_moves; few_wins = omega (arith, fresh.no_wins) }
 
 -- its post, where the pass stands for one and none is left to be split off
 pub post_is : (worker : TableWorker) (p : PosedProblem) (seed number : ℕ) (orders : Lcg)

@@ -4,10 +4,11 @@ use Rattle.rand_pcg.specs.Lcg.{Lcg}
 use Rattle.random_orders.specs.Draws.{after_draws}
 use Rattle.adp_model.specs.Demand.{IsDemandedCount}
 use Rattle.adp_model.specs.SplitArguments.{SplitArgument, AreRuleArguments}
+use Rattle.adp_model.specs.ProblemFields.{IsAdmissible}
 use Rattle.adp_model.specs.Memos.{Meaning}
-use Rattle.adp_model.specs.Machines.{MachineState}
+use Rattle.adp_model.specs.Machines.{MachineState, IsMachine}
 use Rattle.adp_model.specs.StepBound.{step_bound, remaining_bound}
-use Rattle.cell_core.specs.MachineViews.{MachineView}
+use Rattle.cell_core.specs.MachineViews.{MachineView, IsNotedIn}
 
 -- the machine has at most the steps of a fresh one left
 abbrev pub HasStepsOfFresh : {Notes Pass Probe : Type 0} → Meaning Pass Probe → MachineState Notes Probe → Pass → Type 0
@@ -21,3 +22,21 @@ abbrev pub KeepsPace : {Probe : Type 0} → MachineView Probe → MachineView Pr
 KeepsPace before after =
     (first : Lcg) → before.orders ≡ after_draws (4 * before.machine.opened) first
     → after.orders ≡ after_draws (4 * after.machine.opened) first
+
+module _ {Pass Probe : Type 0} (memo : Meaning Pass Probe) (IsOwn : Pass → Type 0) where
+  -- the pass is the memo's, and the machine, which is of an admissible problem, is sound for it and has at most the
+  -- steps of a fresh one left
+  pub record CanGoOn (machine : MachineView Probe) (pass : Pass) : Type 0 where
+    pub admissible : IsAdmissible machine.machine.problem
+    pub own : IsOwn pass
+    pub sound : IsMachine memo IsNotedIn machine.machine pass
+    pub bound : HasStepsOfFresh memo machine.machine pass
+
+  -- the second machine and pass are the first ones after some steps
+  pub record HasGoneOn (before after : MachineView Probe) (pass pass' : Pass) : Type 0 where
+    pub own : IsOwn pass'
+    pub share : memo.share pass' ≡ memo.share pass
+    pub problem : after.machine.problem ≡ before.machine.problem
+    pub sound : IsMachine memo IsNotedIn after.machine pass'
+    pub pace : KeepsPace before after
+    pub wins : memo.wins pass ≡ before.machine.wins → memo.wins pass' ≡ after.machine.wins

@@ -1,5 +1,5 @@
--- What is left of workers that have done their work, once their passes are one.
-use Rattle.std.specs.Prelude.{◌≡◌, ℕ, ◌⊎◌, true, sum, map, All, vec_len}
+-- What is left of workers, the first of which has done its work, once their passes are one.
+use Rattle.std.specs.Prelude.{◌≡◌, ℕ, ◌⊎◌, sum, map, vec_len}
 use Rattle.adp_model.specs.declared.cell.Cell.{Cell}
 use Rattle.adp_model.specs.PosedProblem.{axiom_cell}
 use Rattle.adp_model.specs.Demand.{IsDemanded}
@@ -7,7 +7,7 @@ use Rattle.memo_words.specs.declared.words.Words.{Words}
 use Rattle.memo_words.specs.Passes.{IsPassOf, view_of, problem_of}
 use Rattle.memo_table.specs.Meanings.{knows}
 use Rattle.evaluators.specs.declared.crew.Leavings.{Leavings}
-use Rattle.evaluators.specs.Runs.{AreMachinesFrom, wins_of, ended_of}
+use Rattle.evaluators.specs.Runs.{AreMachinesFrom, HasFirstEnded, wins_of}
 
 -- the pass stands for so many workers and has won what they won, it knows the axiom's cell or no cell is demanded, and
 -- the machines are those of the workers by their numbers
@@ -19,5 +19,5 @@ pub record IsJoined (words : Words) (seed count : ℕ) (left : Leavings) : Type 
   pub wins_are : left.wins.items ≡ map wins_of left.machines.items
   pub machines : AreMachinesFrom (problem_of words) seed 0 left.machines.items
   pub number : vec_len left.machines ≡ count
-  pub ended : All (λ machine. ended_of machine ≡ true) left.machines.items
+  pub first : HasFirstEnded left.machines.items
   pub whole : knows left.pass (axiom_cell (problem_of words)) ⊎ ((cell : Cell) → IsDemanded (problem_of words) cell → ⊥)

@@ -3,4 +3,5 @@ pub mod Driving
 pub mod Working
 pub mod Runs
 pub mod Schedules
+pub mod Playing
 pub mod Joined

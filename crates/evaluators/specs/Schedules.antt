@@ -30,6 +30,10 @@ AreScheduled schedule (won ∷ wins) (moved ∷ moves) (end ∷ ended) =
     (end ≡ true) × KeepEntriesFrom schedule 1 wins moves ended
 AreScheduled schedule wins moves ended = ⊥
 
+abbrev pub HaveKeptSchedule : List ℕ → List (MachineView Probe) → Type 0
+HaveKeptSchedule schedule machines =
+    AreScheduled schedule (map wins_of machines) (map moves_of machines) (map ended_of machines)
+
 -- the machines that are left kept to the schedule
 abbrev pub HasKeptSchedule : List ℕ → Finished → Type 0
 HasKeptSchedule schedule finished =

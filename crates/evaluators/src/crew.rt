@@ -11,9 +11,10 @@ ghost use Rattle.memo_words.specs.Passes.{IsPassOf, view_of, problem_of, plan_of
 ghost use Rattle.memo_words.specs.Views.{first_view};
 ghost use Rattle.evaluators.specs.Posts.{posts_of};
 ghost use Rattle.evaluators.specs.Driving.{HasStepsOfFresh};
-ghost use Rattle.evaluators.specs.Working.{IsReady, IsDone, first_orders, post_of};
+ghost use Rattle.evaluators.specs.Working.{IsReady, IsAtWork, first_orders, post_of};
 ghost use Rattle.evaluators.specs.Joined.{IsJoined};
-ghost use Rattle.evaluators.specs.Runs.{IsFinished, HaveAllEnded};
+ghost use Rattle.evaluators.specs.Runs.{IsFinished, HaveAllEnded, HasFirstEnded};
+ghost use Rattle.evaluators.specs.Schedules.{HasKeptEntries};
 
 use crate::finished::Finished;
 use crate::gate::Gate;
@@ -58,7 +59,7 @@ pub fn run_workers<'a, R: Threads + Sync, G: Gate>(
 }
 
 /// As many workers as the table has seats, each with a machine and a pass of its own.
-fn team<'a, 'g, G: Gate>(
+pub(crate) fn team<'a, 'g, G: Gate>(
     alloc: Global,
     table: &Table,
     prepared: &Arc<Prepared<'a>, Global>,
@@ -76,6 +77,7 @@ fn team<'a, 'g, G: Gate>(
     ensures ready { IfOk result (λ team. All (λ gated. IsReady table.now gated.worker) team.items) }
     ensures posts { IfOk result (λ team. map (λ gated. post_of gated.worker) team.items
         ≡ posts_of (arc_value prepared.now) seed count) }
+    ensures unmoved { IfOk result (λ team. All (λ gated. HasKeptEntries 0 gated.worker.machine) team.items) }
 {
     let mut team = Vec::new(alloc);
     for number in 0..count - 1 {
@@ -122,18 +124,20 @@ pub(crate) struct Leavings<'a> {
     pub(crate) wins: Vec<u64>,
 }
 
-/// Joins all passes, and keeps the machines in order.
-fn join_all<'a, G: Gate>(
+/// Joins all passes, and keeps the machines in order. The first of them has ended.
+pub(crate) fn join_all<'a, G: Gate>(
     alloc: Global,
     table: &Table,
     seed: u64,
     count: u32,
     mut workers: Vec<GatedWorker<'_, TableWorker<'a>, G>>,
 ) -> Result<Leavings<'a>, AllocError>
-    requires done { All (λ gated. IsDone table.now gated.worker) workers.items }
+    requires at_work { All (λ gated. IsAtWork table.now gated.worker) workers.items }
+    requires first { HasFirstEnded (map (λ gated. gated.worker.machine) workers.items) }
     requires posts { map (λ gated. post_of gated.worker) workers.items ≡ posts_of (problem_of table.now) seed count }
     requires some { 1 ≤ count }
-    ensures { IfOk result (IsJoined table.now seed count) }
+    ensures joined { IfOk result (IsJoined table.now seed count) }
+    ensures kept { IfOk result (λ left. left.machines.items ≡ map (λ gated. gated.worker.machine) workers.entry.items) }
 {
     let Some(last) = workers.pop() else {
         unreachable!()
@@ -169,13 +173,13 @@ fn join_all<'a, G: Gate>(
 }
 
 /// Closes the table, from which the answers are read then.
-fn finish<'a>(table: Table, problem: &'a Problem<'a>, seed: u64, left: Leavings<'a>) -> Finished<'a>
+pub(crate) fn finish<'a>(table: Table, problem: &'a Problem<'a>, seed: u64, left: Leavings<'a>) -> Finished<'a>
     requires same { problem_of table ≡ problem.now }
     requires joined { IsJoined table seed (plan_of table).seats left }
     requires some { 1 ≤ (plan_of table).seats }
     ensures finished { IsFinished problem.now seed result }
     ensures machines { vec_len result.machines ≡ (plan_of table).seats }
-    ensures ended { HaveAllEnded result }
+    ensures kept { result.machines.items ≡ left.entry.machines.items }
 {
     problem.admissible();
     demanded_cells_are_listed();

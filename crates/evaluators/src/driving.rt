@@ -1,10 +1,7 @@
 //! A machine that is stepped until it has ended.
 
-ghost use Rattle.std.specs.Prelude.{◌≡◌, ◌<◌, ℕ, true, length};
-ghost use Rattle.adp_model.specs.ProblemFields.{IsAdmissible};
-ghost use Rattle.adp_model.specs.Machines.{IsMachine};
-ghost use Rattle.cell_core.specs.MachineViews.{IsNotedIn};
-ghost use Rattle.evaluators.specs.Driving.{HasStepsOfFresh, KeepsPace};
+ghost use Rattle.std.specs.Prelude.{◌≡◌, ◌<◌, true};
+ghost use Rattle.evaluators.specs.Driving.{CanGoOn, HasGoneOn};
 
 use adp_model::laws::existence::{
     demanded_cells_are_listed, rule_arguments_are_few, rule_arguments_are_listed,
@@ -29,17 +26,8 @@ pub(crate) fn drive<M: Memo, D: Door>(
     pass: &mut M::Pass,
 )
     requires memo { M.problem memo.now ≡ machine.old.machine.problem }
-    requires admissible { IsAdmissible machine.old.machine.problem }
-    requires own { M.is_of memo.now pass.old }
-    requires machine { IsMachine M.meaning IsNotedIn machine.old.machine pass.old }
-    requires bound { HasStepsOfFresh M.meaning machine.old.machine pass.old }
-    ensures own { M.is_of memo.now pass.new }
-    ensures share { M.meaning.share pass.new ≡ M.meaning.share pass.old }
-    ensures problem { machine.new.machine.problem ≡ machine.old.machine.problem }
-    ensures machine { IsMachine M.meaning IsNotedIn machine.new.machine pass.new }
-    ensures pace { KeepsPace machine.old machine.new }
-    ensures wins { M.meaning.wins pass.old ≡ machine.old.machine.wins
-        → M.meaning.wins pass.new ≡ machine.new.machine.wins }
+    requires ready { CanGoOn M.meaning (M.is_of memo.now) machine.old pass.old }
+    ensures on { HasGoneOn M.meaning (M.is_of memo.now) machine.old machine.new pass.old pass.new }
     ensures ended { machine.new.machine.ended ≡ true }
 {
     drive_counted::<M, Brand, D>(memo, door, number, Blank::new(1), machine, pass);
@@ -57,17 +45,8 @@ fn drive_counted<M: Memo, L: Ledger, D: Door>(
     requires name { blank.name ≡ L.name }
     requires parts { (blank.parts ≡ L.parts) × (0 < blank.parts) }
     requires memo { M.problem memo.now ≡ machine.old.machine.problem }
-    requires admissible { IsAdmissible machine.old.machine.problem }
-    requires own { M.is_of memo.now pass.old }
-    requires machine { IsMachine M.meaning IsNotedIn machine.old.machine pass.old }
-    requires bound { HasStepsOfFresh M.meaning machine.old.machine pass.old }
-    ensures own { M.is_of memo.now pass.new }
-    ensures share { M.meaning.share pass.new ≡ M.meaning.share pass.old }
-    ensures problem { machine.new.machine.problem ≡ machine.old.machine.problem }
-    ensures machine { IsMachine M.meaning IsNotedIn machine.new.machine pass.new }
-    ensures pace { KeepsPace machine.old machine.new }
-    ensures wins { M.meaning.wins pass.old ≡ machine.old.machine.wins
-        → M.meaning.wins pass.new ≡ machine.new.machine.wins }
+    requires ready { CanGoOn M.meaning (M.is_of memo.now) machine.old pass.old }
+    ensures on { HasGoneOn M.meaning (M.is_of memo.now) machine.old machine.new pass.old pass.new }
     ensures ended { machine.new.machine.ended ≡ true }
 {
     demanded_cells_are_listed();

@@ -7,8 +7,10 @@ mod finished;
 mod gate;
 mod gated;
 mod halves;
+mod schedule;
 mod worker;
 
 pub use crew::run_workers;
 pub use finished::{Finished, RunNote};
 pub use gate::{Gate, LogGate, OpenGate};
+pub use schedule::run_schedule;

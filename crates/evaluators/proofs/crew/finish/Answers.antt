@@ -1,10 +1,9 @@
-use Rattle.std.proofs.Common.{◌≡◌, length, sum, sym, ap, ◌∙◌, subst, arith}
+use Rattle.std.proofs.Common.{◌≡◌, sum, sym, ap, ◌∙◌, subst}
 use Rattle.adp_model.specs.PosedProblem.{PosedProblem}
 use Rattle.adp_model.specs.Demand.{IsDemandedCount}
 use Rattle.memo_words.specs.Layout.{Plan}
-use Rattle.memo_words.specs.Passes.{plan_of, problem_of}
+use Rattle.memo_words.specs.Passes.{problem_of}
 use Rattle.evaluators.specs.Runs.{AreMachinesFrom}
-use Rattle.evaluators.proofs.Finishing.{first_ended}
 use Rattle.evaluators.proofs.crew.finish.Goals as goal
 
 pub returns-clause-finished : goal.returns-clause-finished
@@ -21,10 +20,7 @@ returns-clause-finished c =
       answer = c.axiom_answer-answer.ensures;
       machines = subst (λ (q : PosedProblem). AreMachinesFrom q c.args.seed 0 c.args.left.machines.items)
           c.requires.same joined.machines;
-      first = first_ended c.args.left.machines.items joined.ended
-          (let number : length c.args.left.machines.items ≡ (plan_of c.args.table).seats =
-          sym c.args.left.machines.ok.0 ∙ joined.number in
-          omega (arith, number, c.requires.some));
+      first = joined.first;
       wins_are = joined.wins_are;
       wins_sum = subst (IsDemandedCount p) won counted.1;
     }

@@ -1,10 +1,12 @@
-use Rattle.std.proofs.Common.{◌≡◌, map, ap, ◌∙◌, rules}
+use Rattle.std.proofs.Common.{◌≡◌, true, map, All, sym, ap, ◌∙◌, subst, rules}
 use Rattle.std.specs.Arc.{arc_value}
 use Rattle.memo_words.specs.Passes.{problem_of}
 use Rattle.evaluators.specs.Posts.{posts_of}
+use Rattle.evaluators.specs.Runs.{HasFirstEnded, ended_of}
 use Rattle.evaluators.specs.Working.{TableWorker, post_of}
 use Rattle.evaluators.specs.declared.gated.GatedWorker.{GatedWorker}
-use Rattle.evaluators.proofs.Listed.{map_written_back}
+use Rattle.evaluators.proofs.Listed.{map_after, map_written_back}
+use Rattle.evaluators.proofs.Finishing.{all_ended, first_of_ended}
 use Rattle.evaluators.proofs.crew.run_workers.Goals as goal
 
 pub join_all-requires-clause-posts : goal.join_all-requires-clause-posts
@@ -16,3 +18,29 @@ join_all-requires-clause-posts g c κs lives =
     (c.run_all.ensures.posts
     ∙ ap (map (λ (gated : GatedWorker TableWorker _). post_of gated.worker)) c.as_mut_slice.ensures.value)
     ∙ (c.in_ok-crew.ensures {u = tt}).posts ∙ ap (λ p. posts_of p c.args.seed c.args.workers) same
+
+pub join_all-requires-clause-first : goal.join_all-requires-clause-first
+join_all-requires-clause-first g c κs lives =
+    let crew = c.in_ok-crew.crew in
+    let left = c.run_all.new.workers in
+    let posts = c.run_all.ensures.posts
+    ∙ ap (map (λ (gated : GatedWorker TableWorker _). post_of gated.worker)) c.as_mut_slice.ensures.value in
+    let machines = map_after (λ (gated : GatedWorker TableWorker _). gated.worker.machine)
+    (λ (gated : GatedWorker TableWorker _). post_of gated.worker) crew.items left crew.len crew.ok.0 posts in
+    subst HasFirstEnded (sym machines)
+    (first_of_ended (λ (gated : GatedWorker TableWorker _). gated.worker) c.in_ok-table.table left
+    (problem_of c.in_ok-table.table) c.args.seed c.args.workers c.run_all.ensures.done
+    (posts ∙ (c.in_ok-crew.ensures {u = tt}).posts ∙ ap (λ p. posts_of p c.args.seed c.args.workers) (search rules))
+    c.requires.0)
+
+pub returns-clause-ended : goal.returns-clause-ended
+returns-clause-ended g c =
+    let crew = c.in_ok-crew.crew in
+    let left = c.run_all.new.workers in
+    let posts = c.run_all.ensures.posts
+    ∙ ap (map (λ (gated : GatedWorker TableWorker _). post_of gated.worker)) c.as_mut_slice.ensures.value in
+    let machines = map_after (λ (gated : GatedWorker TableWorker _). gated.worker.machine)
+    (λ (gated : GatedWorker TableWorker _). post_of gated.worker) crew.items left crew.len crew.ok.0 posts in
+    subst (All (λ machine. ended_of machine ≡ true))
+    (sym (c.finish.ensures.kept ∙ (c.in_ok-left.ensures {u = tt}).kept ∙ machines))
+    (all_ended (λ (gated : GatedWorker TableWorker _). gated.worker) c.in_ok-table.table left c.run_all.ensures.done)

@@ -5,8 +5,9 @@ use Rattle.memo_words.specs.declared.pass.Pass.{Pass}
 use Rattle.memo_words.specs.Passes.{IsPassOf, view_of}
 use Rattle.evaluators.specs.Posts.{posts_of}
 use Rattle.evaluators.specs.Working.{TableWorker, IsReady, first_orders, post_of}
+use Rattle.evaluators.specs.Schedules.{HasKeptEntries}
 use Rattle.evaluators.specs.declared.gated.GatedWorker.{GatedWorker}
-use Rattle.evaluators.proofs.Teams.{ready_worker, post_is, posts_pushed, all_pushed}
+use Rattle.evaluators.proofs.Teams.{ready_worker, unmoved_when_fresh, post_is, posts_pushed, all_pushed}
 use Rattle.evaluators.proofs.crew.team.Goals as goal
 
 pub loop-number-preserved : goal.loop-number-preserved
@@ -38,6 +39,9 @@ loop-number-preserved g c =
       wins = ap (λ (v : View). v.wins) split.old_view ∙ inv.wins;
       ready = all_pushed (λ (gated : GatedWorker TableWorker _). IsReady words gated.worker) c.loop-number.team.items
           c.push.new.self.items _ c.in_ok-push.ensures.items inv.ready ready;
+      unmoved = all_pushed (λ (gated : GatedWorker TableWorker _). HasKeptEntries 0 gated.worker.machine)
+          c.loop-number.team.items c.push.new.self.items _ c.in_ok-push.ensures.items inv.unmoved
+          (unmoved_when_fresh p (first_orders c.args.seed number) it.machine made.fresh);
       posts = posts_pushed (λ (gated : GatedWorker TableWorker _). post_of gated.worker) p c.args.seed number
           c.loop-number.team.items c.push.new.self.items _ c.in_ok-push.ensures.items inv.posts here (number + 1) refl;
     }
@@ -79,3 +83,12 @@ returns-clause-posts g c =
     ≡ posts_of p seed k)
     last inv.posts)
     here c.args.count (omega (arith, c.requires.some))
+
+pub returns-clause-unmoved : goal.returns-clause-unmoved
+returns-clause-unmoved g c =
+    let made = c.in_ok-worker-2.ensures in
+    let it = c.in_ok-worker-2.worker in
+    all_pushed (λ (gated : GatedWorker TableWorker _). HasKeptEntries 0 gated.worker.machine) c.loop-number.team.items
+    c.push-2.new.self.items _ c.in_ok-push-2.ensures.items c.loop-number.invariant.unmoved
+    (unmoved_when_fresh (arc_value c.args.prepared.now) (first_orders c.args.seed (c.args.count - 1)) it.machine
+    made.fresh)

@@ -1,21 +1,18 @@
-use Rattle.std.proofs.Common.{◌∙◌}
-use Rattle.evaluators.specs.Working.{first_orders}
+use Rattle.evaluators.proofs.GoingOn.{can_go_on, still_at_work, same_post}
 use Rattle.evaluators.proofs.worker.work.Goals as goal
+
+pub drive-requires-clause-ready : goal.drive-requires-clause-ready
+drive-requires-clause-ready g c = can_go_on c.args.table.now c.args.worker.now c.requires.ready
 
 pub returns-clause-done : goal.returns-clause-done
 returns-clause-done g c =
     let now = c.drive.ensures in
-    let was = c.requires.ready.at_work in
     record {
-      at_work = record {
-        admissible = was.admissible;
-        own = now.own;
-        machine = now.machine;
-        is_of = record {
-          problem = now.problem ∙ was.is_of.problem;
-          orders = now.pace (first_orders c.args.worker.now.seed c.args.worker.now.number) was.is_of.orders;
-        };
-        wins = now.wins was.wins;
-      };
+      at_work = still_at_work c.args.table.now c.args.worker.now c.drive.new.machine c.drive.new.pass now.on
+          c.requires.ready.at_work;
       ended = now.ended;
     }
+
+pub returns-clause-post : goal.returns-clause-post
+returns-clause-post g c =
+    same_post c.args.table.now c.args.worker.now c.drive.new.machine c.drive.new.pass c.drive.ensures.on

@@ -1,0 +1,15 @@
+-- What holds of workers while a schedule is played.
+use Rattle.std.specs.Prelude.{ℕ, ◌+◌, List, [], ◌∷◌}
+use Rattle.memo_words.specs.declared.words.Words.{Words}
+use Rattle.evaluators.specs.Working.{TableWorker, IsReady}
+use Rattle.evaluators.specs.Schedules.{HasKeptEntries, entries_of}
+
+-- the items, which are numbered from this number on, each have what is said of their number
+abbrev pub AllFrom : {A : Type 0} → (ℕ → A → Type 0) → ℕ → List A → Type 0
+AllFrom Has number [] = Unit {0}
+AllFrom Has number (item ∷ items) = Has number item × AllFrom Has (number + 1) items
+
+-- the worker of this number is ready to go on, and its machine has made its steps of the schedule
+pub record IsPlayed (words : Words) (schedule : List ℕ) (number : ℕ) (worker : TableWorker) : Type 0 where
+  pub ready : IsReady words worker
+  pub kept : HasKeptEntries (entries_of number schedule) worker.machine
