@@ -16,6 +16,8 @@ mod made;
 #[cfg(test)]
 mod runs;
 #[cfg(test)]
+mod schedules;
+#[cfg(test)]
 mod streams;
 #[cfg(test)]
 mod terms;

@@ -10,8 +10,8 @@ use Rattle.memo_table.specs.declared.probe.Probe.{Probe}
 use Rattle.cell_core.specs.MachineViews.{MachineView}
 use Rattle.evaluators.specs.Runs.{HasFirstEnded, wins_of, moves_of, ended_of}
 use Rattle.evaluators.specs.Working.{TableWorker, IsReady, IsDone}
-use Rattle.evaluators.specs.Schedules.{entries_of, KeepsEntries, HasKeptEntries, KeepEntriesFrom, HaveKeptSchedule}
-use Rattle.evaluators.specs.Playing.{AllFrom, IsPlayed}
+use Rattle.evaluators.specs.Schedules.{entries_of, KeepsEntries, KeepEntriesFrom}
+use Rattle.evaluators.specs.Playing.{HasKeptEntries, HaveKeptSchedule, AllFrom, IsPlayed}
 
 -- ---- numbered items
 

@@ -14,7 +14,7 @@ use Rattle.memo_table.specs.declared.probe.Probe.{Probe}
 use Rattle.cell_core.specs.MachineViews.{MachineView, IsFresh, IsNotedIn}
 use Rattle.evaluators.specs.Posts.{Post, post, posts_of}
 use Rattle.evaluators.specs.Driving.{HasStepsOfFresh}
-use Rattle.evaluators.specs.Schedules.{HasKeptEntries}
+use Rattle.evaluators.specs.Playing.{HasKeptEntries}
 use Rattle.evaluators.specs.Working.{TableWorker, IsReady, first_orders, post_of}
 
 none_drawn : (orders : Lcg) → after_draws 0 orders ≡ orders

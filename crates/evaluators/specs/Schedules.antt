@@ -1,9 +1,7 @@
 -- What a schedule asks of machines: each of its entries steps the machine of that number once.
 use Rattle.std.specs.Prelude.{◌≡◌, ℕ, ◌+◌, ◌≤◌, ◌⊎◌, Bool, true, List, [], ◌∷◌, map, count_by, nat_eq}
-use Rattle.memo_table.specs.declared.probe.Probe.{Probe}
-use Rattle.cell_core.specs.MachineViews.{MachineView}
 use Rattle.evaluators.specs.declared.finished.Finished.{Finished}
-use Rattle.evaluators.specs.Runs.{wins_of, moves_of, ended_of}
+use Rattle.evaluators.specs.Runs.{moves_of, ended_of}
 
 -- how many entries of the schedule are this machine's
 abbrev pub entries_of : ℕ → List ℕ → ℕ
@@ -13,9 +11,6 @@ entries_of number schedule = count_by (nat_eq number) schedule
 pub record KeepsEntries (entries wins moves : ℕ) (ended : Bool) : Type 0 where
   pub steps : (moves ≡ entries) ⊎ ((moves ≤ entries) × (ended ≡ true))
   pub few_wins : wins ≤ moves
-
-abbrev pub HasKeptEntries : ℕ → MachineView Probe → Type 0
-HasKeptEntries entries machine = KeepsEntries entries (wins_of machine) (moves_of machine) (ended_of machine)
 
 -- so do the machines from this number on
 abbrev pub KeepEntriesFrom : List ℕ → ℕ → List ℕ → List ℕ → List Bool → Type 0
@@ -29,10 +24,6 @@ abbrev pub AreScheduled : List ℕ → List ℕ → List ℕ → List Bool → T
 AreScheduled schedule (won ∷ wins) (moved ∷ moves) (end ∷ ended) =
     (end ≡ true) × KeepEntriesFrom schedule 1 wins moves ended
 AreScheduled schedule wins moves ended = ⊥
-
-abbrev pub HaveKeptSchedule : List ℕ → List (MachineView Probe) → Type 0
-HaveKeptSchedule schedule machines =
-    AreScheduled schedule (map wins_of machines) (map moves_of machines) (map ended_of machines)
 
 -- the machines that are left kept to the schedule
 abbrev pub HasKeptSchedule : List ℕ → Finished → Type 0

@@ -14,7 +14,7 @@ ghost use Rattle.evaluators.specs.Driving.{HasStepsOfFresh};
 ghost use Rattle.evaluators.specs.Working.{IsReady, IsAtWork, first_orders, post_of};
 ghost use Rattle.evaluators.specs.Joined.{IsJoined};
 ghost use Rattle.evaluators.specs.Runs.{IsFinished, HaveAllEnded, HasFirstEnded};
-ghost use Rattle.evaluators.specs.Schedules.{HasKeptEntries};
+ghost use Rattle.evaluators.specs.Playing.{HasKeptEntries};
 
 use crate::finished::Finished;
 use crate::gate::Gate;
@@ -135,7 +135,6 @@ pub(crate) fn join_all<'a, G: Gate>(
     requires at_work { All (λ gated. IsAtWork table.now gated.worker) workers.items }
     requires first { HasFirstEnded (map (λ gated. gated.worker.machine) workers.items) }
     requires posts { map (λ gated. post_of gated.worker) workers.items ≡ posts_of (problem_of table.now) seed count }
-    requires some { 1 ≤ count }
     ensures joined { IfOk result (IsJoined table.now seed count) }
     ensures kept { IfOk result (λ left. left.machines.items ≡ map (λ gated. gated.worker.machine) workers.entry.items) }
 {
@@ -176,7 +175,6 @@ pub(crate) fn join_all<'a, G: Gate>(
 pub(crate) fn finish<'a>(table: Table, problem: &'a Problem<'a>, seed: u64, left: Leavings<'a>) -> Finished<'a>
     requires same { problem_of table ≡ problem.now }
     requires joined { IsJoined table seed (plan_of table).seats left }
-    requires some { 1 ≤ (plan_of table).seats }
     ensures finished { IsFinished problem.now seed result }
     ensures machines { vec_len result.machines ≡ (plan_of table).seats }
     ensures kept { result.machines.items ≡ left.entry.machines.items }

@@ -3,8 +3,8 @@
 ghost use Rattle.std.specs.Prelude.{◌≡◌, ◌+◌, ◌-◌, ◌<◌, ◌≤◌, ◌^◌, ℕ, [], IfOk, All, map, take, length, vec_len};
 ghost use Rattle.evaluators.specs.Working.{IsReady, IsAtWork, post_of};
 ghost use Rattle.evaluators.specs.Runs.{IsFinished};
-ghost use Rattle.evaluators.specs.Schedules.{HasKeptEntries, HaveKeptSchedule, HasKeptSchedule};
-ghost use Rattle.evaluators.specs.Playing.{AllFrom, IsPlayed};
+ghost use Rattle.evaluators.specs.Schedules.{HasKeptSchedule};
+ghost use Rattle.evaluators.specs.Playing.{HasKeptEntries, HaveKeptSchedule, AllFrom, IsPlayed};
 
 use crate::crew::{finish, join_all, team};
 use crate::finished::Finished;

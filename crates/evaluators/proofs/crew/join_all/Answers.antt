@@ -1,8 +1,9 @@
-use Rattle.std.proofs.Common.{◌≡◌, ◌++◌, ◌∷◌, [], length, refl, sym, ap, ◌∙◌, arith}
+use Rattle.std.proofs.Common.{◌≡◌, ◌++◌, ◌∷◌, List, [], length, map, refl, sym, ap, ◌∙◌, subst}
 use Rattle.std.proofs.lemmas.List.Elements.{All-pop}
 use Rattle.std.specs.declared.option.Option.TheVariants.{Some}
 use Rattle.memo_words.specs.Passes.{problem_of}
 use Rattle.evaluators.specs.Posts.{posts_of}
+use Rattle.evaluators.specs.Runs.{HasFirstEnded}
 use Rattle.evaluators.specs.Working.{TableWorker, IsAtWork, post_of}
 use Rattle.evaluators.specs.declared.gated.GatedWorker.{GatedWorker}
 use Rattle.evaluators.proofs.Listed.{nothing}
@@ -13,9 +14,8 @@ pub unreachable-requires : goal.unreachable-requires
 unreachable-requires g c =
     let none : length c.args.workers.items ≡ 0 =
     sym c.args.workers.ok.0 ∙ (c.in_default.ensures {u = tt}).cases.0 in
-    let many = posts_length (λ (gated : GatedWorker TableWorker _). post_of gated.worker) (problem_of c.args.table.now)
-    c.args.seed c.args.count c.args.workers.items c.requires.posts in
-    absurd (omega (arith, none, many, c.requires.some))
+    absurd (subst (λ (ones : List (GatedWorker TableWorker _)). HasFirstEnded (map (λ one. one.worker.machine) ones))
+    (nothing c.args.workers.items none) c.requires.first)
 
 pub loop-gated-init : goal.loop-gated-init
 loop-gated-init g c =

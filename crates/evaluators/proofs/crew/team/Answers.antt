@@ -5,7 +5,7 @@ use Rattle.memo_words.specs.declared.pass.Pass.{Pass}
 use Rattle.memo_words.specs.Passes.{IsPassOf, view_of}
 use Rattle.evaluators.specs.Posts.{posts_of}
 use Rattle.evaluators.specs.Working.{TableWorker, IsReady, first_orders, post_of}
-use Rattle.evaluators.specs.Schedules.{HasKeptEntries}
+use Rattle.evaluators.specs.Playing.{HasKeptEntries}
 use Rattle.evaluators.specs.declared.gated.GatedWorker.{GatedWorker}
 use Rattle.evaluators.proofs.Teams.{ready_worker, unmoved_when_fresh, post_is, posts_pushed, all_pushed}
 use Rattle.evaluators.proofs.crew.team.Goals as goal

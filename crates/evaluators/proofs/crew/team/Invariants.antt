@@ -3,7 +3,7 @@ use Rattle.std.specs.Arc.{arc_value}
 use Rattle.memo_words.specs.Passes.{IsPassOf, view_of}
 use Rattle.evaluators.specs.Posts.{posts_of}
 use Rattle.evaluators.specs.Working.{IsReady, post_of}
-use Rattle.evaluators.specs.Schedules.{HasKeptEntries}
+use Rattle.evaluators.specs.Playing.{HasKeptEntries}
 use Rattle.evaluators.proofs.crew.team.Given as goal
 
 abbrev pub invariant-loop-number : goal.invariant-loop-number

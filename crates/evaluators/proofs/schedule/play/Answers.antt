@@ -1,8 +1,7 @@
 use Rattle.std.proofs.Common.{[], arith}
 use Rattle.std.proofs.lemmas.List.Elements.{All-set}
 use Rattle.evaluators.specs.Working.{TableWorker, IsReady, IsAtWork, post_of}
-use Rattle.evaluators.specs.Schedules.{HasKeptEntries}
-use Rattle.evaluators.specs.Playing.{IsPlayed}
+use Rattle.evaluators.specs.Playing.{HasKeptEntries, IsPlayed}
 use Rattle.evaluators.specs.declared.gated.GatedWorker.{GatedWorker}
 use Rattle.evaluators.proofs.Listed.{same_length}
 use Rattle.evaluators.proofs.Playing.{from_all, to_all, kept_schedule}

@@ -4,7 +4,8 @@ use Rattle.memo_words.specs.Passes.{problem_of}
 use Rattle.evaluators.specs.Posts.{posts_of}
 use Rattle.evaluators.specs.Runs.{HasFirstEnded, moves_of, ended_of}
 use Rattle.evaluators.specs.Working.{TableWorker, post_of}
-use Rattle.evaluators.specs.Schedules.{AreScheduled, HaveKeptSchedule}
+use Rattle.evaluators.specs.Schedules.{AreScheduled}
+use Rattle.evaluators.specs.Playing.{HaveKeptSchedule}
 use Rattle.evaluators.specs.declared.gated.GatedWorker.{GatedWorker}
 use Rattle.evaluators.proofs.Listed.{map_after, map_written_back}
 use Rattle.evaluators.proofs.Joining.{posts_length}
