@@ -85,7 +85,7 @@ class _Mark(str):
 @dataclass
 class Report:
     """What is said of a word: its number, from 1; the best score and the first tree of it, or None; its cells; and by
-    the mode `wins` how many answers each evaluator put into the table."""
+    the modes `wins` and `replay` how many answers each evaluator put into the table."""
 
     word: int
     score: int | None
@@ -169,13 +169,13 @@ def find_program():
     return beside if os.access(beside, os.X_OK) else shutil.which("adp") or "adp"
 
 
-def solve(job=None, *, mode="best", algebra=None, program=None, workers=None, seed=None, **parts):
+def solve(job=None, *, mode="best", algebra=None, program=None, workers=None, seed=None, schedule=None, **parts):
     """The reports of a job, which is a text, or is made of its parts (see `write_job`). A fault is raised. The mode is one
-    that reads a job: 'best', 'serial' or 'wins'."""
+    that reads a job: 'best', 'serial', 'wins', or 'replay' with a schedule."""
     if (job is None) == (not parts):
         raise TypeError("a job is a text, or is given by its parts")
     text = write_job(**parts) if job is None else job
-    options = {"algebra": algebra, "workers": workers, "seed": seed}
+    options = {"algebra": algebra, "workers": workers, "seed": seed, "schedule": schedule}
     return list(read_reports(_written(program, mode, options, text)))
 
 

@@ -15,12 +15,13 @@ BEGIN {
   MOST_HEADER = 400000
   MOST_TOKENS = 60000
   MOST_NOTED = 20000
+  MOST_ENTRIES = 4096
   for (code = 1; code < 256; code++) code_of[sprintf("%c", code)] = code
   HEX = "0123456789ABCDEF"
   said_words = split("class sign algebra let rule grammar words", KEYWORDS, " ")
-  split("best serial wins big", MODES, " ")
-  said_options = split("--algebra --workers --seed --size", OPTIONS, " ")
-  MODES_IN_WORDS = "best, serial, wins or big"
+  split("best serial wins replay big", MODES, " ")
+  said_options = split("--algebra --workers --seed --schedule --size", OPTIONS, " ")
+  MODES_IN_WORDS = "best, serial, wins, replay or big"
   count = split(fault, part, " ")
   if (part[1] != "fault") exit
   if (part[2] == "text" && part[3] == "line") explain_text(part[4] + 0, part[6] + 0, part[8])
@@ -1419,12 +1420,16 @@ function tell_mode(word,    near) {
 function tell_lacking_option(mode, given) {
   if (mode == "big" && !("--size" in given)) tell("The mode big needs a size, which says how many letters are made: " \
       "as `--size 400`.")
+  if (mode == "replay" && !("--schedule" in given)) tell("The mode replay needs a schedule, which says who makes " \
+      "each step: as `--schedule 0110`.")
 }
 
 # Why a mode doesn't take an option; nothing where it does.
 function refusal(mode, option) {
   if (option == "--algebra" && mode == "big") return "The mode big has an algebra of its own, and takes no --algebra."
   if (option == "--size" && mode != "big") return "The option --size is of the mode big alone: a job has its own words."
+  if (option == "--schedule" && mode != "replay") return "The option --schedule is of the mode replay alone: in the " \
+      "others evaluators step as they come."
   return ""
 }
 
@@ -1448,7 +1453,8 @@ function tell_option(mode, word, has_value, value, given,    near, least, most) 
   if (word ~ /=/ ) { tell(quoted(word) ": a space stands between an option and its value, and no `=`."); return 1 }
   if (!is_one_of(word, OPTIONS)) {
     near = nearest(word, OPTIONS)
-    tell(quoted(word) " is no option: " (near == "" ? "there are --algebra, --workers, --seed and --size." : "is " \
+    tell(quoted(word) " is no option: " (near == "" ? "there are --algebra, --workers, --seed, --schedule and " \
+        "--size." : "is " \
         near " meant?"))
     return 1
   }
@@ -1460,6 +1466,14 @@ function tell_option(mode, word, has_value, value, given,    near, least, most) 
     if (is_name(value)) return 0
     tell(quoted(value) " is no name of an algebra: a name begins with a letter, and has at most 32 letters, digits " \
         "and `_`.")
+    return 1
+  }
+  if (word == "--schedule") {
+    if (value ~ /^[0-9a-v]+$/ && length(value) <= MOST_ENTRIES) return 0
+    if (length(value) > MOST_ENTRIES) tell("A schedule has at most " MOST_ENTRIES " characters, and this one has " \
+        length(value) ".")
+    else tell("A schedule is digits and small letters from a to v, one for each step, for the evaluators 0 to 31, " \
+        "and not " quoted(value) ".")
     return 1
   }
   if (!is_digits(value) && is_file(value)) { tell("The option " word " lacks its value: the file " quoted(value) \

@@ -4,6 +4,7 @@ _adp_options() {
   for word in "${COMP_WORDS[@]:1}"; do
     case $word in
       big) echo '--workers --seed --size --explain'; return ;;
+      replay) echo '--algebra --workers --seed --schedule --explain'; return ;;
       best | serial | wins) break ;;
     esac
   done
@@ -23,14 +24,14 @@ _adp() {
       return
       ;;
     --workers) mapfile -t COMPREPLY < <(compgen -W '1 2 4 8 16 32' -- "$word"); return ;;
-    --seed | --size) return ;;
+    --seed | --schedule | --size) return ;;
   esac
   if [ "$COMP_CWORD" = 1 ]; then
-    mapfile -t COMPREPLY < <(compgen -W 'best serial wins big --explain --version --help' -- "$word")
+    mapfile -t COMPREPLY < <(compgen -W 'best serial wins replay big --explain --version --help' -- "$word")
   elif [ "${word#-}" != "$word" ]; then
     mapfile -t COMPREPLY < <(compgen -W "$(_adp_options)" -- "$word")
   elif [[ $before == --explain && $COMP_CWORD == 2 ]]; then
-    mapfile -t COMPREPLY < <(compgen -W 'best serial wins big' -- "$word")
+    mapfile -t COMPREPLY < <(compgen -W 'best serial wins replay big' -- "$word")
   else
     compopt -o filenames 2>/dev/null
     mapfile -t COMPREPLY < <(compgen -f -- "$word")

@@ -1,8 +1,7 @@
 -- How a run ends that makes its word.
-use Rattle.std.proofs.Common.{◌≡◌, ℕ, List, [], ◌∷◌, ◌++◌, Option, Result, Ok, Err, inl, inr, refl, sym, subst}
+use Rattle.std.proofs.Common.{◌≡◌, ℕ, List, [], ◌∷◌, Option, Result, Ok, Err, inl, inr, refl, sym, subst}
 use Rattle.std.specs.List.{concat}
 use Rattle.std.specs.Io.KnownBytes.{Appends}
-use Rattle.std.proofs.KnownBytes.{Appends-nil}
 use Rattle.std.proofs.lemmas.List.{append-nil}
 use Rattle.adp_io.specs.Streams.{AppendsProperPrefix}
 use Rattle.adp_model.specs.BigReport.{IsBigReport}
@@ -13,7 +12,7 @@ use Rattle.evaluators.specs.declared.finished.RunNote.{RunNote}
 use Rattle.report.specs.declared.fault.Fault.{Fault}
 use Rattle.report.specs.declared.fault.Fault.TheVariants as faults
 use Rattle.adp_main.specs.declared.status.Status.{Status}
-use Rattle.adp_main.specs.declared.status.Status.TheVariants.{Done, Usage, ReadFault, WriteFault, Limit, Memory}
+use Rattle.adp_main.specs.declared.status.Status.TheVariants.{Usage, ReadFault, WriteFault, Limit, Memory}
 use Rattle.adp_main.specs.Faults.{status_after}
 use Rattle.adp_main.specs.Ending.{IsBeforeWriting, IsOfVerdict, ShowsFirst, ShowsPart, ShowsVerdict}
 use Rattle.adp_main.specs.Making.{IsBigEnding}
@@ -56,14 +55,17 @@ module _ (words : List (List ℕ)) (command : Command) (is : IsCommand words com
     };
     part = λ e. cc;
     first = λ e. cc;
-    noted = λ _. inr (inr (refl, record {
-      command = command;
-      is_command = is;
-      makes = makes;
-      note = note;
-      is_note = for;
-      noted = adds;
-    }));
+    noted = λ _. inr (inr (
+      refl,
+      record {
+        command = command;
+        is_command = is;
+        makes = makes;
+        note = note;
+        is_note = for;
+        noted = adds;
+      },
+    ));
   }
   made_ending (Err faults.Write) old new held held' (same, report, made, part) = record {
     not_usage = λ e. cc;

@@ -1,12 +1,12 @@
 -- The word that is made: its grammar has no fault, its length is its size, and what is reported of it.
-use Rattle.std.proofs.Common.{◌≡◌, Option, Result, Err, ℕ, zero, suc, ◌<◌, ◌≤◌, List, [], ◌∷◌, ℤ, length, codes, refl, sym, ap, subst, ◌∙◌, arith}
+use Rattle.std.proofs.Common.{◌≡◌, Option, Err, ℕ, zero, suc, List, [], ℤ, length, refl, ap, subst, ◌∙◌, arith}
 use Rattle.adp_model.specs.declared.cell.Answer.{Answer}
 use Rattle.adp_model.specs.declared.cell.Answer.TheVariants.{NoCandidate, Best}
 use Rattle.adp_model.specs.declared.cell.Choice.{Choice}
 use Rattle.adp_model.specs.declared.fault.GrammarFault.{GrammarFault}
 use Rattle.adp_model.specs.declared.grammar.Grammar.{Grammar}
 use Rattle.adp_model.specs.Answers.{IsAnswer}
-use Rattle.adp_model.specs.BigReport.{big_lines, letter_of, made_problem, made_word, next_state, pairs_grammar, IsBigReport}
+use Rattle.adp_model.specs.BigReport.{big_lines, made_problem, made_word, next_state, pairs_grammar, IsBigReport}
 use Rattle.adp_model.specs.Command.{Command}
 use Rattle.adp_model.specs.Demand.{IsDemandedCount}
 use Rattle.adp_model.specs.Derivation.{Derives}
@@ -72,8 +72,8 @@ is_report p seed size is score choice answered cells counted report lines =
     )
 
 pub note_is : (command : Command) (p : PosedProblem) (seed size : ℕ) → p ≡ made_problem seed size → (note : RunNote)
-    → IsNoteFor command p note → IsNoteFor command (made_problem seed size) note
-note_is command p seed size is note for = subst (λ (q : PosedProblem). IsNoteFor command q note) is for
+    → IsNoteFor command [] p note → IsNoteFor command [] (made_problem seed size) note
+note_is command p seed size is note for = subst (λ (q : PosedProblem). IsNoteFor command [] q note) is for
 
 -- its report was not written whole
 pub unwritten_made : (command : Command) (report bytes : List ℕ) → IsBigReport command.seed command.size report

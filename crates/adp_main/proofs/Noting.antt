@@ -1,15 +1,17 @@
 -- What a gate notes of evaluators that have run is the note that was asked for.
-use Rattle.std.proofs.Common.{◌≡◌, ℕ, ◌++◌, List, [], ◌∷◌, length, map, sum, All, Bool, true, Option, None, Some, Result, Ok, Err, refl, sym, ap, subst, ◌∙◌}
+use Rattle.std.proofs.Common.{◌≡◌, ℕ, List, [], ◌∷◌, length, map, sum, All, Bool, true, Option, None, Some, Ok, refl, sym, ap, subst, ◌∙◌}
 use Rattle.std.proofs.lemmas.List.{length-map}
 use Rattle.std.proofs.lemmas.List.Elements.{All-map}
 use Rattle.adp_model.specs.PosedProblem.{PosedProblem, axiom_cell}
 use Rattle.adp_model.specs.Answers.{IsAnswer}
 use Rattle.adp_model.specs.Demand.{IsDemandedCount}
-use Rattle.adp_model.specs.Command.{Command}
+use Rattle.adp_model.specs.Command.{Mode, Replay, Command}
 use Rattle.evaluators.specs.declared.finished.Finished.{Finished}
 use Rattle.evaluators.specs.declared.finished.RunNote.{RunNote}
 use Rattle.evaluators.specs.Runs.{IsFinished, IsNoteOf, GrowsByNote, HaveAllEnded, wins_of, moves_of, ended_of}
-use Rattle.adp_main.specs.RunNotes.{AddsNotes, IsNoteFor}
+use Rattle.evaluators.specs.Schedules.{AreScheduled}
+use Rattle.adp_main.specs.RunNotes.{AddsNotes, HaveRun, IsNoteFor}
+use Rattle.adp_main.specs.Writing.{HasRun}
 
 -- a problem has one number of demanded cells
 abbrev pub CountsAgree : Type 0
@@ -46,10 +48,17 @@ have_ended : (finished : Finished) (note : RunNote) → note.ended ≡ map ended
 have_ended finished note is all =
     subst (All (λ ended. ended ≡ true)) (sym is) (All-map (λ ended. ended ≡ true) ended_of finished.machines.items all)
 
-module _ (agree : CountsAgree) (command : Command) (p : PosedProblem) (finished : Finished)
+have_run : (mode : Mode) (schedule : List ℕ) (p : PosedProblem) (seed : ℕ) (finished : Finished) (note : RunNote)
+    → IsNoteOf p seed finished note → HasRun mode schedule finished → HaveRun mode schedule note
+have_run Replay schedule p seed finished note is kept =
+    subst (λ (it : List ℕ × List ℕ × List Bool). AreScheduled schedule it.0 it.1 it.2)
+    (λ i. (sym is.wins i, sym is.moves i, sym is.ended i)) kept
+have_run mode schedule p seed finished note is all = have_ended finished note is.ended all
+
+module _ (agree : CountsAgree) (command : Command) (schedule : List ℕ) (p : PosedProblem) (finished : Finished)
     (done : IsFinished p command.seed finished) (machines : length finished.machines.items ≡ command.workers)
-    (run : HaveAllEnded finished) where
-  note_for : (note : RunNote) → IsNoteOf p command.seed finished note → IsNoteFor command p note
+    (run : HasRun command.mode schedule finished) where
+  note_for : (note : RunNote) → IsNoteOf p command.seed finished note → IsNoteFor command schedule p note
   note_for note is = record {
     word = is.word;
     algebra = is.algebra;
@@ -61,13 +70,13 @@ module _ (agree : CountsAgree) (command : Command) (p : PosedProblem) (finished 
     wins_each = ap length (is.wins ∙ done.wins_are) ∙ length-map finished.machines.items wins_of ∙ machines;
     moves_each = ap length is.moves ∙ length-map finished.machines.items moves_of ∙ machines;
     ended_each = ap length is.ended ∙ length-map finished.machines.items ended_of ∙ machines;
-    run = have_ended finished note is.ended run;
+    run = have_run command.mode schedule p command.seed finished note is run;
   }
 
   -- what the gate was told is the note of a run with these wins
   pub noted : (E : Type 0) (done' : Unit {0}) (old new : Option (List RunNote))
       → GrowsByNote {E = E} p command.seed finished (Ok done') old new
-      → (note : RunNote) × IsNoteFor command p note × (note.wins ≡ finished.wins.items)
+      → (note : RunNote) × IsNoteFor command schedule p note × (note.wins ≡ finished.wins.items)
       × AddsNotes old new (note ∷ [])
   noted E done' None new grows =
       let note = made_note p command.seed finished in

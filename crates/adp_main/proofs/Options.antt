@@ -3,11 +3,11 @@ use Rattle.std.proofs.Common.{◌≡◌, ℕ, ◌+◌, ◌-◌, ◌/◌, ◌%◌
 use Rattle.std.specs.List.{All, list_any}
 use Rattle.std.proofs.lemmas.List.Elements.{All-nil, All-cons, All-head, All-tail}
 use lib.Pointwise.{pointwise}
-use Rattle.adp_model.specs.Command.{Setting, Algebra, Workers, Seed, Size, Allows, AreSettings, AreSetOnce, IsValue, IsCommand, HasCommand, algebra_set, workers_set, seed_set, size_set, mode_word, option_word}
+use Rattle.adp_model.specs.Command.{Setting, Algebra, Workers, Seed, Schedule, Size, Allows, AreSettings, AreSetOnce, IsValue, IsCommand, HasCommand, algebra_set, workers_set, seed_set, schedule_set, size_set, mode_word, option_word}
 use Rattle.adp_model.specs.Command as asked
 use Rattle.adp_main.specs.declared.words.Settings.{Settings}
 use Rattle.adp_main.specs.declared.words.Mode.{Mode}
-use Rattle.adp_main.specs.declared.words.Mode.TheVariants.{Big}
+use Rattle.adp_main.specs.declared.words.Mode.TheVariants.{Replay, Big}
 use Rattle.adp_main.specs.Commands.{Adds, AddsWorkers, AddsSeed, AddsSize, IsCommandOf, Suits, mode_of}
 
 -- ---- one option
@@ -75,6 +75,7 @@ pub record AreRead (place : ℕ) (words : List (List ℕ)) (state : Settings) : 
   pub algebra : state.algebra ≡ algebra_set settings
   pub workers : state.workers ≡ workers_found settings
   pub seed : state.seed ≡ seed_found settings
+  pub schedule : state.schedule ≡ schedule_set settings
   pub size : state.size ≡ size_found settings
 
 workers_is : (settings : List Setting) → unwrap_or (workers_found settings) 1 ≡ workers_set settings
@@ -112,6 +113,11 @@ module _ (number : ℕ) where
   no_seed (Seed other ∷ settings) e = cc
   no_seed (setting ∷ settings) e = no_seed settings e
 
+  no_schedule : (settings : List Setting) → schedule_set settings ≡ None → occurs (Schedule number) settings ≡ false
+  no_schedule [] e = refl
+  no_schedule (Schedule other ∷ settings) e = cc
+  no_schedule (setting ∷ settings) e = no_schedule settings e
+
   no_size : (settings : List Setting) → size_found settings ≡ None → occurs (Size number) settings ≡ false
   no_size [] e = refl
   no_size (Size other ∷ settings) e = cc
@@ -131,6 +137,11 @@ module _ (number : ℕ) where
   free_seed [] e = refl
   free_seed (Seed other ∷ settings) e = cc
   free_seed (setting ∷ settings) e = free_seed settings e
+
+  free_schedule : (settings : List Setting) → occurs (Schedule number) settings ≡ false → schedule_set settings ≡ None
+  free_schedule [] e = refl
+  free_schedule (Schedule other ∷ settings) e = cc
+  free_schedule (setting ∷ settings) e = free_schedule settings e
 
   free_size : (settings : List Setting) → occurs (Size number) settings ≡ false → size_found settings ≡ None
   free_size [] e = refl
@@ -170,6 +181,7 @@ module _ (place : ℕ) (option value : List ℕ) (words : List (List ℕ)) (befo
     algebra = ap (λ (s : Settings). s.algebra) adds.2.set ∙ ap Some (sym adds.1);
     workers = ap (λ (s : Settings). s.workers) adds.2.set ∙ read.workers;
     seed = ap (λ (s : Settings). s.seed) adds.2.set ∙ read.seed;
+    schedule = ap (λ (s : Settings). s.schedule) adds.2.set ∙ read.schedule;
     size = ap (λ (s : Settings). s.size) adds.2.set ∙ read.size;
   }
   read_more (Workers workers) adds read = record {
@@ -180,6 +192,7 @@ module _ (place : ℕ) (option value : List ℕ) (words : List (List ℕ)) (befo
     algebra = ap (λ (s : Settings). s.algebra) adds.1.set ∙ read.algebra;
     workers = ap (λ (s : Settings). s.workers) adds.1.set;
     seed = ap (λ (s : Settings). s.seed) adds.1.set ∙ read.seed;
+    schedule = ap (λ (s : Settings). s.schedule) adds.1.set ∙ read.schedule;
     size = ap (λ (s : Settings). s.size) adds.1.set ∙ read.size;
   }
   read_more (Seed seed) adds read = record {
@@ -189,7 +202,19 @@ module _ (place : ℕ) (option value : List ℕ) (words : List (List ℕ)) (befo
     algebra = ap (λ (s : Settings). s.algebra) adds.1.set ∙ read.algebra;
     workers = ap (λ (s : Settings). s.workers) adds.1.set ∙ read.workers;
     seed = ap (λ (s : Settings). s.seed) adds.1.set;
+    schedule = ap (λ (s : Settings). s.schedule) adds.1.set ∙ read.schedule;
     size = ap (λ (s : Settings). s.size) adds.1.set ∙ read.size;
+  }
+  read_more (Schedule named) adds read = record {
+    settings = Schedule named ∷ read.settings;
+    set = (adds.0, (adds.2.schedule, adds.1), read.set);
+    once = once_more (Schedule named) read.settings
+        (no_schedule named read.settings (sym read.schedule ∙ adds.2.free)) read.once;
+    algebra = ap (λ (s : Settings). s.algebra) adds.2.set ∙ read.algebra;
+    workers = ap (λ (s : Settings). s.workers) adds.2.set ∙ read.workers;
+    seed = ap (λ (s : Settings). s.seed) adds.2.set ∙ read.seed;
+    schedule = ap (λ (s : Settings). s.schedule) adds.2.set ∙ ap Some (sym adds.1);
+    size = ap (λ (s : Settings). s.size) adds.2.set ∙ read.size;
   }
   read_more (Size size) adds read = record {
     settings = Size size ∷ read.settings;
@@ -198,6 +223,7 @@ module _ (place : ℕ) (option value : List ℕ) (words : List (List ℕ)) (befo
     algebra = ap (λ (s : Settings). s.algebra) adds.1.set ∙ read.algebra;
     workers = ap (λ (s : Settings). s.workers) adds.1.set ∙ read.workers;
     seed = ap (λ (s : Settings). s.seed) adds.1.set ∙ read.seed;
+    schedule = ap (λ (s : Settings). s.schedule) adds.1.set ∙ read.schedule;
     size = ap (λ (s : Settings). s.size) adds.1.set;
   }
 
@@ -208,6 +234,7 @@ setting_unique : (place : ℕ) (option value : List ℕ) (s t : Setting) → opt
 setting_unique place option value (Algebra a) (Algebra b) e f g h = ap Algebra (f.1 ∙ sym h.1)
 setting_unique place option value (Workers a) (Workers b) e f g h = ap Workers (f.0.1 ∙ sym h.0.1)
 setting_unique place option value (Seed a) (Seed b) e f g h = ap Seed (f.0.1 ∙ sym h.0.1)
+setting_unique place option value (Schedule a) (Schedule b) e f g h = ap Schedule (f.1 ∙ sym h.1)
 setting_unique place option value (Size a) (Size b) e f g h = ap Size (f.0.1 ∙ sym h.0.1)
 setting_unique place option value s t e f g h = absurd (omega (arith, ap fourth_letter (sym e ∙ g)))
 
@@ -271,6 +298,11 @@ module _ (place : ℕ) (option value : List ℕ) (words : List (List ℕ)) (befo
       let free : before.seed ≡ None = read.seed ∙ ap seed_found same ∙ free_seed seed ss absent in
       refuses (Seed seed) (record before { seed = Some seed })
       (is, record { free = free; number = value_is.0; fits = value_is.1; set = refl })
+  refused_by (Schedule named) ss is value_is set absent =
+      let same = settings_unique (place + 2) words read.settings ss read.set set in
+      let free : before.schedule ≡ None = read.schedule ∙ ap schedule_set same ∙ free_schedule named ss absent in
+      refuses (Schedule named) (record before { schedule = Some (place + 1) })
+      (is, value_is.1, record { free = free; schedule = value_is.0; set = refl })
   refused_by (Size size) ss is value_is set absent =
       let same = settings_unique (place + 2) words read.settings ss read.set set in
       let free : before.size ≡ None = read.size ∙ ap size_found same ∙ free_size size ss absent in
@@ -289,24 +321,29 @@ mode_same : (a b : asked.Mode) → mode_word a ≡ mode_word b → a ≡ b
 mode_same asked.Best asked.Best e = refl
 mode_same asked.Serial asked.Serial e = refl
 mode_same asked.Wins asked.Wins e = refl
+mode_same asked.Replay asked.Replay e = refl
 mode_same asked.Big asked.Big e = refl
 mode_same a b e = absurd (omega (arith, ap (λ (w : List ℕ). get_or w 2 0) e))
 
 module _ (mode : asked.Mode) where
   -- each option is one that is not set, or that the mode allows
   all_allowed : (settings : List Setting) → IsNone (algebra_set settings) ⊎ (mode ≡ asked.Big → ⊥)
-      → IsNone (size_found settings) ⊎ (mode ≡ asked.Big) → All (Allows mode) settings
-  all_allowed [] named sized = All-nil (Allows mode)
-  all_allowed (Algebra place ∷ settings) (inl none) sized = absurd cc
-  all_allowed (Algebra place ∷ settings) (inr allowed) sized =
-      All-cons (Allows mode) (Algebra place) settings allowed (all_allowed settings (inr allowed) sized)
-  all_allowed (Workers workers ∷ settings) named sized =
-      All-cons (Allows mode) (Workers workers) settings tt (all_allowed settings named sized)
-  all_allowed (Seed seed ∷ settings) named sized =
-      All-cons (Allows mode) (Seed seed) settings tt (all_allowed settings named sized)
-  all_allowed (Size size ∷ settings) named (inl none) = absurd cc
-  all_allowed (Size size ∷ settings) named (inr allowed) =
-      All-cons (Allows mode) (Size size) settings allowed (all_allowed settings named (inr allowed))
+      → IsNone (schedule_set settings) ⊎ (mode ≡ asked.Replay) → IsNone (size_found settings) ⊎ (mode ≡ asked.Big)
+      → All (Allows mode) settings
+  all_allowed [] named scheduled sized = All-nil (Allows mode)
+  all_allowed (Algebra place ∷ settings) (inl none) scheduled sized = absurd cc
+  all_allowed (Algebra place ∷ settings) (inr allowed) scheduled sized =
+      All-cons (Allows mode) (Algebra place) settings allowed (all_allowed settings (inr allowed) scheduled sized)
+  all_allowed (Workers workers ∷ settings) named scheduled sized =
+      All-cons (Allows mode) (Workers workers) settings tt (all_allowed settings named scheduled sized)
+  all_allowed (Seed seed ∷ settings) named scheduled sized =
+      All-cons (Allows mode) (Seed seed) settings tt (all_allowed settings named scheduled sized)
+  all_allowed (Schedule place ∷ settings) named (inl none) sized = absurd cc
+  all_allowed (Schedule place ∷ settings) named (inr allowed) sized =
+      All-cons (Allows mode) (Schedule place) settings allowed (all_allowed settings named (inr allowed) sized)
+  all_allowed (Size size ∷ settings) named scheduled (inl none) = absurd cc
+  all_allowed (Size size ∷ settings) named scheduled (inr allowed) =
+      All-cons (Allows mode) (Size size) settings allowed (all_allowed settings named scheduled (inr allowed))
 
   never_named : (settings : List Setting) → mode ≡ asked.Big → All (Allows mode) settings
       → IsNone (algebra_set settings)
@@ -314,6 +351,14 @@ module _ (mode : asked.Mode) where
   never_named (Algebra place ∷ settings) big all =
       absurd (All-head (Allows mode) (Algebra place) settings all big)
   never_named (setting ∷ settings) big all = never_named settings big (All-tail (Allows mode) setting settings all)
+
+  never_scheduled : (settings : List Setting) → (mode ≡ asked.Replay → ⊥) → All (Allows mode) settings
+      → IsNone (schedule_set settings)
+  never_scheduled [] other all = refl
+  never_scheduled (Schedule place ∷ settings) other all =
+      absurd (other (All-head (Allows mode) (Schedule place) settings all))
+  never_scheduled (setting ∷ settings) other all =
+      never_scheduled settings other (All-tail (Allows mode) setting settings all)
 
   never_sized : (settings : List Setting) → (mode ≡ asked.Big → ⊥) → All (Allows mode) settings
       → IsNone (size_found settings)
@@ -340,18 +385,25 @@ set_size place (option ∷ value ∷ words) (s ∷ ss) set found = set_size (pla
 -- what was read suits the mode exactly where its options are allowed, and those that it needs are set
 module _ (place : ℕ) (words : List (List ℕ)) (state : Settings) (read : AreRead place words state) where
   allowed_by : (mode : asked.Mode) → IsNone state.algebra ⊎ (mode ≡ asked.Big → ⊥)
-      → IsNone state.size ⊎ (mode ≡ asked.Big) → All (Allows mode) read.settings
-  allowed_by mode named sized =
+      → IsNone state.schedule ⊎ (mode ≡ asked.Replay) → IsNone state.size ⊎ (mode ≡ asked.Big)
+      → All (Allows mode) read.settings
+  allowed_by mode named scheduled sized =
       all_allowed mode read.settings (subst (λ o. IsNone o ⊎ (mode ≡ asked.Big → ⊥)) read.algebra named)
+      (subst (λ o. IsNone o ⊎ (mode ≡ asked.Replay)) read.schedule scheduled)
       (subst (λ o. IsNone o ⊎ (mode ≡ asked.Big)) read.size sized)
 
   suited_allowed : (mode : Mode) → Suits mode state → All (Allows (mode_of mode)) read.settings
-  suited_allowed Big suits = allowed_by asked.Big (inl suits.0) (inr refl)
-  suited_allowed mode suits = allowed_by (mode_of mode) (inr (λ e. cc)) (inl suits)
+  suited_allowed Replay suits = allowed_by asked.Replay (inr (λ e. cc)) (inr refl) (inl suits.1)
+  suited_allowed Big suits = allowed_by asked.Big (inl suits.0) (inl suits.1) (inr refl)
+  suited_allowed mode suits = allowed_by (mode_of mode) (inr (λ e. cc)) (inl suits.0) (inl suits.1)
+
+  suited_scheduled : (mode : Mode) → Suits mode state → mode_of mode ≡ asked.Replay → IsSome state.schedule
+  suited_scheduled Replay suits e = suits.0
+  suited_scheduled mode suits e = absurd cc
 
   suited_sized : (mode : Mode) → Suits mode state → mode_of mode ≡ asked.Big → 1 ≤ size_set read.settings
   suited_sized Big suits e =
-      set_size place words read.settings read.set (subst (λ o. IsSome o) read.size suits.1)
+      set_size place words read.settings read.set (subst (λ o. IsSome o) read.size suits.2)
   suited_sized mode suits e = absurd cc
 
   -- what is allowed and set by a command
@@ -359,16 +411,24 @@ module _ (place : ℕ) (words : List (List ℕ)) (state : Settings) (read : AreR
     unnamed : mode ≡ asked.Big → IsNone state.algebra
     unnamed big = subst (λ o. IsNone o) (sym read.algebra) (never_named mode read.settings big allowed)
 
+    unscheduled : (mode ≡ asked.Replay → ⊥) → IsNone state.schedule
+    unscheduled other =
+        subst (λ o. IsNone o) (sym read.schedule) (never_scheduled mode read.settings other allowed)
+
     unsized : (mode ≡ asked.Big → ⊥) → IsNone state.size
     unsized other = subst (λ o. IsNone o) (sym read.size) (never_sized mode read.settings other allowed)
 
   suited : (mode : Mode) → All (Allows (mode_of mode)) read.settings
+      → (mode_of mode ≡ asked.Replay → IsSome state.schedule)
       → (mode_of mode ≡ asked.Big → 1 ≤ size_set read.settings) → Suits mode state
-  suited Big allowed sized = (
+  suited Replay allowed scheduled sized = (scheduled refl, unsized asked.Replay allowed (λ e. cc))
+  suited Big allowed scheduled sized = (
     unnamed asked.Big allowed refl,
+    unscheduled asked.Big allowed (λ e. cc),
     subst (λ o. IsSome o) (sym read.size) (some_size read.settings (sized refl)),
   )
-  suited mode allowed sized = unsized (mode_of mode) allowed (λ e. cc)
+  suited mode allowed scheduled sized =
+      (unscheduled (mode_of mode) allowed (λ e. cc), unsized (mode_of mode) allowed (λ e. cc))
 
 -- ---- the words of the whole line
 
@@ -415,6 +475,7 @@ module _ (words : List (List ℕ)) (first : List ℕ) (mode : Mode) (state : Set
         algebra = state.algebra;
         workers = workers;
         seed = seed;
+        schedule = state.schedule;
         size = size;
       })
   all_read suits workers seed size w s z =
@@ -430,7 +491,9 @@ module _ (words : List (List ℕ)) (first : List ℕ) (mode : Mode) (state : Set
         algebra_is = read.algebra;
         workers_are = w ∙ ap (λ (o : Option ℕ). unwrap_or o 1) read.workers ∙ workers_is read.settings;
         seed_is = s ∙ ap (λ (o : Option ℕ). unwrap_or o 0) read.seed ∙ seed_is read.settings;
+        schedule_is = read.schedule;
         size_is = size_set_is;
+        scheduled = suited_scheduled 1 (drop 1 words) state read mode suits;
         sized = λ big. subst (λ (n : ℕ). 1 ≤ n) (sym size_set_is)
             (suited_sized 1 (drop 1 words) state read mode suits big);
       }
@@ -446,8 +509,10 @@ module _ (words : List (List ℕ)) (first : List ℕ) (mode : Mode) (state : Set
       let same = settings_unique 1 (drop 1 words) h.settings read.settings set read.set in
       let allowed = subst (λ m. All (Allows m) read.settings) same_mode
       (subst (λ (ss : List Setting). All (Allows command.mode) ss) same h.allowed) in
+      let scheduled_by = h.schedule_is ∙ ap schedule_set same ∙ sym read.schedule in
       let sized_by = h.size_is ∙ ap size_set same in
       refuses (suited 1 (drop 1 words) state read mode allowed
+      (λ replay. subst (λ o. IsSome o) scheduled_by (h.scheduled (same_mode ∙ replay)))
       (λ big. subst (λ (n : ℕ). 1 ≤ n) sized_by (h.sized (same_mode ∙ big))))
 
 module _ {A : Type 0} (f : A → List ℕ) where
@@ -515,6 +580,7 @@ module _ {A : Type 0} (f : A → List ℕ) where
           algebra = state.algebra;
           workers = workers;
           seed = seed;
+          schedule = state.schedule;
           size = size;
         })
     finish =

@@ -17,6 +17,7 @@ use Rattle.adp_main.specs.Ending.{IsOfVerdict, ShowsFirst, ShowsPart, ShowsVerdi
 use Rattle.adp_main.specs.Faults.{fault_verdict, status_after}
 use Rattle.adp_main.specs.Reporting.{AreReportsOf, HasWritten, IsCheckedJob, IsJobEnding, IsJobRefusal, IsReported}
 use Rattle.adp_main.specs.Posed.{posed_words}
+use Rattle.report.specs.Faults.{HasShortName}
 
 module _ (command : Command) where
   reports_are : (grammar : Grammar) (algebra number : ℕ) (words reports : List (List ℕ)) → AreReportsOf command number (posed_words grammar algebra words) reports → AreReports command grammar algebra number words reports
@@ -123,6 +124,18 @@ module _ (command : Command) where
   grew_of grammar algebra words (Err faults.TooLong) old new h = absurd h.2
   grew_of grammar algebra words (Err (faults.Text fault)) old new h = absurd h.2
   grew_of grammar algebra words (Err (faults.Grammar fault)) old new h = absurd h.2
+
+  -- a fault of a checked job is none of its grammar
+  pub short_of : (grammar : Grammar) (algebra : ℕ) (words : List (List ℕ)) (result : Result (Unit {0}) Fault) (old new : Option (List ℕ)) → IsJobEnding command grammar algebra words result old new → IfErr result HasShortName
+  short_of grammar algebra words (Ok x) old new h = tt
+  short_of grammar algebra words (Err (faults.Grammar fault)) old new h = absurd h.2
+  short_of grammar algebra words (Err faults.Usage) old new h = tt
+  short_of grammar algebra words (Err faults.Read) old new h = tt
+  short_of grammar algebra words (Err faults.Write) old new h = tt
+  short_of grammar algebra words (Err faults.TooLong) old new h = tt
+  short_of grammar algebra words (Err (faults.Text fault)) old new h = tt
+  short_of grammar algebra words (Err (faults.Limit word fault)) old new h = tt
+  short_of grammar algebra words (Err faults.Memory) old new h = tt
 
   -- the job was refused, and nothing was written
   pub refused : (words : List (List ℕ)) (bytes : List ℕ) (fault : Fault) → IsJobRefusal words bytes fault → (old : Option (List ℕ)) → IsOfVerdict (status_after (Err fault)) → ShowsVerdict words bytes (status_after (Err fault)) old old

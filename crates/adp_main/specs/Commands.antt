@@ -1,17 +1,19 @@
 -- The command as the program keeps it, and the options that it has read.
 use Rattle.std.specs.Prelude.{◌≡◌, ℕ, ◌^◌, ◌<◌, ◌≤◌, List, Some, None, IsNone, IsSome, IsTrue}
-use Rattle.adp_model.specs.Command.{IsCommand, IsNumberWord, Setting, Algebra, Workers, Seed, Size, greatest_size, option_word}
+use Rattle.adp_model.specs.Command.{IsCommand, IsNumberWord, Setting, Algebra, Workers, Seed, Schedule, Size, greatest_size, option_word}
 use Rattle.adp_model.specs.Command as asked
 use Rattle.adp_model.specs.WellFormed.{is_name}
+use Rattle.adp_model.specs.ScheduleText.{is_schedule}
 use Rattle.adp_main.specs.declared.words.Command.{Command}
 use Rattle.adp_main.specs.declared.words.Mode.{Mode}
-use Rattle.adp_main.specs.declared.words.Mode.TheVariants.{Best, Serial, Wins, Big}
+use Rattle.adp_main.specs.declared.words.Mode.TheVariants.{Best, Serial, Wins, Replay, Big}
 use Rattle.adp_main.specs.declared.words.Settings.{Settings}
 
 abbrev pub mode_of : Mode → asked.Mode
 mode_of Best = asked.Best
 mode_of Serial = asked.Serial
 mode_of Wins = asked.Wins
+mode_of Replay = asked.Replay
 mode_of Big = asked.Big
 
 -- what the command says
@@ -21,6 +23,7 @@ asked_command command = record {
   algebra = command.algebra;
   workers = command.workers;
   seed = command.seed;
+  schedule = command.schedule;
   size = command.size;
 }
 
@@ -49,6 +52,12 @@ pub record AddsSeed (before : Settings) (value : List ℕ) (seed : ℕ) (after :
   pub fits : seed < 2 ^ 64
   pub set : after ≡ record before { seed = Some seed }
 
+-- the option is not set before, the value is a schedule, and then its place is set
+pub record AddsSchedule (before : Settings) (value : List ℕ) (place : ℕ) (after : Settings) : Type 0 where
+  pub free : before.schedule ≡ None
+  pub schedule : IsTrue (is_schedule value)
+  pub set : after ≡ record before { schedule = Some place }
+
 -- the option is not set before, the value is a size of a word that is made, and then it is set
 pub record AddsSize (before : Settings) (value : List ℕ) (size : ℕ) (after : Settings) : Type 0 where
   pub free : before.size ≡ None
@@ -65,10 +74,13 @@ Adds before option value place (Workers workers) after =
     (option ≡ option_word (Workers workers)) × AddsWorkers before value workers after
 Adds before option value place (Seed seed) after =
     (option ≡ option_word (Seed seed)) × AddsSeed before value seed after
+Adds before option value place (Schedule named) after =
+    (option ≡ option_word (Schedule named)) × (named ≡ place) × AddsSchedule before value place after
 Adds before option value place (Size size) after =
     (option ≡ option_word (Size size)) × AddsSize before value size after
 
 -- the options that are set are those that the mode allows, and those that it needs are among them
 abbrev pub Suits : Mode → Settings → Type 0
-Suits Big set = IsNone set.algebra × IsSome set.size
-Suits mode set = IsNone set.size
+Suits Replay set = IsSome set.schedule × IsNone set.size
+Suits Big set = IsNone set.algebra × IsNone set.schedule × IsSome set.size
+Suits mode set = IsNone set.schedule × IsNone set.size

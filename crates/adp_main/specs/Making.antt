@@ -15,7 +15,7 @@ abbrev pub IsBigEnding : Command → Result (Unit {0}) Fault → Option (List Ru
     → Option (List ℕ) → Option (List ℕ) → Type 0
 IsBigEnding command (Ok written) old new held held' =
     (report : List ℕ) × (note : RunNote) × IsBigReport command.seed command.size report × Appends held held' report
-    × IsNoteFor command (made_problem command.seed command.size) note × AddsNotes old new (note ∷ [])
+    × IsNoteFor command [] (made_problem command.seed command.size) note × AddsNotes old new (note ∷ [])
 IsBigEnding command (Err faults.Write) old new held held' =
     (new ≡ old) × (report : List ℕ) × IsBigReport command.seed command.size report
     × AppendsProperPrefix held held' report

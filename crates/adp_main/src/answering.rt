@@ -17,6 +17,7 @@ ghost use Rattle.report.specs.Faults.{HasShortName};
 
 use crate::checked_job::{CheckedJob, checked_job};
 use crate::limits::judge_words;
+use crate::schedule::schedule_entries;
 use crate::words::Command;
 use crate::writing::write_words;
 use adp_io::Sink;
@@ -61,7 +62,8 @@ pub(crate) fn answer_bytes<R: Threads + Sync, K: Sink, G: Gate>(
     asked_grammar_is_unique();
     let job = checked_job(alloc, words, command, bytes)?;
     job.checked.passes();
-    write_job(rt, alloc, command, &job, out, gate)
+    let schedule = schedule_entries(alloc, words, command)?;
+    write_job(rt, alloc, command, &schedule, &job, out, gate)
 }
 
 /// Writes the reports of the words of a checked job, where each word keeps the limits.
@@ -69,6 +71,7 @@ fn write_job<R: Threads + Sync, K: Sink, G: Gate>(
     rt: &R,
     alloc: Global,
     command: &Command,
+    schedule: &[u8],
     job: &CheckedJob,
     out: &mut K,
     gate: &mut G,
@@ -82,11 +85,21 @@ fn write_job<R: Threads + Sync, K: Sink, G: Gate>(
     ensures untouched { IsBeforeWriting (status_after result) → out.new ≡ out.old }
     ensures ending { IsJobEnding (asked_command command.now) job.now.checked.grammar job.now.checked.algebra
         job.now.words result (K.held out.old) (K.held out.new) }
-    ensures noted { IsJobNoted (asked_command command.now) (posed_words job.now.checked.grammar
+    ensures noted { IsJobNoted (asked_command command.now) schedule.now (posed_words job.now.checked.grammar
         job.now.checked.algebra job.now.words) (status_after result) (G.runs gate.old) (G.runs gate.new)
         (K.held out.old) (K.held out.new) }
 {
     let words = job.words.as_slice();
     let rows = judge_words(alloc, &job.checked, words)?;
-    write_words(rt, alloc, command, &job.checked, &rows, words, out, gate)
+    write_words(
+        rt,
+        alloc,
+        command,
+        schedule,
+        &job.checked,
+        &rows,
+        words,
+        out,
+        gate,
+    )
 }

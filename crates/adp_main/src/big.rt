@@ -3,7 +3,7 @@ ghost use Rattle.std.specs.Prelude.{◌≡◌, ◌≤◌, IfOk};
 ghost use Rattle.adp_io.specs.Causes.{RisesWhere};
 ghost use Rattle.adp_io.specs.Streams.{SameTold};
 ghost use Rattle.adp_model.specs.BigReport.{IsBigReport, made_problem, pairs_grammar};
-ghost use Rattle.adp_model.specs.Command.{greatest_size};
+ghost use Rattle.adp_model.specs.Command.{Big, greatest_size};
 ghost use Rattle.evaluators.specs.Runs.{IsFinished};
 ghost use Rattle.adp_main.specs.Commands.{asked_command};
 ghost use Rattle.adp_main.specs.Faults.{status_after};
@@ -32,6 +32,7 @@ pub(crate) fn answer_big<R: Threads + Sync, K: Sink, G: Gate>(
     out: &mut K,
     gate: &mut G,
 ) -> Result<(), Fault>
+    requires makes { (asked_command command.now).mode ≡ Big }
     requires some { 1 ≤ (asked_command command.now).workers }
     requires few_workers { (asked_command command.now).workers ≤ 32 }
     requires size { (asked_command command.now).size ≤ greatest_size }
@@ -57,6 +58,7 @@ fn write_made<R: Threads + Sync, K: Sink, G: Gate>(
     out: &mut K,
     gate: &mut G,
 ) -> Result<(), Fault>
+    requires makes { (asked_command command.now).mode ≡ Big }
     requires made { problem.now ≡ made_problem (asked_command command.now).seed (asked_command command.now).size }
     requires some { 1 ≤ (asked_command command.now).workers }
     requires few_workers { (asked_command command.now).workers ≤ 32 }

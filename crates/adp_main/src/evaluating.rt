@@ -1,17 +1,18 @@
 //! Reports by evaluators that share a table.
-ghost use Rattle.std.specs.Prelude.{◌≡◌, ◌++◌, IfOk, MatchBool};
+ghost use Rattle.std.specs.Prelude.{◌≡◌, ◌≤◌, ◌++◌, IfOk, MatchBool, vec_len};
 ghost use Rattle.adp_model.specs.Command.{ReadsJob};
 ghost use Rattle.adp_model.specs.Command as asked;
 ghost use Rattle.adp_model.specs.Report.{wins_line};
 ghost use Rattle.evaluators.specs.Runs.{IsFinished};
 ghost use Rattle.adp_main.specs.Commands.{asked_command, mode_of};
-ghost use Rattle.adp_main.specs.Writing.{IsReportOfRun};
+ghost use Rattle.adp_main.specs.Writing.{HasRun, IsReportOfRun};
 
 use crate::words::{Command, Mode};
 use adp_model::Problem;
-use evaluators::Finished;
+use evaluators::{Finished, Gate, run_schedule, run_workers};
 use report::{Outcome, push_wins, word_report};
 use std::alloc::{AllocError, Global};
+use std::thread::Threads;
 use traceback::preorder;
 
 impl Mode {
@@ -21,7 +22,7 @@ impl Mode {
     {
         match self {
             Mode::Serial => false,
-            Mode::Best | Mode::Wins | Mode::Big => true,
+            Mode::Best | Mode::Wins | Mode::Replay | Mode::Big => true,
         }
     }
 
@@ -31,7 +32,30 @@ impl Mode {
     {
         match self {
             Mode::Big => false,
-            Mode::Best | Mode::Serial | Mode::Wins => true,
+            Mode::Best | Mode::Serial | Mode::Wins | Mode::Replay => true,
+        }
+    }
+}
+
+/// Solves the problem by evaluators: in threads, where the gate is passed, or in the order of the schedule.
+pub(crate) fn evaluate<'a, R: Threads + Sync, G: Gate>(
+    rt: &R,
+    alloc: Global,
+    command: &Command,
+    schedule: &[u8],
+    problem: &'a Problem<'a>,
+    gate: &G,
+) -> Result<Finished<'a>, AllocError>
+    requires some { 1 ≤ (asked_command command.now).workers }
+    requires few_workers { (asked_command command.now).workers ≤ 32 }
+    ensures finished { IfOk result (IsFinished problem.now (asked_command command.now).seed) }
+    ensures machines { IfOk result (λ finished. vec_len finished.machines ≡ (asked_command command.now).workers) }
+    ensures run { IfOk result (HasRun (asked_command command.now).mode schedule.now) }
+{
+    match command.mode {
+        Mode::Replay => run_schedule(alloc, problem, command.workers, command.seed, schedule),
+        Mode::Best | Mode::Serial | Mode::Wins | Mode::Big => {
+            run_workers(rt, alloc, problem, command.workers, command.seed, gate)
         }
     }
 }
@@ -57,7 +81,7 @@ pub(crate) fn evaluated_report(
     };
     let report = word_report(alloc, number, problem, &outcome)?;
     match command.mode {
-        Mode::Wins => with_wins(report, &finished.wins),
+        Mode::Wins | Mode::Replay => with_wins(report, &finished.wins),
         Mode::Best | Mode::Serial | Mode::Big => Ok(report),
     }
 }

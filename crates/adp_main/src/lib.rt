@@ -7,6 +7,7 @@ mod checked_job;
 mod evaluating;
 mod fault;
 mod limits;
+mod schedule;
 mod status;
 mod sweeping;
 mod top_call;

@@ -19,7 +19,8 @@ use std::thread::Threads;
 
 /// Reads a job from `input` and writes the reports of its words to `out`, or the line of a fault to `err`. The words
 /// are those after the program's name. Evaluators run in threads where there are any; the gate is passed before each
-/// load of a record word of the table that they share, and told of each run whose report was written.
+/// load of a record word of the table that they share, and told of each run whose report was written. Those that follow
+/// a schedule are stepped in this thread, and pass no gate.
 pub fn run<R: Threads + Sync, S: Source, K: Sink, E: Sink, G: Gate>(
     rt: &R,
     alloc: Global,

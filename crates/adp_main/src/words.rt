@@ -4,8 +4,9 @@ ghost use Rattle.std.specs.Str.Parse.{IsNumeral, digits_value};
 ghost use Rattle.adp_model.specs.Command.{HasCommand, mode_word};
 ghost use Rattle.adp_model.specs.Command as asked;
 ghost use Rattle.adp_main.specs.declared.words.Settings.{Settings};
-ghost use Rattle.adp_main.specs.Commands.{Adds, AddsAlgebra, AddsSeed, AddsSize, AddsWorkers, IsCommandOf, Suits, mode_of};
+ghost use Rattle.adp_main.specs.Commands.{Adds, AddsAlgebra, AddsSchedule, AddsSeed, AddsSize, AddsWorkers, IsCommandOf, Suits, mode_of};
 
+use crate::schedule::is_schedule;
 use adp_model::is_name;
 
 /// The most workers.
@@ -23,6 +24,8 @@ pub enum Mode {
     Serial,
     /// The report of each word with the wins of its evaluators.
     Wins,
+    /// The same, with evaluators that are stepped in the order of a schedule.
+    Replay,
     /// The answer for a word that is made.
     Big,
 }
@@ -38,6 +41,8 @@ pub struct Command {
     pub workers: u32,
     /// The seed of the workers' orders.
     pub seed: u64,
+    /// The place of the schedule among the words, which there is for `Replay` alone.
+    pub schedule: Option<usize>,
     /// The size of the word that is made, 1 to 2,046 for `Big`, or 0 where none is set.
     pub size: u32,
 }
@@ -61,6 +66,7 @@ pub fn read_words(words: &[String]) -> Result<Command, Usage>
         algebra: None,
         workers: None,
         seed: None,
+        schedule: None,
         size: None,
     };
     let mut place = words.len();
@@ -76,6 +82,7 @@ pub fn read_words(words: &[String]) -> Result<Command, Usage>
         algebra: set.algebra,
         workers: set.workers.unwrap_or(1),
         seed: set.seed.unwrap_or(0),
+        schedule: set.schedule,
         size: set.size.unwrap_or(0),
     })
 }
@@ -88,6 +95,7 @@ fn read_mode(word: &str) -> Result<Mode, Usage>
         "best" => Ok(Mode::Best),
         "serial" => Ok(Mode::Serial),
         "wins" => Ok(Mode::Wins),
+        "replay" => Ok(Mode::Replay),
         "big" => Ok(Mode::Big),
         _ => Err(Usage),
     }
@@ -99,6 +107,7 @@ struct Settings {
     algebra: Option<usize>,
     workers: Option<u32>,
     seed: Option<u64>,
+    schedule: Option<usize>,
     size: Option<u32>,
 }
 
@@ -115,6 +124,7 @@ impl Settings {
             "--algebra" => self.add_algebra(value, place),
             "--workers" => self.add_workers(value),
             "--seed" => self.add_seed(value),
+            "--schedule" => self.add_schedule(value, place),
             "--size" => self.add_size(value),
             _ => Err(Usage),
         }
@@ -160,6 +170,19 @@ impl Settings {
         }
     }
 
+    fn add_schedule(self, value: &str, place: usize) -> Result<Settings, Usage>
+        ensures added { IfOk result (λ after. AddsSchedule self value.now place after) }
+        ensures refused { OnErr result ((after : Settings) → AddsSchedule self value.now place after → ⊥) }
+    {
+        if self.schedule.is_some() || !is_schedule(value) {
+            return Err(Usage);
+        }
+        Ok(Settings {
+            schedule: Some(place),
+            ..self
+        })
+    }
+
     fn add_size(self, value: &str) -> Result<Settings, Usage>
         ensures added { IfOk result (λ after. (size : ℕ) × AddsSize self value.now size after) }
         ensures refused { OnErr result ((size : ℕ) (after : Settings) → AddsSize self value.now size after → ⊥) }
@@ -178,8 +201,13 @@ impl Settings {
         ensures { IsTrue result ↔ Suits mode self }
     {
         match mode {
-            Mode::Best | Mode::Serial | Mode::Wins => self.size.is_none(),
-            Mode::Big => self.algebra.is_none() && self.size.is_some(),
+            Mode::Best | Mode::Serial | Mode::Wins => {
+                self.schedule.is_none() && self.size.is_none()
+            }
+            Mode::Replay => self.schedule.is_some() && self.size.is_none(),
+            Mode::Big => {
+                self.algebra.is_none() && self.schedule.is_none() && self.size.is_some()
+            }
         }
     }
 }

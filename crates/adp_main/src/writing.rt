@@ -14,7 +14,7 @@ ghost use Rattle.adp_main.specs.RunNotes.{AreNoted};
 ghost use Rattle.adp_main.specs.Writing.{IsReportWritten, IsWordEnding};
 ghost use Rattle.adp_main.specs.declared.status.Status.TheVariants.{WriteFault};
 
-use crate::evaluating::evaluated_report;
+use crate::evaluating::{evaluate, evaluated_report};
 use crate::limits::admitted;
 use crate::sweeping::swept_report;
 use crate::words::Command;
@@ -22,19 +22,20 @@ use adp_io::{Sink, write_whole};
 use adp_model::laws::demand::demanded_cells_are_unique;
 use adp_model::laws::report::words_have_reports;
 use adp_model::{Problem, Text};
-use evaluators::{Gate, run_workers};
+use evaluators::Gate;
 use grammar_check::{BoundRows, Checked};
 use report::Fault;
 use std::alloc::Global;
 use std::thread::Threads;
 
 /// Writes the reports of the words in order, the first of which has number 1, each by one `write_whole`, and tells the
-/// gate of each run. Each word keeps the limits, and is admitted when its turn comes, so that there is one problem at a
-/// time.
+/// gate of each run. All words have one schedule. Each word keeps the limits, and is admitted when its turn comes, so
+/// that there is one problem at a time.
 pub(crate) fn write_words<R: Threads + Sync, K: Sink, G: Gate>(
     rt: &R,
     alloc: Global,
     command: &Command,
+    schedule: &[u8],
     checked: &Checked,
     rows: &BoundRows,
     words: &[Text],
@@ -53,16 +54,25 @@ pub(crate) fn write_words<R: Threads + Sync, K: Sink, G: Gate>(
     ensures faults { RisesWhere (K.faults out.old) (K.faults out.new) (status_after result ≡ WriteFault) }
     ensures written { (reports : List (List ℕ))
         × AreReportsOf (asked_command command.now) 1
-            (posed_words checked.now.grammar checked.now.algebra words.now) reports
+        (posed_words checked.now.grammar checked.now.algebra words.now) reports
         × HasWritten result (K.held out.old) (K.held out.new) reports }
-    ensures noted { AreNoted (asked_command command.now)
+    ensures noted { AreNoted (asked_command command.now) schedule.now
         (posed_words checked.now.grammar checked.now.algebra words.now) (status_after result)
         (G.runs gate.old) (G.runs gate.new) (K.held out.old) (K.held out.new) }
 {
     words_have_reports();
     for (place, word) in words.iter().enumerate() {
         let problem = admitted(checked, rows, word);
-        write_word(rt, alloc, command, place as u32 + 1, &problem, out, gate)?;
+        write_word(
+            rt,
+            alloc,
+            command,
+            schedule,
+            place as u32 + 1,
+            &problem,
+            out,
+            gate,
+        )?;
     }
     Ok(())
 }
@@ -72,6 +82,7 @@ fn write_word<R: Threads + Sync, K: Sink, G: Gate>(
     rt: &R,
     alloc: Global,
     command: &Command,
+    schedule: &[u8],
     number: u32,
     problem: &Problem<'_>,
     out: &mut K,
@@ -82,7 +93,7 @@ fn write_word<R: Threads + Sync, K: Sink, G: Gate>(
     requires few_workers { (asked_command command.now).workers ≤ 32 }
     ensures told { SameTold (K.held out.old) (K.held out.new) }
     ensures faults { RisesWhere (K.faults out.old) (K.faults out.new) (status_after result ≡ WriteFault) }
-    ensures ending { IsWordEnding (asked_command command.now) number problem.now result
+    ensures ending { IsWordEnding (asked_command command.now) schedule.now number problem.now result
         (G.runs gate.old) (G.runs gate.new) (K.held out.old) (K.held out.new) }
 {
     demanded_cells_are_unique();
@@ -90,7 +101,7 @@ fn write_word<R: Threads + Sync, K: Sink, G: Gate>(
         let report = swept_report(alloc, number, problem)?;
         return write_report(out, &report);
     }
-    let finished = run_workers(rt, alloc, problem, command.workers, command.seed, &*gate)?;
+    let finished = evaluate(rt, alloc, command, schedule, problem, &*gate)?;
     let report = evaluated_report(alloc, command, number, problem, &finished)?;
     write_report(out, &report)?;
     gate.finished(problem, command.seed, &finished)?;

@@ -11,7 +11,7 @@ use anyhow::{Context, Result};
 use std::fs;
 
 // The files of cases, in order.
-const FILES: [&str; 7] = [
+const FILES: [&str; 8] = [
     "first.cases",
     "commands.cases",
     "texts.cases",
@@ -19,6 +19,7 @@ const FILES: [&str; 7] = [
     "answers.cases",
     "faults.cases",
     "workers.cases",
+    "replay.cases",
 ];
 
 fn main(rt: HostRuntime) -> Result<()> {

@@ -105,6 +105,10 @@ fn read_case_line(
             case.commands = varied(alloc, &case.commands, rest)?;
             return Ok(true);
         }
+        "long" => {
+            add_long(alloc, &mut case.commands, rest)?;
+            return Ok(true);
+        }
         _ => {}
     }
     let Ok(number) = rest.parse::<u32>() else {
@@ -153,6 +157,21 @@ fn varied(
         }
     }
     Ok(varied)
+}
+
+// Each command with a further option, whose value is a text so many times.
+fn add_long(alloc: Global, commands: &mut [Vec<String>], rest: &str) -> Result<(), AllocError> {
+    let (option, value) = rest.split_once(' ').unwrap_or((rest, ""));
+    let (count, text) = counted(value);
+    for command in commands {
+        let mut whole = String::new(alloc);
+        for _time in 0..count {
+            whole.push_str(text)?;
+        }
+        command.push(String::from_str(alloc, option)?)?;
+        command.push(whole)?;
+    }
+    Ok(())
 }
 
 // Appends what a line spells: a text with its end, or in another form. Says whether there is such a form.

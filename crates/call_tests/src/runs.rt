@@ -52,6 +52,24 @@ fn a_run_leaves_a_note(rt: HostRuntime) -> Result<(), Fail> {
     Ok(())
 }
 
+// Two machines are stopped within their publications: the one has put the key, and the other stored its record.
+#[test]
+fn a_replayed_run_leaves_a_note_of_its_steps(rt: HostRuntime) -> Result<(), Fail> {
+    let alloc = rt.alloc();
+    let mut gate = LogGate::new(alloc);
+    let words = ["replay", "--workers", "3", "--schedule", "1122222"];
+    let (status, taken) = run_pairs(&rt, alloc, &words, "", &mut gate)?;
+    assert_eq!(rt; status, Status::Done);
+    assert_eq!(rt; taken, 47);
+    assert_eq!(rt; gate.notes().len(), 1);
+    let note = &gate.notes()[0];
+    assert_eq!(rt; note.cells, 1);
+    assert!(rt; note.wins.as_slice() == [1, 0, 0].as_slice());
+    assert!(rt; note.moves.as_slice() == [6, 2, 5].as_slice());
+    assert!(rt; note.ended.as_slice() == [true, false, false].as_slice());
+    Ok(())
+}
+
 const AWAY: u64 = 0;
 
 const THERE: u64 = 1;

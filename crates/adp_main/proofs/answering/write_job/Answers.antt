@@ -20,7 +20,7 @@ returns-clause-ending g c =
 pub returns-clause-noted : goal.returns-clause-noted
 returns-clause-noted g c =
     let job = c.args.job.now in
-    inr (subst (λ (ps : List PosedProblem). AreNoted (asked_command c.args.command.now) ps
+    inr (subst (λ (ps : List PosedProblem). AreNoted (asked_command c.args.command.now) c.args.schedule.now ps
     (status_after c.write_words.result) (g.G.Gate.runs c.args.gate.now) (g.G.Gate.runs c.write_words.new.gate)
     (g.K.Sink.held c.args.out.now) (g.K.Sink.held c.write_words.new.out)) (ap (posed_words job.checked.grammar job.checked.algebra) c.as_slice-words.ensures) c.write_words.ensures.noted)
 

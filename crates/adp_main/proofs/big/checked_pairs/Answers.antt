@@ -1,6 +1,5 @@
-use Rattle.std.proofs.Common.{◌≡◌, ◌∙◌, ℕ, List, codes, Err, refl, subst}
+use Rattle.std.proofs.Common.{◌≡◌, ◌∙◌, ℕ, List, codes, Err, subst}
 use Rattle.adp_model.specs.declared.grammar.Grammar.{Grammar}
-use Rattle.adp_model.specs.BigReport.{pairs_grammar}
 use Rattle.adp_model.specs.GrammarFaults.{IsFaultless, IsGrammarFault}
 use Rattle.grammar_check.specs.CheckAnswers.{MatchCheck}
 use Rattle.adp_main.proofs.MadeWords.{first_algebra, no_fault}

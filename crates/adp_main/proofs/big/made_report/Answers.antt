@@ -1,7 +1,4 @@
-use Rattle.std.proofs.Common.{◌≡◌, refl, subst}
-use Rattle.adp_model.specs.PosedProblem.{PosedProblem}
-use Rattle.adp_model.specs.Demand.{IsDemandedCount}
-use Rattle.adp_main.proofs.MadeWords.{has_candidate, is_report}
+use Rattle.adp_main.proofs.MadeWords.{has_candidate}
 use Rattle.adp_main.proofs.big.made_report.Goals as goal
 
 pub unreachable-requires : goal.unreachable-requires

@@ -1,8 +1,9 @@
-use Rattle.std.proofs.Common.{◌≡◌, [], ◌∷◌, inl, inr, refl, subst, arith}
+use Rattle.std.proofs.Common.{[], inr, sym, subst, arith}
 use Rattle.std.specs.Io.KnownBytes.{Appends}
-use Rattle.std.proofs.KnownBytes.{Appends-nil}
 use Rattle.std.proofs.lemmas.Result.{err_from_is_err_and}
+use Rattle.adp_model.specs.Command.{Mode}
 use Rattle.adp_main.specs.Commands.{asked_command}
+use Rattle.adp_main.specs.Writing.{HasRun}
 use Rattle.adp_main.proofs.MadeWords.{note_is, unwritten_made}
 use Rattle.adp_main.proofs.Noting.{noted}
 use Rattle.adp_main.proofs.big.write_made.Goals as goal
@@ -29,10 +30,11 @@ returns-in_err-finished-2-clause-ending g c =
 pub returns-clause-ending : goal.returns-clause-ending
 returns-clause-ending g c =
     let command = asked_command c.args.command.now in
-    let told = noted c.demanded_cells_are_unique.ensures.count command c.args.problem.now c.in_ok-finished.finished
+    let told = noted c.demanded_cells_are_unique.ensures.count command [] c.args.problem.now c.in_ok-finished.finished
     c.in_ok-finished.ensures.finished
     (omega (arith, c.in_ok-finished.finished.machines.ok.0, c.in_ok-finished.ensures.machines))
-    c.in_ok-finished.ensures.ended (Unit {0}) _ _ _ c.in_ok-finished-2.ensures.noted in (
+    (subst (λ (mode : Mode). HasRun mode [] c.in_ok-finished.finished) (sym c.requires.makes)
+    c.in_ok-finished.ensures.ended) (Unit {0}) _ _ _ c.in_ok-finished-2.ensures.noted in (
       c.in_ok-report.report.items,
       told.0,
       c.in_ok-report.ensures,

@@ -1,6 +1,4 @@
-use Rattle.std.proofs.Common.{◌≡◌, ◌≤◌, ℕ, List, [], length, take, ◌∙◌, refl, sym, subst, arith}
-use Rattle.std.specs.List.{concat}
-use Rattle.std.proofs.KnownBytes.{Appends-nil}
+use Rattle.std.proofs.Common.{◌≡◌, ◌≤◌, List, length, ◌∙◌, refl, subst, arith}
 use Rattle.std.proofs.lemmas.List.{length-map, take_all}
 use Rattle.std.proofs.lemmas.Result.{err_from_is_err_and}
 use Rattle.adp_model.specs.PosedProblem.{PosedProblem}
@@ -8,7 +6,7 @@ use Rattle.adp_main.specs.Commands.{asked_command}
 use Rattle.adp_main.specs.Posed.{posed_words}
 use Rattle.adp_main.specs.Reporting.{AreReportsOf}
 use Rattle.adp_main.proofs.FirstLimit.{admissible-at, posed_at}
-use Rattle.adp_main.proofs.Running.{adds_none, adds_more, all_noted, failed_noted, failed_written, one_more_run, run_reports}
+use Rattle.adp_main.proofs.Running.{adds_more, all_noted, failed_noted, failed_written, one_more_run, run_reports}
 use Rattle.adp_main.proofs.Written.{grew_more}
 use Rattle.adp_main.proofs.writing.write_words.Goals as goal
 
@@ -26,7 +24,7 @@ returns-in_err-write_word-clause-written g c =
     let at = posed_at c.args.checked.now.grammar c.args.checked.now.algebra c.args.words.now c.loop-place.place
     c.index-words-place.result c.admitted-problem.result (omega (arith, c.loop-place-test.true)) c.index-words-place.is
     c.admitted-problem.ensures in
-    rw (p.1, p.2) (failed_written command
+    rw (p.1, p.2) (failed_written command c.args.schedule.now
     (λ number q admissible. c.words_have_reports.ensures command.mode command.workers number q c.requires.mode
     c.requires.some admissible)
     problems c.requires.admissible c.loop-place.place w.0 w.1 w.2 _ _ _ _ _ _ w.3 w.4 c.admitted-problem.result at.0 at.1
@@ -38,7 +36,7 @@ returns-in_err-write_word-clause-noted g c =
     let command = asked_command c.args.command.now in
     let problems = posed_words c.args.checked.now.grammar c.args.checked.now.algebra c.args.words.now in
     let w = c.loop-place.invariant.ran in
-    rw (p.1, p.2) (failed_noted command
+    rw (p.1, p.2) (failed_noted command c.args.schedule.now
     (λ number q admissible. c.words_have_reports.ensures command.mode command.workers number q c.requires.mode
     c.requires.some admissible)
     problems c.requires.admissible c.loop-place.place w.0 w.1 w.2 _ _ _ _ _ _ w.3 w.4 c.admitted-problem.result
@@ -57,7 +55,7 @@ loop-place-preserved g c =
       ran = (
         _,
         _,
-        one_more_run (asked_command c.args.command.now)
+        one_more_run (asked_command c.args.command.now) c.args.schedule.now
             (posed_words c.args.checked.now.grammar c.args.checked.now.algebra c.args.words.now) c.loop-place.place
             c.admitted-problem.result at.0 at.1 w.0 w.1 w.2 e.0 e.1 e.2,
         adds_more _ _ _ w.1 e.1 w.3 e.3,
@@ -74,7 +72,7 @@ returns-clause-written g c =
       w.0,
       subst (λ (ps : List PosedProblem). AreReportsOf (asked_command c.args.command.now) 1 ps w.0)
           (take_all c.loop-place.place problems all)
-          (run_reports (asked_command c.args.command.now) 1 _ w.0 w.1 w.2),
+          (run_reports (asked_command c.args.command.now) c.args.schedule.now 1 _ w.0 w.1 w.2),
       w.4,
     )
 
@@ -85,7 +83,7 @@ returns-clause-noted g c =
     let problems = posed_words c.args.checked.now.grammar c.args.checked.now.algebra c.args.words.now in
     let number : length problems ≡ length c.args.words.now = length-map c.args.words.now _ in
     let all : length problems ≤ c.loop-place.place = omega (arith, number, c.loop-place-test.false) in
-    all_noted command
+    all_noted command c.args.schedule.now
     (λ number q admissible. c.words_have_reports.ensures command.mode command.workers number q c.requires.mode
     c.requires.some admissible)
     problems c.requires.admissible c.loop-place.place w.0 w.1 w.2 _ _ (g.G.Gate.runs c.loop-place.gate) _ _

@@ -1,5 +1,5 @@
 use Rattle.std.proofs.Common.{refl}
-use Rattle.adp_model.specs.Command.{Algebra, Workers, Seed, Size}
+use Rattle.adp_model.specs.Command.{Algebra, Workers, Seed, Schedule, Size}
 use Rattle.adp_main.proofs.Options.{added_if, refused_if, not_workers, not_seed, not_size}
 use Rattle.adp_main.proofs.words.Settings.add.Goals as goal
 
@@ -27,8 +27,13 @@ returns-in-text-3-clause-refused c =
 
 pub returns-in-text-4-clause-added : goal.returns-in-text-4-clause-added
 returns-in-text-4-clause-added c =
-    added_if c.add_size.result _ _ (λ after adds. (Size adds.0, (c.in-text-4.is, adds.1))) c.add_size.ensures.added
+    added_if c.add_schedule.result _ _ (λ after adds. (Schedule c.args.place, (c.in-text-4.is, refl, adds)))
+    c.add_schedule.ensures.added
 
-pub returns-in-text-4-clause-refused : goal.returns-in-text-4-clause-refused
-returns-in-text-4-clause-refused c =
-    refused_if c.add_size.result _ _ (not_size _ _ _ _ c.in-text-4.is) c.add_size.ensures.refused
+pub returns-in-text-5-clause-added : goal.returns-in-text-5-clause-added
+returns-in-text-5-clause-added c =
+    added_if c.add_size.result _ _ (λ after adds. (Size adds.0, (c.in-text-5.is, adds.1))) c.add_size.ensures.added
+
+pub returns-in-text-5-clause-refused : goal.returns-in-text-5-clause-refused
+returns-in-text-5-clause-refused c =
+    refused_if c.add_size.result _ _ (not_size _ _ _ _ c.in-text-5.is) c.add_size.ensures.refused

@@ -1,0 +1,72 @@
+//! The schedule that a command names: its text, and the machines of its entries.
+ghost use Rattle.std.specs.Prelude.{◌≡◌, map, IfOk};
+ghost use Rattle.std.specs.List.{list_all};
+ghost use Rattle.std.specs.String.{string_bytes};
+ghost use Rattle.adp_model.specs.Command.{schedule_of};
+ghost use Rattle.adp_model.specs.ScheduleText.{entry_of, is_entry_byte, is_schedule};
+ghost use Rattle.adp_main.specs.Commands.{asked_command};
+
+use crate::words::Command;
+use std::alloc::{AllocError, Global};
+
+/// The most entries of a schedule.
+const MOST_ENTRIES: usize = 4096;
+
+/// Whether a word is a schedule: 1 to 4,096 characters, each `0` to `9` or `a` to `v`.
+pub(crate) fn is_schedule(word: &str) -> bool
+    ensures { result ≡ is_schedule word.now }
+{
+    let bytes = word.as_bytes();
+    1 <= bytes.len() && bytes.len() <= MOST_ENTRIES && are_entries(bytes)
+}
+
+fn are_entries(bytes: &[u8]) -> bool
+    ensures { result ≡ list_all is_entry_byte bytes.now }
+{
+    bytes.iter().all(|byte| is_entry(*byte))
+}
+
+fn is_entry(byte: u8) -> bool
+    ensures { result ≡ is_entry_byte byte }
+{
+    byte.is_ascii_digit() || (b'a' <= byte && byte <= b'v')
+}
+
+/// The machines that the schedule of a command names in turn; none where it has no schedule.
+pub(crate) fn schedule_entries(
+    alloc: Global,
+    words: &[String],
+    command: &Command,
+) -> Result<Vec<u8>, AllocError>
+    ensures { IfOk result (λ entries. entries.items
+        ≡ schedule_of (map string_bytes words.now) (asked_command command.now)) }
+{
+    match command.schedule {
+        Some(place) => match words.get(place) {
+            Some(word) => entries(alloc, word.as_bytes()),
+            None => Ok(Vec::new(alloc)),
+        },
+        None => Ok(Vec::new(alloc)),
+    }
+}
+
+fn entries(alloc: Global, bytes: &[u8]) -> Result<Vec<u8>, AllocError>
+    ensures { IfOk result (λ entries. entries.items ≡ map entry_of bytes.now) }
+{
+    let mut entries = Vec::new(alloc);
+    for byte in bytes {
+        entries.push(entry(*byte))?;
+    }
+    Ok(entries)
+}
+
+/// The number of the machine that a character names.
+fn entry(byte: u8) -> u8
+    ensures { result ≡ entry_of byte }
+{
+    if byte <= b'9' {
+        byte.saturating_sub(b'0')
+    } else {
+        byte.saturating_sub(b'a') + 10
+    }
+}
