@@ -1,13 +1,13 @@
 -- The line of a split at hand: where it begins, and where its boundary may stand.
-use Rattle.std.proofs.Common.{◌≡◌, ℕ, zero, suc, ◌+◌, ◌<◌, ◌≤◌, List, [], ◌∷◌, ◌++◌, length, slice_index, slice_index_or, get_or, refl, subst, arith}
+use Rattle.std.proofs.Common.{◌≡◌, ℕ, zero, suc, ◌+◌, ◌<◌, ◌≤◌, List, [], ◌∷◌, ◌++◌, length, slice_index, slice_index_or, get_or, drop, refl, sym, ap, subst, ◌∙◌, arith}
 use Rattle.std.specs.List.{AllByRecursion, Contains}
 use Rattle.std.proofs.lemmas.List.{get_or_read}
 use Rattle.adp_model.specs.declared.grammar.Arg.{Arg}
 use Rattle.adp_model.specs.declared.grammar.Arg.TheVariants.{Rule}
 use Rattle.adp_model.specs.declared.cell.Cell.{Cell}
 use Rattle.adp_model.specs.PosedProblem.{PosedProblem}
-use Rattle.adp_model.specs.Splits.{ends_by}
-use Rattle.yield_sizes.specs.Placing.{Cover}
+use Rattle.adp_model.specs.Splits.{ends_by, FitsSpan, Placed}
+use Rattle.yield_sizes.specs.Placing.{on_span, Cover}
 use Rattle.split_lines.specs.Laid.{LineParts, AreBoundaries}
 use Rattle.split_lines.specs.Lines.{parts_by}
 use Rattle.cell_core.proofs.LineOrder.{AreWithin}
@@ -62,3 +62,30 @@ pub read_at : (given arguments : List Arg) (k : ℕ) (argument : Arg) → given 
     → argument ≡ get_or given k argument → argument ≡ slice_index_or arguments k (Rule 0)
 read_at given arguments k argument alike l read =
     get_or_read arguments k argument l (subst (λ xs. argument ≡ get_or xs k argument) alike read) (Rule 0)
+
+dropped_at : (xs : List Arg) (n k : ℕ) (d : Arg) → slice_index_or (drop n xs) k d ≡ slice_index_or xs (n + k) d
+dropped_at xs zero k d = let same : 0 + k ≡ k = omega arith in ap (λ j. slice_index_or xs j d) (sym same)
+dropped_at [] (suc n) k d = refl
+dropped_at (x ∷ xs) (suc n) k d =
+    let same : suc n + k ≡ suc (n + k) = omega arith in
+    dropped_at xs n k d ∙ ap (λ j. slice_index_or (x ∷ xs) j d) (sym same)
+
+-- the spans of a line's two arguments where its boundary stands at one of its places
+pub spans_there : (p : PosedProblem) (arguments : List Arg) (n between from to letters last : ℕ) (places : List ℕ)
+    → AreBoundaries p (parts_by (drop n arguments) between) from to letters last places → (place : ℕ)
+    → Contains places place → (begin cut : ℕ) → from ≡ begin → cut ≡ place
+    → FitsSpan p (on_span (slice_index_or arguments n (Rule 0)) begin cut)
+    × FitsSpan p (on_span (slice_index_or arguments (n + between + 1) (Rule 0)) (cut + letters) last)
+spans_there p arguments n between from to letters last places boundaries place contains begin cut begins cuts =
+    let all = (boundaries.exact place).0 contains in
+    let first : slice_index_or (drop n arguments) 0 (Rule 0) ≡ slice_index_or arguments n (Rule 0) =
+    dropped_at arguments n 0 (Rule 0)
+    ∙ (let same : n + 0 ≡ n = omega arith in ap (λ j. slice_index_or arguments j (Rule 0)) same) in
+    let second : slice_index_or (drop n arguments) (between + 1) (Rule 0) ≡ slice_index_or arguments (n + between + 1)
+    (Rule 0) =
+    dropped_at arguments n (between + 1) (Rule 0)
+    ∙ (let same : n + (between + 1) ≡ n + between + 1 = omega arith in
+    ap (λ j. slice_index_or arguments j (Rule 0)) same) in (
+      subst (λ (x : Placed). FitsSpan p x) (λ i. on_span (first i) (begins i) (sym cuts i)) all.0,
+      subst (λ (x : Placed). FitsSpan p x) (λ i. on_span (second i) (sym cuts i + letters) last) all.2,
+    )

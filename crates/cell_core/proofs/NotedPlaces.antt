@@ -112,6 +112,7 @@ module _ (cell : Cell) (turn : ℕ) (pair : OpenPair) (turned : turn ≤ cell.to
   -- both places on one side of the pivot
   pub noted_up : from < to → pivot ≤ from → AreNotedBetween Noted pair from stop → IsLastNoted Noted cell turn pair from to
   noted_up less side noted = record {
+    stands = there;
     behind = omega (arith, less, a, b);
     noted = λ place in_place low high. go place in_place low high (cases_lt place pivot);
   }
@@ -132,6 +133,7 @@ module _ (cell : Cell) (turn : ℕ) (pair : OpenPair) (turned : turn ≤ cell.to
 
   pub noted_down : from < to → to < pivot → AreNotedBetween Noted pair from stop → IsLastNoted Noted cell turn pair from to
   noted_down less side noted = record {
+    stands = there;
     behind = omega (arith, less, a, b, begins);
     noted = λ place in_place low high. go place in_place low high (cases_lt place pivot);
   }
@@ -157,6 +159,7 @@ module _ (cell : Cell) (turn : ℕ) (pair : OpenPair) (turned : turn ≤ cell.to
       → ((place : ℕ) → Contains pair.places.now place → from ≤ place → IsNotedAt Noted pair place)
       → AreNotedBetween Noted pair first stop → IsLastNoted Noted cell turn pair from to
   noted_round first least ends side other all noted = record {
+    stands = there;
     behind = omega (arith, a, b, side, ends, turned, ordered);
     noted = λ place in_place low high. go place in_place low high (cases_lt place pivot);
   }

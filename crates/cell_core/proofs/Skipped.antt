@@ -47,10 +47,11 @@ length_drop (suc n) [] = omega arith
 length_drop (suc n) (x ∷ xs) = length_drop n xs ∙ omega arith
 
 module _ (p : PosedProblem) (Noted : Cell → Type 0) (visit : Visit) (walk : IsWalk p visit) (at : Position)
-    (cuts : List ℕ) (n place' : ℕ) (apart : RanksApart)
+    (cuts : List ℕ) (n place' last' : ℕ) (apart : RanksApart)
     (within : (alternative : ℕ) (cuts : List ℕ) → IsViable p visit.cell alternative cuts → AreWithin visit.cell cuts)
     (few : (alternative : ℕ) → length (arguments_of p.grammar visit.cell.rule alternative) ≤ 4)
     (is : IsSplitArgument p (argument_at visit.cell at)) (viable : IsViable p visit.cell at.alternative cuts)
+    (inside_last : last' < length (arguments_of p.grammar visit.cell.rule at.alternative))
     (low : n < 3) (front : take n cuts ≡ take n at.cuts) (there : slice_index cuts n ≡ place')
     (upper : AreNotedBefore p Noted visit.cell at n) (pair : OpenPair)
     (noted : IsLastNoted Noted visit.cell (slice_index visit.turns n) pair (slice_index at.cuts n) place')
@@ -75,7 +76,7 @@ module _ (p : PosedProblem) (Noted : Cell → Type 0) (visit : Visit) (walk : Is
   visited alternative others k = visited_at p visit (it alternative others k)
 
   abbrev to : Position
-  to = record { alternative = at.alternative; cuts = cuts; number = at.number }
+  to = record { alternative = at.alternative; cuts = cuts; number = last' }
 
   length_ranks : (others : List ℕ) (k : ℕ) → length others ≡ 3
       → length (ranks_of cell visit.turns others ++ k ∷ []) ≡ 4
@@ -97,22 +98,22 @@ module _ (p : PosedProblem) (Noted : Cell → Type 0) (visit : Visit) (walk : Is
       ∙ rank_at cell n visit.turns others (omega (arith, walk.three)) (omega (arith, three))
 
   same_visited : take (suc n) (visited at.alternative at.cuts at.number) ≡ take (suc n)
-      (visited at.alternative cuts at.number)
+      (visited at.alternative cuts last')
   same_visited =
       ap (λ rest. turned_number (length (alternatives_of p.grammar cell.rule)) visit.first at.alternative ∷ rest)
       (front_of at.cuts at.number is.viable.three
       ∙ front_ranks cell n visit.turns at.cuts cuts (sym front) (is.viable.three ∙ sym viable.three)
-      ∙ sym (front_of cuts at.number viable.three))
+      ∙ sym (front_of cuts last' viable.three))
 
   behind : is_before p visit (argument_at cell at) (argument_at cell to) ≡ true
   behind =
-      less_from (visited at.alternative at.cuts at.number) (visited at.alternative cuts at.number)
-      (less_at (suc n) (visited at.alternative at.cuts at.number) (visited at.alternative cuts at.number)
+      less_from (visited at.alternative at.cuts at.number) (visited at.alternative cuts last')
+      (less_at (suc n) (visited at.alternative at.cuts at.number) (visited at.alternative cuts last')
       (omega (arith, length_ranks at.cuts at.number is.viable.three))
-      (omega (arith, length_ranks cuts at.number viable.three))
+      (omega (arith, length_ranks cuts last' viable.three))
       same_visited
       (let a = rank_is at.cuts at.number is.viable.three in
-      let b = rank_is cuts at.number viable.three in
+      let b = rank_is cuts last' viable.three in
       let c = ap (rank_of cell turn) there in
       omega (arith, a, b, c, noted.behind)))
 
@@ -131,10 +132,10 @@ module _ (p : PosedProblem) (Noted : Cell → Type 0) (visit : Visit) (walk : Is
   between alternative others k viable' b c =
       let A = visited at.alternative at.cuts at.number in
       let X = visited alternative others k in
-      let B = visited at.alternative cuts at.number in
+      let B = visited at.alternative cuts last' in
       let ax : LexicographicallyLess A X = lex_from A X b in
       let found = squeeze (suc n) A X B (omega (arith, length_ranks at.cuts at.number is.viable.three))
-      (omega (arith, length_ranks others k viable'.three)) (omega (arith, length_ranks cuts at.number viable.three))
+      (omega (arith, length_ranks others k viable'.three)) (omega (arith, length_ranks cuts last' viable.three))
       same_visited (λ xa. lex_irreflexive A (lex_transitive A X A ax xa))
       (λ bx. false≢true (sym c ∙ less_from B X bx)) in
       split found.0 found.1.0 found.1.1
@@ -142,7 +143,7 @@ module _ (p : PosedProblem) (Noted : Cell → Type 0) (visit : Visit) (walk : Is
       split : take (suc n) (visited alternative others k) ≡ take (suc n) (visited at.alternative at.cuts at.number)
           → at_index (visited at.alternative at.cuts at.number) (suc n) ≤ at_index (visited alternative others k)
           (suc n)
-          → at_index (visited alternative others k) (suc n) ≤ at_index (visited at.alternative cuts at.number) (suc n)
+          → at_index (visited alternative others k) (suc n) ≤ at_index (visited at.alternative cuts last') (suc n)
           → IsBetween alternative others
       split alike low high =
           let count = length (alternatives_of p.grammar cell.rule) in
@@ -153,7 +154,7 @@ module _ (p : PosedProblem) (Noted : Cell → Type 0) (visit : Visit) (walk : Is
           let ranks' = sym (front_of others k viable'.three) ∙ ranks ∙ front_of at.cuts at.number is.viable.three in
           let x = rank_is others k viable'.three in
           let a = rank_is at.cuts at.number is.viable.three in
-          let c = rank_is cuts at.number viable.three in
+          let c = rank_is cuts last' viable.three in
           let d = ap (rank_of cell turn) there in
           record {
             same =
@@ -272,9 +273,9 @@ module _ (p : PosedProblem) (Noted : Cell → Type 0) (visit : Visit) (walk : Is
           asks.there in
           asked argument.cuts argument.number child viable' there' found.alike found.after found.before
 
-  pub is_skipped : IsSkipped p Noted visit at (record { alternative = at.alternative; cuts = cuts; number = at.number })
+  pub is_skipped : IsSkipped p Noted visit at (record { alternative = at.alternative; cuts = cuts; number = last' })
   is_skipped = record {
-    is_argument = record { viable = viable; within = is.within };
+    is_argument = record { viable = viable; within = inside_last };
     on = inr behind;
     passed = passed;
   }

@@ -36,13 +36,14 @@ abbrev pub AreNotedBetween : (Cell → Type 0) → OpenPair → ℕ → ℕ → 
 AreNotedBetween Noted pair begin past =
     (place : ℕ) → Contains pair.places.now place → begin ≤ place → place < past → IsNotedAt Noted pair place
 
--- the end lies behind no place, or right behind one, or before it
+-- one of the places lies right before the end, or behind that
 abbrev pub EndsByAPlace : List ℕ → ℕ → Type 0
 EndsByAPlace places past = (last : ℕ) × Contains places last × (past ≤ last + 1)
 
 -- the place is one of the boundary's and comes behind this one, and from this one up to it the cells of both arguments
 -- are noted
 pub record IsLastNoted (Noted : Cell → Type 0) (cell : Cell) (turn : ℕ) (pair : OpenPair) (from to : ℕ) : Type 0 where
+  pub stands : Contains pair.places.now to
   pub behind : rank_of cell turn from < rank_of cell turn to
   pub noted : (place : ℕ) → Contains pair.places.now place → rank_of cell turn from ≤ rank_of cell turn place
       → rank_of cell turn place ≤ rank_of cell turn to → IsNotedAt Noted pair place

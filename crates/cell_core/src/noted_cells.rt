@@ -13,8 +13,8 @@ pub trait NotedCells {
     fn has(&self, cell: Cell) -> bool
         ensures { IsTrue result ↔ is_noted self.now cell };
 
-    /// An end from `first` up to `past` before which the rule's cells from `from` are noted, at the ends from `first` on
-    /// whose bits are set: `bits` are for the ends from 0 on, 64 in a number. Takes no memory.
+    /// An end from `first` up to `past` before which the rule's cells from `from` are noted, at the ends from `first`
+    /// on whose bits are set: `bits` are for the ends from 0 on, 64 in a number. Takes no memory.
     fn noted_ends(&self, rule: u32, from: u16, first: u16, past: u16, bits: &[u64]) -> u16
         requires order { first ≤ past }
         requires bits { past ≤ 64 * length bits.now }

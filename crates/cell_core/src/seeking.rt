@@ -15,7 +15,7 @@ use adp_model::{Cell, Position, Problem, Visit};
 use split_lines::Lines;
 
 /// Where the visit comes to from an argument while the cells that are asked for are noted: along the line of its split,
-/// where it is the last of the split.
+/// where it is the first or the last of the split.
 fn gone_on<N: NotedCells>(
     lines: &Lines<'_>,
     problem: &Problem<'_>,
@@ -30,7 +30,7 @@ fn gone_on<N: NotedCells>(
     ensures { IsSkipped problem.now (N.is_noted noted.now) visit at result }
 {
     let count = problem.arguments(visit.cell.rule, at.alternative).len();
-    if at.number as usize + 1 < count {
+    if at.number > 0 && at.number as usize + 1 < count {
         return at;
     }
     skipped(lines, problem, noted, visit, at)

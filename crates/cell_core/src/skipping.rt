@@ -1,14 +1,16 @@
 //! How far a visit can go on along a line of splits whose cells are all noted.
 
-ghost use Rattle.std.specs.Prelude.{◌≡◌, ◌+◌, ◌-◌, ◌<◌, ◌≤◌, ℕ, IfSome, IsTrue, length, slice_index, take};
+ghost use Rattle.std.specs.Prelude.{◌≡◌, ◌+◌, ◌-◌, ◌<◌, ◌≤◌, ℕ, ◌∷◌, IfSome, length, slice_index, slice_index_or, take};
 ghost use Rattle.std.specs.Bool.{OnTrue};
 ghost use Rattle.std.specs.List.{AllAdjacentBelow, Contains};
 ghost use Rattle.adp_model.specs.declared.cell.Cell.{Cell as AnyCell};
 ghost use Rattle.adp_model.specs.PosedProblem.{IsSpan};
 ghost use Rattle.adp_model.specs.Parts.{alternatives_of, arguments_of};
-ghost use Rattle.adp_model.specs.Splits.{IsViable};
+ghost use Rattle.adp_model.specs.declared.grammar.Arg.TheVariants.{Rule};
+ghost use Rattle.adp_model.specs.Splits.{ends_by, FitsSpan, IsViable};
 ghost use Rattle.adp_model.specs.SplitArguments.{IsSplitArgument};
 ghost use Rattle.adp_model.specs.Visits.{argument_at, IsWalk};
+ghost use Rattle.yield_sizes.specs.Placing.{on_span};
 ghost use Rattle.split_lines.specs.Laid.{IsCellOf};
 ghost use Rattle.split_lines.specs.Flags.{AreBitsAmong};
 ghost use Rattle.cell_core.specs.Skipping.{IsSkipped, AreNotedBefore, AreNotedBetween, EndsByAPlace, IsLastNoted};
@@ -18,11 +20,11 @@ use crate::walk::{asked, end_of, start_of};
 use adp_model::laws::splits::{ranks_begin_at_the_turn, viable_cuts_lie_within_the_cell};
 use adp_model::laws::well_formed::arguments_are_few_and_known;
 use adp_model::{Arg, Cell, Position, Problem, Visit};
-use split_lines::Lines;
+use split_lines::{Line, Lines};
 
 /// The two arguments of a line on a span, and the places at which the boundary between them may stand: the first one
-/// begins at `from`, the second one `letters` behind the boundary, and ends at `last`. Bits tell where the first one may
-/// end and where the second one may begin.
+/// begins at `from`, the second one `letters` behind the boundary, and ends at `last`. Bits tell where the first one
+/// may end and where the second one may begin.
 #[derive(Clone, Copy)]
 pub struct OpenPair<'s> {
     pub first: &'s Arg,
@@ -186,6 +188,7 @@ fn moved(cuts: [u16; 3], first: usize, between: usize, place: u16) -> [u16; 3]
     requires { first + between < 3 }
     ensures front { take first result ≡ take first cuts }
     ensures there { slice_index result first ≡ place }
+    ensures behind { (number : ℕ) → first + between < number → slice_index result number ≡ slice_index cuts number }
 {
     let mut moved = cuts;
     for number in first + 1..first + between + 1 {
@@ -195,35 +198,62 @@ fn moved(cuts: [u16; 3], first: usize, between: usize, place: u16) -> [u16; 3]
     moved
 }
 
-/// Whether the cuts are those of a viable split.
-fn is_viable(lines: &Lines<'_>, problem: &Problem<'_>, cell: Cell, at: Position) -> bool
+/// Whether cuts that differ from those of a viable split by a line's boundary, which may stand there, and by the tokens
+/// behind it are those of a viable split too.
+fn is_viable(
+    lines: &Lines<'_>,
+    problem: &Problem<'_>,
+    cell: Cell,
+    at: Position,
+    line: Line<'_>,
+    pair: OpenPair<'_>,
+    cuts: [u16; 3],
+) -> bool
     requires same { lines.now ≡ problem.now }
-    requires alternative { at.alternative < length (alternatives_of problem.now.grammar cell.rule) }
     requires span { IsSpan problem.now.word cell.from cell.to }
-    ensures { OnTrue result (IsViable problem.now cell at.alternative at.cuts) }
+    requires viable { IsViable problem.now cell at.alternative at.cuts }
+    requires within { line.first + line.between + 1
+        < length (arguments_of problem.now.grammar cell.rule at.alternative) }
+    requires front { take line.first cuts ≡ take line.first at.cuts }
+    requires behind { (number : ℕ) → line.first + line.between < number
+        → slice_index cuts number ≡ slice_index at.cuts number }
+    requires short { slice_index cuts line.first + pair.letters ≤ 4000 }
+    requires first { FitsSpan problem.now (on_span
+        (slice_index_or (arguments_of problem.now.grammar cell.rule at.alternative) line.first (Rule 0))
+        (slice_index (cell.from ∷ ends_by cell at.cuts) line.first) (slice_index cuts line.first)) }
+    requires second { FitsSpan problem.now (on_span
+        (slice_index_or (arguments_of problem.now.grammar cell.rule at.alternative) (line.first + line.between + 1)
+        (Rule 0)) (slice_index cuts line.first + pair.letters) pair.last) }
+    ensures { OnTrue result (IsViable problem.now cell at.alternative cuts) }
 {
-    let arguments = problem.arguments(cell.rule, at.alternative);
-    let cuts = at.cuts;
-    for number in 0..arguments.len() {
-        let here = Position {
-            alternative: at.alternative,
-            cuts,
-            number: number as u8,
-        };
-        let (from, to) = (start_of(cell, here), end_of(cell, here));
-        if from > to || to > cell.to || !lines.fits(&arguments[number], from, to) {
-            return false;
-        }
+    let alternative = at.alternative;
+    let arguments = problem.arguments(cell.rule, alternative);
+    let second = line.first + line.between + 1;
+    let behind = Position {
+        alternative,
+        cuts,
+        number: second,
+    };
+    let start = cuts[line.first as usize] + pair.letters;
+    if start_of(cell, behind) != start || end_of(cell, behind) != pair.last {
+        return false;
     }
-    for number in arguments.len() - 1..3 {
-        if cuts[number] != cell.to {
+    for number in line.first + 1..second {
+        let token = Position {
+            alternative,
+            cuts,
+            number,
+        };
+        let (from, to) = (start_of(cell, token), end_of(cell, token));
+        if from > to || to > cell.to || !lines.fits(&arguments[number as usize], from, to) {
             return false;
         }
     }
     true
 }
 
-/// Where the visit comes to along the line of the split at `at` while the cells that are asked for are noted.
+/// Where the visit comes to along the line of the split at `at` while the cells that are asked for are noted: to the
+/// last argument of a later split.
 pub fn skipped<N: NotedCells>(
     lines: &Lines<'_>,
     problem: &Problem<'_>,
@@ -250,7 +280,8 @@ pub fn skipped<N: NotedCells>(
     }
     let first = line.first as usize;
     let between = line.between as usize;
-    let arguments = &problem.arguments(cell.rule, at.alternative)[first..];
+    let all = problem.arguments(cell.rule, at.alternative);
+    let arguments = &all[first..];
     let cuts = at.cuts;
     let begin = Position {
         alternative: at.alternative,
@@ -273,14 +304,12 @@ pub fn skipped<N: NotedCells>(
         return at;
     };
     let cuts = moved(cuts, first, between, place);
-    let to = Position {
+    if !is_viable(lines, problem, cell, at, line, pair, cuts) {
+        return at;
+    }
+    Position {
         alternative: at.alternative,
         cuts,
-        number: at.number,
-    };
-    if is_viable(lines, problem, cell, to) {
-        to
-    } else {
-        at
+        number: (all.len() - 1) as u8,
     }
 }

@@ -1,10 +1,11 @@
-use Rattle.std.proofs.Common.{◌≡◌, ℕ, List, ◌+◌, ◌-◌, ◌<◌, ◌≤◌, take, drop, length, ap, sym, subst, ◌∙◌, arith}
+use Rattle.std.proofs.Common.{◌≡◌, ℕ, List, ◌+◌, ◌-◌, ◌<◌, ◌≤◌, ◌∷◌, take, drop, length, slice_index, ap, sym, subst, ◌∙◌, arith}
 use Rattle.std.proofs.lemmas.List.{take_all}
 use Rattle.adp_model.specs.declared.grammar.Arg.{Arg}
 use Rattle.adp_model.specs.PosedProblem.{PosedProblem, IsSpan}
 use Rattle.adp_model.specs.Parts.{arguments_of}
+use Rattle.adp_model.specs.Splits.{ends_by}
 use Rattle.split_lines.specs.Lines.{parts_by, HasLine}
-use Rattle.cell_core.proofs.LineHere.{cut_within, start_within, boundaries_here, place_within, read_at}
+use Rattle.cell_core.proofs.LineHere.{cut_within, start_within, boundaries_here, place_within, read_at, spans_there}
 use Rattle.cell_core.proofs.Skipped.{is_skipped, length_drop}
 use Rattle.cell_core.proofs.skipping.skipped.Goals as goal
 
@@ -50,8 +51,8 @@ last_noted-requires-clause-within g c =
     let cell = c.args.visit.cell in
     let n = c.in-Some.line.first in
     let arguments : List Arg = arguments_of p.grammar cell.rule c.args.at.alternative in
-    let given : List Arg = take (length c.arguments.result.now - n) (drop n c.arguments.result.now) in
-    let alike : given ≡ drop n arguments = sliced c.arguments.result.now arguments n c.arguments.ensures.arguments in
+    let given : List Arg = take (length c.arguments-all.result.now - n) (drop n c.arguments-all.result.now) in
+    let alike : given ≡ drop n arguments = sliced c.arguments-all.result.now arguments n c.arguments-all.ensures.arguments in
     let boundaries = boundaries_here p c.args.lines.now given
     (drop n arguments) c.in-Some.line.between c.start_of-from.result cell.to
     c.boundary-boundary.result.letters c.boundary-boundary.result.last c.boundary-boundary.result.places.now
@@ -84,8 +85,8 @@ last_noted-requires-clause-short g c =
     let cell = c.args.visit.cell in
     let n = c.in-Some.line.first in
     let arguments : List Arg = arguments_of p.grammar cell.rule c.args.at.alternative in
-    let given : List Arg = take (length c.arguments.result.now - n) (drop n c.arguments.result.now) in
-    let alike : given ≡ drop n arguments = sliced c.arguments.result.now arguments n c.arguments.ensures.arguments in
+    let given : List Arg = take (length c.arguments-all.result.now - n) (drop n c.arguments-all.result.now) in
+    let alike : given ≡ drop n arguments = sliced c.arguments-all.result.now arguments n c.arguments-all.ensures.arguments in
     let boundaries = boundaries_here p c.args.lines.now given
     (drop n arguments) c.in-Some.line.between c.start_of-from.result cell.to
     c.boundary-boundary.result.letters c.boundary-boundary.result.last c.boundary-boundary.result.places.now
@@ -116,15 +117,74 @@ last_noted-requires-clause-place g c =
     c.args.at.alternative) in
     cut_within cell c.args.at.cuts within n (omega (arith, few.0, viable.three))
 
-pub returns-then-is_viable : goal.returns-then-is_viable
-returns-then-is_viable g c =
+pub is_viable-requires-clause-short : goal.is_viable-requires-clause-short
+is_viable-requires-clause-short g c =
+    let p = c.args.problem.now in
+    let cell = c.args.visit.cell in
+    let n = c.in-Some.line.first in
+    let arguments : List Arg = arguments_of p.grammar cell.rule c.args.at.alternative in
+    let given : List Arg = take (length c.arguments-all.result.now - n) (drop n c.arguments-all.result.now) in
+    let alike : given ≡ drop n arguments =
+    sliced c.arguments-all.result.now arguments n c.arguments-all.ensures.arguments in
+    let boundaries = boundaries_here p c.args.lines.now given
+    (drop n arguments) c.in-Some.line.between c.start_of-from.result cell.to
+    c.boundary-boundary.result.letters c.boundary-boundary.result.last c.boundary-boundary.result.places.now
+    c.requires.same alike
+    c.boundary-boundary.ensures.boundaries in
+    let it = place_within p (parts_by (drop n arguments) c.in-Some.line.between) c.start_of-from.result cell.to
+    c.boundary-boundary.result.letters c.boundary-boundary.result.last c.boundary-boundary.result.places.now boundaries
+    c.in-Some-last_noted.place c.in-Some-last_noted.ensures.stands in
+    omega (arith, it.1, c.moved-cuts.ensures.there, c.requires.span.in_word, c.admissible.ensures.limits.letters)
+
+pub is_viable-requires-clause-first : goal.is_viable-requires-clause-first
+is_viable-requires-clause-first g c =
+    let p = c.args.problem.now in
+    let cell = c.args.visit.cell in
+    let n = c.in-Some.line.first in
+    let arguments : List Arg = arguments_of p.grammar cell.rule c.args.at.alternative in
+    let given : List Arg = take (length c.arguments-all.result.now - n) (drop n c.arguments-all.result.now) in
+    let alike : given ≡ drop n arguments =
+    sliced c.arguments-all.result.now arguments n c.arguments-all.ensures.arguments in
+    let boundaries = boundaries_here p c.args.lines.now given
+    (drop n arguments) c.in-Some.line.between c.start_of-from.result cell.to
+    c.boundary-boundary.result.letters c.boundary-boundary.result.last c.boundary-boundary.result.places.now
+    c.requires.same alike
+    c.boundary-boundary.ensures.boundaries in
+    (spans_there p arguments n c.in-Some.line.between c.start_of-from.result cell.to
+    c.boundary-boundary.result.letters c.boundary-boundary.result.last c.boundary-boundary.result.places.now boundaries
+    c.in-Some-last_noted.place c.in-Some-last_noted.ensures.stands
+    (slice_index (cell.from ∷ ends_by cell c.args.at.cuts) n) (slice_index c.moved-cuts.result n)
+    c.start_of-from.ensures c.moved-cuts.ensures.there).0
+
+pub is_viable-requires-clause-second : goal.is_viable-requires-clause-second
+is_viable-requires-clause-second g c =
+    let p = c.args.problem.now in
+    let cell = c.args.visit.cell in
+    let n = c.in-Some.line.first in
+    let arguments : List Arg = arguments_of p.grammar cell.rule c.args.at.alternative in
+    let given : List Arg = take (length c.arguments-all.result.now - n) (drop n c.arguments-all.result.now) in
+    let alike : given ≡ drop n arguments =
+    sliced c.arguments-all.result.now arguments n c.arguments-all.ensures.arguments in
+    let boundaries = boundaries_here p c.args.lines.now given
+    (drop n arguments) c.in-Some.line.between c.start_of-from.result cell.to
+    c.boundary-boundary.result.letters c.boundary-boundary.result.last c.boundary-boundary.result.places.now
+    c.requires.same alike
+    c.boundary-boundary.ensures.boundaries in
+    (spans_there p arguments n c.in-Some.line.between c.start_of-from.result cell.to
+    c.boundary-boundary.result.letters c.boundary-boundary.result.last c.boundary-boundary.result.places.now boundaries
+    c.in-Some-last_noted.place c.in-Some-last_noted.ensures.stands
+    (slice_index (cell.from ∷ ends_by cell c.args.at.cuts) n) (slice_index c.moved-cuts.result n)
+    c.start_of-from.ensures c.moved-cuts.ensures.there).1
+
+pub returns : goal.returns
+returns g c =
     let p = c.args.problem.now in
     let cell = c.args.visit.cell in
     let n = c.in-Some.line.first in
     let formed = c.admissible.ensures.checked.well_formed in
     let arguments : List Arg = arguments_of p.grammar cell.rule c.args.at.alternative in
-    let given : List Arg = take (length c.arguments.result.now - n) (drop n c.arguments.result.now) in
-    let alike : given ≡ drop n arguments = sliced c.arguments.result.now arguments n c.arguments.ensures.arguments in
+    let given : List Arg = take (length c.arguments-all.result.now - n) (drop n c.arguments-all.result.now) in
+    let alike : given ≡ drop n arguments = sliced c.arguments-all.result.now arguments n c.arguments-all.ensures.arguments in
     let boundaries = boundaries_here p c.args.lines.now given
     (drop n arguments) c.in-Some.line.between c.start_of-from.result cell.to
     c.boundary-boundary.result.letters c.boundary-boundary.result.last c.boundary-boundary.result.places.now
@@ -139,12 +199,13 @@ returns-then-is_viable g c =
     (c.arguments_are_few_and_known.ensures.few p.grammar formed cell.rule c.args.at.alternative) in
     let several = has.several in
     is_skipped p (g.N.NotedCells.is_noted c.args.noted.now) c.args.visit c.requires.walk c.args.at c.moved-cuts.result n
-    c.in-Some-last_noted.place
+    c.in-Some-last_noted.place (length c.arguments-all.result.now - 1)
     c.ranks_begin_at_the_turn.ensures.apart
     (λ alternative cuts viable. c.viable_cuts_lie_within_the_cell.ensures p formed cell alternative cuts
     c.requires.span.in_order viable)
     (λ alternative. c.arguments_are_few_and_known.ensures.few p.grammar formed cell.rule alternative)
-    c.requires.argument c.if-is_viable.ensures
+    c.requires.argument c.if-not-is_viable.ensures
+    (let counted = ap length c.arguments-all.ensures.arguments in omega (arith, counted, few.1))
     (omega (arith, few.0)) c.moved-cuts.ensures.front c.moved-cuts.ensures.there
     c.if-not-are_noted_before.ensures
     _
