@@ -93,6 +93,21 @@ rule a = lit(\"ab\")\n\
 grammar a\n\
 words\n";
 
+/// Steps of one letter or two, as many as can be.
+pub(crate) const WALKS: &str = "adp 1\n\
+class any = \"ab\" 0\n\
+sign stop(token)\n\
+sign go(score, score)\n\
+sign step(token)\n\
+algebra most max\n\
+let stop(x1) = 0\n\
+let go(x1, x2) = 1 + 1*x1 + 1*x2\n\
+let step(x1) = 0\n\
+rule walk = stop(\"\") | go(one, walk)\n\
+rule one = step([any 1..2])\n\
+grammar walk\n\
+words\n";
+
 /// A chain of rules, each of which names the next one twice.
 pub(crate) const DOUBLING: &str = "adp 1\n\
 sign nil(token)\n\

@@ -4,6 +4,8 @@
 #![tactic(auto)]
 
 #[cfg(test)]
+mod cells;
+#[cfg(test)]
 mod codes;
 #[cfg(test)]
 mod grammars;
@@ -19,6 +21,8 @@ mod runs;
 mod schedules;
 #[cfg(test)]
 mod streams;
+#[cfg(test)]
+mod tables;
 #[cfg(test)]
 mod terms;
 #[cfg(test)]

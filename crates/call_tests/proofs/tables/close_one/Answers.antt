@@ -1,0 +1,8 @@
+use Rattle.std.proofs.Common.{sym, ◌∙◌}
+use Rattle.call_tests.proofs.Ending.{whole_at_end}
+use Rattle.call_tests.proofs.tables.close_one.Goals as goal
+
+pub close-requires-clause-axiom : goal.close-requires-clause-axiom
+close-requires-clause-axiom c =
+    whole_at_end c.args.table c.args.only.machine c.args.only.pass c.requires.work
+    (sym c.ended.ensures ∙ c.if-ended.true)

@@ -1,0 +1,17 @@
+-- A machine at work over a table.
+use Rattle.std.specs.Prelude.{◌≡◌}
+use Rattle.adp_model.specs.Machines.{IsMachine}
+use Rattle.memo_words.specs.declared.pass.Pass.{Pass}
+use Rattle.memo_words.specs.declared.words.Words.{Words}
+use Rattle.memo_words.specs.Passes.{IsPassOf, view_of, problem_of}
+use Rattle.memo_table.specs.declared.probe.Probe.{Probe}
+use Rattle.memo_table.specs.Meanings.{table_meaning}
+use Rattle.cell_core.specs.MachineViews.{MachineView, IsNotedIn}
+
+-- the machine is sound for the pass, which is of the words, stands for one seat and can't be split
+pub record IsAtWork (words : Words) (machine : MachineView Probe) (pass : Pass) : Type 0 where
+  pub problem : problem_of words ≡ machine.machine.problem
+  pub own : IsPassOf words pass
+  pub weight : (view_of pass).weight ≡ 1
+  pub spare : (view_of pass).spare ≡ 0
+  pub sound : IsMachine table_meaning IsNotedIn machine.machine pass

@@ -1,0 +1,341 @@
+ghost use Rattle.std.specs.Prelude.{◌≡◌, ◌<◌, IfOk};
+ghost use Rattle.memo_words.specs.Passes.{IsPassOf, plan_of, problem_of, view_of};
+ghost use Rattle.call_tests.specs.AtWork.{IsAtWork};
+
+use crate::grammars::checked;
+use crate::jobs::{PAIRS, job};
+use adp_model::{Answer, Answers, Cell, Choice, Problem, Steps, Text};
+use cell_core::{Machine, Turn};
+use grammar_check::{Checked, admit};
+use memo_table::{Closed, Pass, Table};
+use random_orders::Orders;
+use std::alloc::{AllocError, Global};
+use std::marker::Brand;
+use std::process::Abort;
+use std::sync::ledger::{Blank, Ledger};
+use std::test::Fail;
+
+/// A machine, and the pass by which it steps over a table.
+#[derive(Drop)]
+struct Evaluator<'a> {
+    machine: Machine<'a, Table>,
+    pass: Pass,
+}
+
+impl<'a> Evaluator<'a> {
+    /// A fresh one, whose machine passes over noted arguments or not.
+    fn new(
+        alloc: Global,
+        table: &Table,
+        problem: &'a Problem<'a>,
+        pass: Pass,
+        number: u32,
+        skips: bool,
+    ) -> Result<Evaluator<'a>, AllocError>
+        requires problem { problem_of table.now ≡ problem.now }
+        requires own { IsPassOf table.now pass }
+        requires weight { (view_of pass).weight ≡ 1 }
+        requires spare { (view_of pass).spare ≡ 0 }
+        ensures { IfOk result (λ made. IsAtWork table.now made.machine made.pass) }
+    {
+        let _ = table;
+        let mut machine = Machine::<Table>::new(alloc, problem, Orders::new(0, number))?;
+        machine.set_skips(skips);
+        Ok(Evaluator { machine, pass })
+    }
+
+    fn step<L: Ledger>(&mut self, table: &Table, steps: &mut Steps<L>) -> Turn
+        requires { IsAtWork table.now self.old.machine self.old.pass }
+        ensures { IsAtWork table.now self.new.machine self.new.pass }
+    {
+        self.machine.step(table, &mut self.pass, steps)
+    }
+}
+
+/// Steps both by turns, each so often.
+fn by_turns<L: Ledger>(
+    table: &Table,
+    first: &mut Evaluator<'_>,
+    second: &mut Evaluator<'_>,
+    steps: &mut Steps<L>,
+    count: u32,
+)
+    requires first { IsAtWork table.now first.old.machine first.old.pass }
+    requires second { IsAtWork table.now second.old.machine second.old.pass }
+    ensures first { IsAtWork table.now first.new.machine first.new.pass }
+    ensures second { IsAtWork table.now second.new.machine second.new.pass }
+{
+    if count == 0 {
+        return;
+    }
+    let _ = first.step(table, steps);
+    let _ = second.step(table, steps);
+    by_turns(table, first, second, steps, count - 1);
+}
+
+/// Steps one so often.
+fn alone<L: Ledger>(table: &Table, only: &mut Evaluator<'_>, steps: &mut Steps<L>, count: u32)
+    requires { IsAtWork table.now only.old.machine only.old.pass }
+    ensures { IsAtWork table.now only.new.machine only.new.pass }
+{
+    if count == 0 {
+        return;
+    }
+    let _ = only.step(table, steps);
+    alone(table, only, steps, count - 1);
+}
+
+/// Closes the table, once the machine on its only seat has ended.
+fn close_one(table: Table, only: Evaluator<'_>) -> Result<Closed, Fail>
+    requires work { IsAtWork table only.machine only.pass }
+    requires seats { (plan_of table).seats ≡ 1 }
+{
+    if only.machine.ended() {
+        return Ok(table.close(only.pass));
+    }
+    Err(Fail::new("the machine goes on"))
+}
+
+/// Joins the passes of both and closes the table, once the first machine has ended.
+fn close_both(table: Table, first: Evaluator<'_>, second: Evaluator<'_>) -> Result<Closed, Fail>
+    requires first { IsAtWork table first.machine first.pass }
+    requires second { IsAtWork table second.machine second.pass }
+    requires seats { (plan_of table).seats ≡ 2 }
+{
+    if first.machine.ended() {
+        let mut pass = first.pass;
+        table.join(&mut pass, second.pass);
+        return Ok(table.close(pass));
+    }
+    Err(Fail::new("the machine goes on"))
+}
+
+/// All words: the counter, the key words, the record words, the score words and the choice words.
+fn all_words(alloc: Global, closed: &Closed) -> Result<Vec<u64>, AllocError> {
+    let rest = closed.words();
+    let mut words = Vec::new(alloc);
+    words.push(rest.counter())?;
+    for position in 0..rest.slots() {
+        words.push(rest.key(position))?;
+    }
+    for position in 0..rest.slots() {
+        words.push(rest.record_word(position))?;
+    }
+    for number in 0..rest.records() {
+        words.push(rest.score(number))?;
+    }
+    for number in 0..rest.records() {
+        words.push(rest.choice(number))?;
+    }
+    Ok(words)
+}
+
+/// The number of publications won, and the record in hand.
+fn standing(one: &Evaluator<'_>) -> (u64, Option<u32>) {
+    (one.machine.wins(), one.pass.in_hand())
+}
+
+/// Steps both by turns, each so often, and looks at where they stand then.
+fn expect_standing<L: Ledger>(
+    rt: &impl Abort,
+    table: &Table,
+    first: &mut Evaluator<'_>,
+    second: &mut Evaluator<'_>,
+    steps: &mut Steps<L>,
+    count: u32,
+    want: [(u64, Option<u32>); 2],
+)
+    requires first { IsAtWork table.now first.old.machine first.old.pass }
+    requires second { IsAtWork table.now second.old.machine second.old.pass }
+    ensures first { IsAtWork table.now first.new.machine first.new.pass }
+    ensures second { IsAtWork table.now second.new.machine second.new.pass }
+{
+    by_turns(table, first, second, steps, count);
+    assert_eq!(rt; [standing(first), standing(second)], want);
+}
+
+// The key word is loaded and exchanged and the record word loaded; then a record is reserved, its two words are stored
+// and it is named.
+fn expect_seven_steps_counted<L: Ledger>(
+    rt: &impl Abort,
+    alloc: Global,
+    problem: &Problem<'_>,
+    blank: Blank,
+) -> Result<(), Fail>
+    requires name { blank.name ≡ L.name }
+    requires parts { (blank.parts ≡ L.parts) × (0 < blank.parts) }
+{
+    let (table, pass) = Table::new(alloc, problem, 1)?;
+    let mut only = Evaluator::new(alloc, &table, problem, pass, 0, true)?;
+    let mut steps = Steps::<L>::open(blank);
+    alone(&table, &mut only, &mut steps, 6);
+    assert!(rt; !only.machine.ended());
+    alone(&table, &mut only, &mut steps, 1);
+    assert!(rt; only.machine.ended());
+    assert_eq!(rt; only.machine.moves(), 7);
+    assert_eq!(rt; standing(&only), (1, None));
+    let closed = close_one(table, only)?;
+    let words = [1, 0, 1, 0, 1, 4_611_686_018_427_387_905, 0, 2, 0];
+    assert!(rt; all_words(alloc, &closed)?.as_slice() == words.as_slice());
+    assert_eq!(rt; closed.len(), 1);
+    Ok(())
+}
+
+// The words of the table of `pq` for two, when both took turns from the first step on.
+const WORDS_OF_BOTH: [u64; 49] = [
+    5,
+    0,
+    0,
+    0,
+    0,
+    0,
+    4099,
+    0,
+    0,
+    0,
+    0,
+    0,
+    4098,
+    8195,
+    3,
+    0,
+    0,
+    0,
+    0,
+    0,
+    0,
+    0,
+    2,
+    0,
+    0,
+    0,
+    0,
+    0,
+    3,
+    1,
+    4,
+    0,
+    0,
+    4_611_686_018_427_387_905,
+    4_611_686_018_427_387_905,
+    4_611_686_018_427_387_905,
+    4_611_686_018_427_387_906,
+    4_611_686_018_427_387_906,
+    0,
+    0,
+    0,
+    8_592_032_258,
+    8_592_032_259,
+    4_296_016_130,
+    8_590_983_428,
+    8_590_983_428,
+    0,
+    0,
+    0,
+];
+
+fn expect_lost_exchanges_counted<L: Ledger>(
+    rt: &impl Abort,
+    alloc: Global,
+    problem: &Problem<'_>,
+    skips: bool,
+    moves: [u64; 2],
+    blank: Blank,
+) -> Result<(), Fail>
+    requires name { blank.name ≡ L.name }
+    requires parts { (blank.parts ≡ L.parts) × (0 < blank.parts) }
+{
+    let (table, mut pass) = Table::new(alloc, problem, 2)?;
+    let other = table.split(&mut pass);
+    let mut first = Evaluator::new(alloc, &table, problem, pass, 0, skips)?;
+    let mut second = Evaluator::new(alloc, &table, problem, other, 1, skips)?;
+    let mut steps = Steps::<L>::open(blank);
+    // both found no key; the second one's exchange is lost, and it finds the key of its own cell
+    by_turns(&table, &mut first, &mut second, &mut steps, 2);
+    assert!(rt; first.machine.loads_record_word(&table));
+    assert!(rt; second.machine.loads_record_word(&table));
+    // its exchange of a record word is lost, and its record stays in hand
+    let want = [(1, None), (0, Some(1))];
+    expect_standing(rt, &table, &mut first, &mut second, &mut steps, 11, want);
+    // it puts that record for another cell, and reserves no other one
+    let want = [(1, Some(2)), (1, None)];
+    expect_standing(rt, &table, &mut first, &mut second, &mut steps, 3, want);
+    // now the first one's exchange of that record word is lost
+    let want = [(1, Some(2)), (1, None)];
+    expect_standing(rt, &table, &mut first, &mut second, &mut steps, 1, want);
+    let want = [(2, None), (1, Some(3))];
+    expect_standing(rt, &table, &mut first, &mut second, &mut steps, 6, want);
+    // both end, the second one first
+    let want = [(2, Some(4)), (2, None)];
+    expect_standing(rt, &table, &mut first, &mut second, &mut steps, 8, want);
+    assert_eq!(rt; [first.machine.moves(), second.machine.moves()], moves);
+    let closed = close_both(table, first, second)?;
+    assert!(rt; all_words(alloc, &closed)?.as_slice() == WORDS_OF_BOTH.as_slice());
+    expect_answers(rt, &closed);
+    Ok(())
+}
+
+fn expect_seven_steps(rt: &impl Abort, alloc: Global, problem: &Problem<'_>) -> Result<(), Fail> {
+    expect_seven_steps_counted::<Brand>(rt, alloc, problem, Blank::new(1))
+}
+
+fn expect_lost_exchanges(
+    rt: &impl Abort,
+    alloc: Global,
+    problem: &Problem<'_>,
+    skips: bool,
+    moves: [u64; 2],
+) -> Result<(), Fail> {
+    expect_lost_exchanges_counted::<Brand>(rt, alloc, problem, skips, moves, Blank::new(1))
+}
+
+// The cells of the letters from `from` to `to`, each with its score, its alternative and its cuts.
+fn expect_answers(rt: &impl Abort, closed: &Closed) {
+    assert_eq!(rt; closed.len(), 4);
+    for (from, to, score, alt, cuts) in [
+        (0, 2, 1, 2, [1, 1, 2]),
+        (1, 1, 0, 0, [1, 1, 1]),
+        (1, 2, 0, 1, [2, 2, 2]),
+        (2, 2, 0, 0, [2, 2, 2]),
+    ] {
+        let choice = Choice { alt, cuts };
+        let answer = Some(Answer::Best { score, choice });
+        assert_eq!(rt; closed.answer(Cell { rule: 0, from, to }), answer);
+    }
+    for (rule, from, to) in [(0, 0, 0), (0, 0, 1), (0, 2, 1), (1, 0, 2), (0, 0, 4001)] {
+        assert_eq!(rt; closed.answer(Cell { rule, from, to }), None);
+    }
+}
+
+fn expect_tables(
+    rt: &impl Abort,
+    alloc: Global,
+    checked: &Checked,
+    word: &Text,
+) -> Result<(), Fail> {
+    match admit(alloc, checked, word) {
+        Ok(problem) => {
+            if word.bytes().is_empty() {
+                return expect_seven_steps(rt, alloc, &problem);
+            }
+            expect_lost_exchanges(rt, alloc, &problem, true, [27, 26])?;
+            expect_lost_exchanges(rt, alloc, &problem, false, [31, 30])
+        }
+        Err(_) => Err(Fail::new("refused")),
+    }
+}
+
+#[test]
+fn the_empty_word_takes_seven_steps(rt: HostRuntime) -> Result<(), Fail> {
+    let alloc = rt.alloc();
+    let (checked, _words) = checked(&rt, alloc, job(alloc, PAIRS)?)?;
+    expect_tables(&rt, alloc, &checked, &Text::new(Vec::new(alloc)))
+}
+
+#[test]
+fn two_passes_lose_exchanges_by_turns(rt: HostRuntime) -> Result<(), Fail> {
+    let alloc = rt.alloc();
+    let (checked, words) = checked(&rt, alloc, job(alloc, PAIRS)?)?;
+    assert!(rt; !words.is_empty());
+    expect_tables(&rt, alloc, &checked, &words[0])
+}
