@@ -18,7 +18,7 @@ use Rattle.score_numbers.specs.Packing.{Width, IsProper, short}
 use Rattle.score_numbers.specs.Spaced.{IsSpaced, least_sum}
 use Rattle.score_numbers.specs.Entries.{no_candidate, score_of_entry}
 use Rattle.score_numbers.specs.Limits.{no_limit, AreLimited}
-use Rattle.score_numbers.specs.Sums.{HasSum, HasSumAt, HasUnlimitedSum, HasScaledSum, HasScaledSumAt, HaveNumbers, number_at}
+use Rattle.score_numbers.specs.Sums.{HasSum, HasSumAt, HasUnlimitedSum, IsUnlimitedSum, HasScaledSum, HasScaledSumAt, HaveNumbers, number_at}
 use Rattle.score_numbers.specs.Greatest.{IsGreatestOf}
 use Rattle.score_numbers.proofs.Greatest.{greatest_same, HasBefore, before_more, before_none}
 
@@ -47,10 +47,6 @@ IsLargest least Holds greatest =
 
 pub max_cases : (a b : ℤ) → ((int_max a b ≡ a) × (b ≤ℤ a)) ⊎ ((int_max a b ≡ b) × (a ≤ℤ b))
 max_cases a b = grind (arith, ints, int_max_is)
-
--- two numbers side by side have this sum, and there is no limit
-abbrev pub IsUnlimitedSum : List ℤ → List ℤ → List ℤ → ℕ → ℤ → Type 0
-IsUnlimitedSum limits firsts seconds k sum = (slice_get limits k ≡ Some no_limit) × HasSum short firsts seconds k sum
 
 -- the greatest of numbers of which none is less than this, where it is less while there is none
 module _ (least : ℤ) where
@@ -247,7 +243,7 @@ module _ (positions : Positions) (firsts seconds : List ℤ) (have : HaveNumbers
   stands : (k : ℕ) → k < length positions.at.now → Contains positions.at.now (get_or positions.at.now k 0)
   stands k l = Contains-get_or positions.at.now k 0 l
 
-  number_is : (k : ℕ) → k < length positions.at.now → number_at positions (get_or positions.at.now k 0) ≡ k
+  pub number_is : (k : ℕ) → k < length positions.at.now → number_at positions (get_or positions.at.now k 0) ≡ k
   number_is = is_itself (λ k. number_at positions (get_or positions.at.now k 0)) (length positions.at.now)
       (λ k l. omega (arith, rising k 0 l, have.from_first (get_or positions.at.now k 0) (stands k (omega arith))))
       (λ k l. omega (arith, have.before (get_or positions.at.now k 0) (stands k l)))
@@ -267,13 +263,13 @@ module _ (positions : Positions) (firsts seconds : List ℤ) (have : HaveNumbers
 pub all_limited : (limits firsts seconds : List ℤ) (count : ℕ) (greatest : ℤ) → count ≡ length limits → IsLargest (least_sum short) (HasBefore (IsUnlimitedSum limits firsts seconds) count) greatest
     → IsLargest (least_sum short) (HasUnlimitedSum limits firsts seconds) greatest
 all_limited limits firsts seconds count greatest all (inl (low, none)) =
-    inl (low, λ number h. none number (h.0, omega (arith, all, some_place limits h.0 no_limit h.1), (h.1, h.2)))
+    inl (low, λ number h. none number (h.0, omega (arith, all, some_place limits h.0 no_limit h.1.0), h.1))
 all_limited limits firsts seconds count greatest all (inr (high, is)) =
     inr (
       high,
       greatest_same (HasBefore (IsUnlimitedSum limits firsts seconds) count) (HasUnlimitedSum limits firsts seconds) (Some greatest)
-          (λ number h. (h.0, h.2.0, h.2.1))
-          (λ number h. (h.0, omega (arith, all, some_place limits h.0 no_limit h.1), (h.1, h.2))) is,
+          (λ number h. (h.0, h.2))
+          (λ number h. (h.0, omega (arith, all, some_place limits h.0 no_limit h.1.0), h.1)) is,
     )
 
 -- ---- positions that limits tell, from the first to the last
@@ -289,20 +285,32 @@ module _ (positions : Positions) (firsts seconds : List ℤ) (limits : List ℤ)
       let first : Contains positions.at.now begin = Contains-get_or positions.at.now 0 0 (omega (arith, last.1)) in
       omega (arith, some, as_many, have.from_first (begin + length limits - 1) last, have.before (begin + length limits - 1) last, have.from_first begin first)
 
+  -- where there is no limit, a position stands
+  pub unlimited_stands : (k : ℕ) → slice_get limits k ≡ Some no_limit → Contains positions.at.now (positions.first + k)
+  unlimited_stands k there =
+      let at = begins (omega (arith, some_place limits k no_limit there)) in
+      let same : k ≡ begin + k - begin = omega arith in
+      let moved : begin + k ≡ positions.first + k = omega (arith, at) in
+      subst (Contains positions.at.now) moved
+      ((limited.exact (begin + k)).1 (omega arith, subst (λ n. slice_get limits n ≡ Some no_limit) same there))
+
+  pub stands_unlimited : (position : ℕ) → Contains positions.at.now position
+      → slice_get limits (number_at positions position) ≡ Some no_limit
+  stands_unlimited position stands =
+      let told = (limited.exact position).0 stands in
+      let at = begins (omega (arith, some_place limits (position - begin) no_limit told.1)) in
+      let same : position - begin ≡ number_at positions position = omega (arith, at) in
+      subst (λ k. slice_get limits k ≡ Some no_limit) same told.1
+
+  pub number_back : (k : ℕ) → k ≡ number_at positions (positions.first + k)
+  number_back k = omega arith
+
   pub limited_places : (greatest : Option ℤ) → IsGreatestOf (HasUnlimitedSum limits firsts seconds) greatest → IsGreatestOf (HasSumAt short positions firsts seconds) greatest
   limited_places greatest =
       greatest_same (HasUnlimitedSum limits firsts seconds) (HasSumAt short positions firsts seconds) greatest
       (λ number h.
-      let at = begins (omega (arith, some_place limits h.0 no_limit h.1)) in
-      let same : begin + h.0 - begin ≡ h.0 = omega arith in
-      let stands : Contains positions.at.now (begin + h.0) = (limited.exact (begin + h.0)).1 (omega arith, subst (λ k. slice_get limits k ≡ Some no_limit) (sym same) h.1) in
-      let e : h.0 ≡ number_at positions (begin + h.0) = omega (arith, at) in
-      (begin + h.0, stands, subst (λ k. HasSum short firsts seconds k number) e h.2))
-      (λ number h.
-      let told = (limited.exact h.0).0 h.1 in
-      let at = begins (omega (arith, some_place limits (h.0 - begin) no_limit told.1)) in
-      let e : number_at positions h.0 ≡ h.0 - begin = omega (arith, at) in
-      (h.0 - begin, told.1, subst (λ k. HasSum short firsts seconds k number) e h.2))
+      (positions.first + h.0, unlimited_stands h.0 h.1.0, subst (λ k. HasSum short firsts seconds k number) (number_back h.0) h.1.1))
+      (λ number h. (number_at positions h.0, (stands_unlimited h.0 h.1, h.2)))
 
 -- ---- numbers with factors
 
@@ -312,7 +320,7 @@ one_product scale number e = ap (λ s. s *ℤ number) e ∙ *ℤ_comm (pos 1) nu
 
 -- factors that leave numbers as they are
 module _ (width : Width) (scales : Scales) (before : scales.before ≡ pos 1) (behind : scales.behind ≡ pos 1) (firsts seconds : List ℤ) where
-  plain_sum : (k : ℕ) (number : ℤ) → HasSum width firsts seconds k number → HasScaledSum width.mark scales firsts seconds k number
+  pub plain_sum : (k : ℕ) (number : ℤ) → HasSum width firsts seconds k number → HasScaledSum width.mark scales firsts seconds k number
   plain_sum k number it =
       let e = it.is in
       let e' = one_product scales.before it.first before in
@@ -327,7 +335,7 @@ module _ (width : Width) (scales : Scales) (before : scales.before ≡ pos 1) (b
         is = omega (arith, ints);
       }
 
-  sum_plain : (k : ℕ) (number : ℤ) → HasScaledSum width.mark scales firsts seconds k number → HasSum width firsts seconds k number
+  pub sum_plain : (k : ℕ) (number : ℤ) → HasScaledSum width.mark scales firsts seconds k number → HasSum width firsts seconds k number
   sum_plain k number it =
       let e = it.is in
       let e' = one_product scales.before it.first before in

@@ -1,2 +1,4 @@
+pub mod FirstFound
+pub mod FirstSums
 pub mod Greatest
 pub mod LargestSums

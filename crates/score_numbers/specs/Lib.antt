@@ -1,4 +1,5 @@
 pub mod Entries
+pub mod FirstPlaces
 pub mod Greatest
 pub mod Limits
 pub mod Packing

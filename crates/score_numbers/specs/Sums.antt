@@ -54,7 +54,10 @@ AreLowSums mark scales positions firsts seconds =
     → (it : HasScaledSum mark scales firsts seconds (number_at positions position) sum)
     → nat_abs (scales.before *ℤ it.first) + nat_abs (scales.behind *ℤ it.second) ≤ greatest_score
 
+-- there is no limit at this place, and the two numbers there have this sum
+abbrev pub IsUnlimitedSum : List ℤ → List ℤ → List ℤ → ℕ → ℤ → Type 0
+IsUnlimitedSum limits firsts seconds k sum = (slice_get limits k ≡ Some no_limit) × HasSum short firsts seconds k sum
+
 -- two numbers side by side, where there is no limit, have this sum
 abbrev pub HasUnlimitedSum : List ℤ → List ℤ → List ℤ → ℤ → Type 0
-HasUnlimitedSum limits firsts seconds sum =
-    (k : ℕ) × (slice_get limits k ≡ Some no_limit) × HasSum short firsts seconds k sum
+HasUnlimitedSum limits firsts seconds sum = (k : ℕ) × IsUnlimitedSum limits firsts seconds k sum

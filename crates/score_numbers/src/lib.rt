@@ -1,13 +1,16 @@
-//! The numbers that scores are kept as, in as few bits as they need, and the greatest sums of two of them. A score is
-//! turned so that a better one is greater; one number of each width marks that there is no candidate.
+//! The numbers that scores are kept as, in as few bits as they need, the greatest sums of two of them, and where these
+//! stand first. A score is turned so that a better one is greater; one number of each width marks that there is no
+//! candidate.
 #![tactic(auto)]
 
+mod first_sums;
 mod numbers;
 mod packing;
 mod sums;
 mod width;
 mod worthless;
 
+pub use first_sums::{first_long, first_medium, first_short};
 pub use numbers::{greater, turned, turned_factors};
 pub use packing::{
     LONG_LIMIT, LONG_MARK, MEDIUM_LIMIT, MEDIUM_MARK, NO_CANDIDATE, NO_LIMIT, SHORT_LIMIT,

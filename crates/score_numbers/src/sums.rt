@@ -1,6 +1,6 @@
 //! The greatest sum of numbers before and behind the positions of a boundary.
 
-ghost use Rattle.std.specs.Prelude.{◌≡◌, ℕ, pos, ◌+◌, ◌<◌, ◌≤◌, ◌⊎◌, ◌+ℤ◌, ◌*ℤ◌, ◌<ℤ◌, ◌≤ℤ◌, IsTrue, MatchOption, nat_abs, length, map};
+ghost use Rattle.std.specs.Prelude.{◌≡◌, ◌↔◌, ℕ, pos, ◌+◌, ◌<◌, ◌≤◌, ◌⊎◌, ◌+ℤ◌, ◌*ℤ◌, ◌<ℤ◌, ◌≤ℤ◌, IsTrue, MatchOption, nat_abs, length, map};
 ghost use Rattle.std.specs.List.{AllAdjacentBelow};
 ghost use Rattle.adp_model.specs.ProblemFields.{greatest_score};
 ghost use Rattle.score_numbers.specs.Entries.{no_candidate};
@@ -33,7 +33,7 @@ pub struct Scales {
 
 impl Scales {
     /// Whether they leave numbers as they are.
-    fn are_plain(self) -> bool
+    pub fn are_plain(self) -> bool
         ensures { IsTrue result → (self.before ≡ pos 1) × (self.behind ≡ pos 1) }
     {
         self.before == 1 && self.behind == 1
@@ -52,6 +52,20 @@ impl Scales {
         } else {
             self.before * before + self.behind * behind
         }
+    }
+
+    /// Whether neither of two numbers is the mark, and their sum, each times its factor, is this one.
+    pub fn make(self, mark: i64, before: i64, behind: i64, sum: i64) -> bool
+        requires low { (before ≡ mark → ⊥) → (behind ≡ mark → ⊥)
+            → nat_abs (self.before *ℤ before) + nat_abs (self.behind *ℤ behind) ≤ greatest_score }
+        ensures apart { IsTrue result → (before ≡ mark → ⊥) × (behind ≡ mark → ⊥) }
+        ensures sum { (before ≡ mark → ⊥) → (behind ≡ mark → ⊥)
+            → IsTrue result ↔ (sum ≡ ((self.before *ℤ before) +ℤ (self.behind *ℤ behind))) }
+    {
+        if before == mark || behind == mark {
+            return false;
+        }
+        self.sum(mark, before, behind) == sum
     }
 }
 
@@ -91,7 +105,7 @@ fn sum_of<N: Number>(greatest: N) -> Option<i64>
 }
 
 /// The greatest sum of numbers side by side.
-fn greatest_aligned<N: Number>(first: &[N], second: &[N]) -> Option<i64>
+pub fn greatest_aligned<N: Number>(first: &[N], second: &[N]) -> Option<i64>
     requires first { AreProper N.width (map N.value first.now) }
     requires second { AreProper N.width (map N.value second.now) }
     ensures { IsGreatestOf (λ sum. (k : ℕ) × HasSum N.width (map N.value first.now) (map N.value second.now) k sum)
@@ -147,7 +161,7 @@ fn greatest_sum<N: Number>(
 }
 
 /// The greatest sum of numbers of 16 bits side by side, where there is no limit.
-fn greatest_limited_short(first: &[i16], second: &[i16], limits: &[i16]) -> Option<i64>
+pub fn greatest_limited_short(first: &[i16], second: &[i16], limits: &[i16]) -> Option<i64>
     requires first { AreProper short first.now }
     requires second { AreProper short second.now }
     requires limits { AreLimits limits.now }
@@ -160,6 +174,15 @@ fn greatest_limited_short(first: &[i16], second: &[i16], limits: &[i16]) -> Opti
         greatest = greatest.max((first[k] + second[k]).min(*limit));
     }
     sum_of(greatest)
+}
+
+/// Whether there are two numbers of 16 bits and a limit for each position from the first of these to the last one, which
+/// are all read where they are not too many.
+pub fn are_dense(first: &[i16], second: &[i16], positions: Positions<'_>, limits: &[i16]) -> bool
+    ensures { IsTrue result → (length first.now ≡ length limits.now) × (length second.now ≡ length limits.now) }
+{
+    let span = limits.len();
+    first.len() == span && second.len() == span && span / SPARSE < positions.at.len()
 }
 
 /// The greatest sum of numbers of 16 bits before and behind the positions, each times its factor. Limits tell the
@@ -183,10 +206,9 @@ pub fn greatest_short(
     if !scales.are_plain() {
         return greatest_scaled(first, second, i64::from(SHORT_MARK), positions, scales);
     }
-    let (count, span) = (positions.at.len(), limits.len());
-    if first.len() != span || second.len() != span || span / SPARSE >= count {
+    if !are_dense(first, second, positions, limits) {
         greatest_scattered(first, second, positions)
-    } else if count == span {
+    } else if positions.at.len() == limits.len() {
         greatest_aligned(first, second)
     } else {
         greatest_limited_short(first, second, limits)

@@ -3,8 +3,8 @@ use Rattle.std.specs.Int.{int_max}
 use Rattle.std.proofs.lemmas.Int.{to_z-of_z}
 use Rattle.std.proofs.lemmas.Option.{slice_get-get_or}
 use Rattle.score_numbers.specs.Packing.{IsProper, short}
-use Rattle.score_numbers.specs.Sums.{HasUnlimitedSum}
-use Rattle.score_numbers.proofs.LargestSums.{IsUnlimitedSum, short_spaced, short_fits, short_sum_fits, none_yet, unlimited_more, limited_more, limit_cases, limit_fits, all_limited, largest_sum}
+use Rattle.score_numbers.specs.Sums.{HasUnlimitedSum, IsUnlimitedSum}
+use Rattle.score_numbers.proofs.LargestSums.{short_spaced, short_fits, short_sum_fits, none_yet, unlimited_more, limited_more, limit_cases, limit_fits, all_limited, largest_sum}
 use Rattle.score_numbers.specs.Spaced.{least_sum}
 use Rattle.score_numbers.proofs.sums.greatest_limited_short.Goals as goal
 

@@ -1,6 +1,7 @@
 use Rattle.score_numbers.specs.Packing.{short}
+use Rattle.score_numbers.specs.Sums.{IsUnlimitedSum}
 use Rattle.score_numbers.proofs.Greatest.{HasBefore}
-use Rattle.score_numbers.proofs.LargestSums.{IsLargest, IsUnlimitedSum}
+use Rattle.score_numbers.proofs.LargestSums.{IsLargest}
 use Rattle.score_numbers.specs.Spaced.{least_sum}
 use Rattle.score_numbers.proofs.sums.greatest_limited_short.Given as goal
 

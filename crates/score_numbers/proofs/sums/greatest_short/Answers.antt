@@ -23,16 +23,16 @@ returns-then-not-are_plain c =
     (subst (λ number. G number (map (λ x. x) c.args.first.now) (map (λ x. x) c.args.second.now)) mark
     c.greatest_scaled.ensures)
 
-pub returns-then-span-count : goal.returns-then-span-count
-returns-then-span-count c =
+pub returns-then-not-are_dense : goal.returns-then-not-are_dense
+returns-then-not-are_dense c =
     let plain = c.are_plain.ensures c.if-not-are_plain.false in
     let found = c.greatest_scattered.result in
     plain_greatest short c.args.scales plain.0 plain.1 c.args.first.now c.args.second.now c.args.positions found
     (from_values (λ firsts seconds. IsGreatestOf (HasSumAt short c.args.positions firsts seconds) found)
     c.args.first.now c.args.second.now c.greatest_scattered.ensures)
 
-pub returns-then-count-span : goal.returns-then-count-span
-returns-then-count-span c =
+pub returns-then-positions-limits : goal.returns-then-positions-limits
+returns-then-positions-limits c =
     let as_many : length c.args.first.now ≡ length c.args.positions.at.now = omega arith in
     let plain = c.are_plain.ensures c.if-not-are_plain.false in
     let found = c.greatest_aligned.result in
@@ -41,8 +41,8 @@ returns-then-count-span c =
     (from_values (λ firsts seconds. IsGreatestOf (λ sum. (k : ℕ) × HasSum short firsts seconds k sum) found)
     c.args.first.now c.args.second.now c.greatest_aligned.ensures))
 
-pub returns-else-count-span : goal.returns-else-count-span
-returns-else-count-span c =
+pub returns-else-positions-limits : goal.returns-else-positions-limits
+returns-else-positions-limits c =
     let as_many : length c.args.first.now ≡ length c.args.limits.now = omega arith in
     let plain = c.are_plain.ensures c.if-not-are_plain.false in
     plain_greatest short c.args.scales plain.0 plain.1 c.args.first.now c.args.second.now c.args.positions
