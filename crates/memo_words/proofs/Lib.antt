@@ -9,6 +9,7 @@ pub mod Names
 pub mod Stores
 pub mod Room
 pub mod Moves
+pub mod Made
 pub mod Plays
 pub mod Soundness
 pub mod Planned

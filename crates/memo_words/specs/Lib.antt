@@ -4,5 +4,6 @@ pub mod CodedCells
 pub mod Layout
 pub mod Views
 pub mod Kept
+pub mod Made
 pub mod Steps
 pub mod Passes

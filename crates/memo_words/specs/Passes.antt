@@ -13,6 +13,7 @@ use Rattle.memo_words.specs.declared.view.View.{View}
 use Rattle.memo_words.specs.declared.pass.Pass.{Pass}
 use Rattle.memo_words.specs.declared.words.Words.{Words}
 use Rattle.memo_words.specs.declared.rest.Rest.{Rest}
+use Rattle.memo_words.specs.declared.word_step.WordStep.{WordStep}
 use Rattle.memo_words.specs.Codes.{cell_code}
 use Rattle.memo_words.specs.CodedCells.{IsCodeOf, answer_word}
 use Rattle.memo_words.specs.Layout.{Plan, probed}
@@ -24,6 +25,10 @@ view_of pass = pass.seat.me.0
 -- the record in hand
 abbrev pub hand_of : Pass → Option ℕ
 hand_of pass = pass.hand
+
+-- the last step
+abbrev pub made_of : Pass → Option WordStep
+made_of pass = pass.made
 
 abbrev pub plan_of : Words → Plan
 plan_of words = words.table.shared.key

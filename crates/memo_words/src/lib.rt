@@ -13,6 +13,7 @@ mod rest;
 mod rule;
 mod steps;
 mod view;
+mod word_step;
 mod words;
 
 pub use codes::{
@@ -26,4 +27,5 @@ pub use plan::Key;
 pub use rest::Rest;
 pub use rule::TableKept;
 pub use view::{LastStep, Owned, Seen, View};
+pub use word_step::{Action, Place, WordStep};
 pub use words::Words;

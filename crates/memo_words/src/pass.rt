@@ -1,22 +1,27 @@
 ghost use Rattle.std.specs.Prelude.{◌≡◌};
 ghost use Rattle.memo_words.specs.Views.{IsSound, hand_after, hand_of_both};
+ghost use Rattle.memo_words.specs.Made.{IsLast};
 
 use crate::view::View;
+use crate::word_step::WordStep;
 use atomic_table::Seat;
 
-/// What one evaluator knows of the words, its right to step on them, and the record that it has in hand. Contracts see
-/// its view (`view_of`) and the number of that record (`hand_of`).
+/// What one evaluator knows of the words, its right to step on them, the record that it has in hand, and its last step.
+/// Contracts see its view (`view_of`), the number of that record (`hand_of`) and the step (`made_of`).
 #[derive(Drop)]
 pub struct Pass {
     pub(crate) seat: Seat<u8, View>,
     pub(crate) hand: Option<u32>,
+    pub(crate) made: Option<WordStep>,
     ghost sound: { IsSound hand seat.me },
+    ghost last: { IsLast made seat.me.0 },
 }
 
 impl Pass {
     ghost use Rattle.std.specs.Prelude.{◌≡◌, ℕ, ◌+◌, ◌<◌, Some, length};
     ghost use Rattle.memo_words.specs.Views.{owns, hands};
-    ghost use Rattle.memo_words.specs.Passes.{view_of, hand_of};
+    ghost use Rattle.memo_words.specs.Made.{IsLast};
+    ghost use Rattle.memo_words.specs.Passes.{view_of, hand_of, made_of};
 
     /// The record in hand, `None` where there is none. The pass owns it, and beside it fewer records than its weight.
     pub fn in_hand(&self) -> Option<u32>
@@ -25,6 +30,15 @@ impl Pass {
         ensures few { length (view_of self.now).owned < (view_of self.now).weight + hands result }
     {
         self.hand
+    }
+
+    /// The last step, `None` where it made none yet: the word that it was on, what it did with it, and the value that
+    /// it found there, or stored in it.
+    pub fn last_step(&self) -> Option<WordStep>
+        ensures made { result ≡ made_of self.now }
+        ensures last { IsLast result (view_of self.now) }
+    {
+        self.made
     }
 }
 

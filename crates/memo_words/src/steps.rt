@@ -7,6 +7,7 @@ use crate::places::{COUNTER, arena_place, key_place, record_place};
 use crate::rule::{
     AddsCounter, ExchangesKey, ExchangesRecord, LoadsArena, LoadsKey, LoadsRecord, StoresArena,
 };
+use crate::word_step::{Action, Place, WordStep};
 use crate::words::Words;
 use adp_model::laws::cells::{places_fill_the_bound, places_tell_cells_apart};
 use adp_model::laws::demand::demanded_cells_are_counted;
@@ -23,7 +24,10 @@ impl Words {
     ghost use Rattle.memo_words.specs.Layout.{slots_of, records_of};
     ghost use Rattle.memo_words.specs.Views.{seen_at, owns, cell_at, key_loaded, key_exchanged, record_loaded, record_exchanged, counter_added, arena_stored, arena_loaded, hand_after};
     ghost use Rattle.memo_words.specs.Steps.{AreKeys, KeysFit, IsNamedAnswer, StaySeen};
-    ghost use Rattle.memo_words.specs.Passes.{view_of, hand_of, plan_of, problem_of, IsPassOf, IsBehindOthers, IsReady};
+    ghost use Rattle.memo_words.specs.declared.word_step.Place.TheVariants as places;
+    ghost use Rattle.memo_words.specs.declared.word_step.Action.TheVariants as actions;
+    ghost use Rattle.memo_words.specs.Made.{step_on};
+    ghost use Rattle.memo_words.specs.Passes.{view_of, hand_of, made_of, plan_of, problem_of, IsPassOf, IsBehindOthers, IsReady};
 
     /// Each demanded cell has a code. Does nothing when it runs.
     fn demanded_cells_have_codes(&self)
@@ -54,14 +58,22 @@ impl Words {
         ensures own { IsPassOf self.now pass.new }
         ensures view { view_of pass.new ≡ key_loaded position result (view_of pass.old) }
         ensures hand { hand_of pass.new ≡ hand_of pass.old }
+        ensures made { made_of pass.new ≡ step_on (places.Key position) actions.Load result }
         ensures keys { AreKeys (plan_of self.now) (view_of pass.new).keys }
         ensures stays { StaySeen (view_of pass.old).keys (view_of pass.new).keys }
         ensures steps { steps_made steps.new ≡ steps_made steps.old + 1 }
     {
         steps.count();
-        self.table
+        let found = self
+            .table
             .shared
-            .load::<LoadsKey>(&mut pass.seat, key_place(position))
+            .load::<LoadsKey>(&mut pass.seat, key_place(position));
+        pass.made = Some(WordStep {
+            place: Place::Key(position),
+            action: Action::Load,
+            value: found,
+        });
+        found
     }
 
     /// Puts the code of a cell in the key word of a position, where that is 0, and answers the word found. The cell is
@@ -80,20 +92,24 @@ impl Words {
         ensures own { IsPassOf self.now pass.new }
         ensures view { view_of pass.new ≡ key_exchanged position (cell_code cell) result (view_of pass.old) }
         ensures hand { hand_of pass.new ≡ hand_of pass.old }
+        ensures made { made_of pass.new ≡ step_on (places.Key position) (actions.Exchange (cell_code cell)) result }
         ensures keys { AreKeys (plan_of self.now) (view_of pass.new).keys }
         ensures stays { StaySeen (view_of pass.old).keys (view_of pass.new).keys }
         ensures steps { steps_made steps.new ≡ steps_made steps.old + 1 }
     {
         self.demanded_cells_have_codes();
         steps.count();
-        self.table
+        let code = cell_code(cell);
+        let found = self
+            .table
             .shared
-            .compare_exchange::<ExchangesKey>(
-                &mut pass.seat,
-                key_place(position),
-                0,
-                cell_code(cell),
-            )
+            .compare_exchange::<ExchangesKey>(&mut pass.seat, key_place(position), 0, code);
+        pass.made = Some(WordStep {
+            place: Place::Key(position),
+            action: Action::Exchange(code),
+            value: found,
+        });
+        found
     }
 
     /// Loads the record word of a position whose key was seen. Where it isn't 0 the cell is known from then on, and
@@ -110,15 +126,23 @@ impl Words {
         ensures own { IsPassOf self.now pass.new }
         ensures view { view_of pass.new ≡ record_loaded (plan_of self.now) position result (view_of pass.old) }
         ensures hand { hand_of pass.new ≡ hand_of pass.old }
+        ensures made { made_of pass.new ≡ step_on (places.RecordWord position) actions.Load result }
         ensures known { Contains (view_of pass.old).known (cell_at (view_of pass.old) position) → 0 < result }
         ensures few { result ≤ records_of (plan_of self.now) }
         ensures stays { StaySeen (view_of pass.old).names (view_of pass.new).names }
         ensures steps { steps_made steps.new ≡ steps_made steps.old + 1 }
     {
         steps.count();
-        self.table
+        let found = self
+            .table
             .shared
-            .load::<LoadsRecord>(&mut pass.seat, record_place(self.slots, position))
+            .load::<LoadsRecord>(&mut pass.seat, record_place(self.slots, position));
+        pass.made = Some(WordStep {
+            place: Place::RecordWord(position),
+            action: Action::Load,
+            value: found,
+        });
+        found
     }
 
     /// Puts the name of a record of one's own in the record word of a position, where that is 0, and answers the word
@@ -137,17 +161,24 @@ impl Words {
         ensures view { view_of pass.new
             ≡ record_exchanged (plan_of self.now) position number result (view_of pass.old) }
         ensures hand { hand_of pass.new ≡ hand_after (hand_of pass.old) number result }
+        ensures made { made_of pass.new ≡ step_on (places.RecordWord position) (actions.Exchange (number + 1)) result }
         ensures given_up { result ≡ 0 → owns number (view_of pass.new).owned ≡ 0 }
         ensures known { Contains (view_of pass.old).known (cell_at (view_of pass.old) position) → 0 < result }
         ensures steps { steps_made steps.new ≡ steps_made steps.old + 1 }
     {
         steps.count();
+        let name = number as u64 + 1;
         let found = self.table.shared.compare_exchange::<ExchangesRecord>(
             &mut pass.seat,
             record_place(self.slots, position),
             0,
-            number as u64 + 1,
+            name,
         );
+        pass.made = Some(WordStep {
+            place: Place::RecordWord(position),
+            action: Action::Exchange(name),
+            value: found,
+        });
         pass.hand = hand_after(pass.hand, number, found);
         found
     }
@@ -160,6 +191,7 @@ impl Words {
         ensures own { IsPassOf self.now pass.new }
         ensures view { view_of pass.new ≡ counter_added result (view_of pass.old) }
         ensures hand { hand_of pass.new ≡ Some result }
+        ensures made { made_of pass.new ≡ step_on places.Counter actions.Add result }
         ensures few { result < records_of (plan_of self.now) }
         ensures steps { steps_made steps.new ≡ steps_made steps.old + 1 }
     {
@@ -169,6 +201,11 @@ impl Words {
             .table
             .shared
             .fetch_add::<AddsCounter>(&mut pass.seat, COUNTER, 1);
+        pass.made = Some(WordStep {
+            place: Place::Counter,
+            action: Action::Add,
+            value: found,
+        });
         pass.hand = Some(found as u32);
         found
     }
@@ -187,6 +224,7 @@ impl Words {
         ensures own { IsPassOf self.now pass.new }
         ensures view { view_of pass.new ≡ arena_stored (plan_of self.now) part number code (view_of pass.old) }
         ensures hand { hand_of pass.new ≡ hand_of pass.old }
+        ensures made { made_of pass.new ≡ step_on (places.Record part number) actions.Store code }
         ensures steps { steps_made steps.new ≡ steps_made steps.old + 1 }
     {
         steps.count();
@@ -195,6 +233,11 @@ impl Words {
             arena_place(self.slots, self.records, part, number),
             code,
         );
+        pass.made = Some(WordStep {
+            place: Place::Record(part, number),
+            action: Action::Store,
+            value: code,
+        });
     }
 
     /// Loads a word of a record whose name was seen in a record word: the word of the answer of that position's cell.
@@ -210,13 +253,20 @@ impl Words {
         ensures own { IsPassOf self.now pass.new }
         ensures view { view_of pass.new ≡ arena_loaded (plan_of self.now) part number result (view_of pass.old) }
         ensures hand { hand_of pass.new ≡ hand_of pass.old }
+        ensures made { made_of pass.new ≡ step_on (places.Record part number) actions.Load result }
         ensures answer { IsNamedAnswer (plan_of self.now) (view_of pass.old) part number result }
         ensures steps { steps_made steps.new ≡ steps_made steps.old + 1 }
     {
         steps.count();
-        self.table.shared.load::<LoadsArena>(
+        let found = self.table.shared.load::<LoadsArena>(
             &mut pass.seat,
             arena_place(self.slots, self.records, part, number),
-        )
+        );
+        pass.made = Some(WordStep {
+            place: Place::Record(part, number),
+            action: Action::Load,
+            value: found,
+        });
+        found
     }
 }

@@ -72,7 +72,12 @@ impl Words {
             slots,
             records,
         };
-        Ok((words, Pass { seat, hand: None }))
+        let pass = Pass {
+            seat,
+            hand: None,
+            made: None,
+        };
+        Ok((words, pass))
     }
 
     /// The number of bits of a position.
@@ -94,7 +99,11 @@ impl Words {
         ensures new_hand { hand_of result ≡ None }
     {
         let seat = self.table.shared.split_seat::<Splits>(&mut pass.seat);
-        Pass { seat, hand: None }
+        Pass {
+            seat,
+            hand: None,
+            made: None,
+        }
     }
 
     /// Two passes become one, which knows what each of them knew.
@@ -105,7 +114,7 @@ impl Words {
         ensures view { view_of into.new ≡ joined (view_of into.old) (view_of other) }
         ensures hand { hand_of into.new ≡ hand_of_both (hand_of into.old) (hand_of other) }
     {
-        let Pass { seat, hand } = other;
+        let Pass { seat, hand, .. } = other;
         self.table.shared.join_seat::<Joins>(&mut into.seat, seat);
         into.hand = hand_of_both(into.hand, hand);
     }

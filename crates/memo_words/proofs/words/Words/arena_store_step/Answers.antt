@@ -1,4 +1,4 @@
-use Rattle.std.proofs.Common.{rules, ℕ, ap, ◌∙◌, sym, subst, arith}
+use Rattle.std.proofs.Common.{rules, refl, ℕ, ap, ◌∙◌, sym, subst, arith}
 use Rattle.atomic_table.specs.Table.{Me}
 use Rattle.memo_words.specs.declared.view.View.{View}
 use Rattle.memo_words.specs.Layout.{arena_place}
@@ -7,6 +7,10 @@ use Rattle.memo_words.specs.Views.{IsSound}
 use Rattle.memo_words.proofs.Frame.{arena_ahead}
 use Rattle.memo_words.proofs.Plays.{stores_arena_at}
 use Rattle.memo_words.proofs.Soundness.{sound_stored}
+use Rattle.memo_words.specs.declared.word_step.Place.TheVariants as places
+use Rattle.memo_words.specs.declared.word_step.Action.TheVariants as actions
+use Rattle.memo_words.specs.Made.{step_on}
+use Rattle.memo_words.proofs.Made.{is_last}
 use Rattle.memo_words.proofs.words.Words.arena_store_step.Goals as goal
 
 pub store-requires : goal.store-requires
@@ -29,6 +33,7 @@ invariant_of-pass g c = let low = c.args.pass.now.sound.4 _ c.args.number c.requ
       sound = subst (IsSound c.args.pass.now.hand) (sym told) (sound_stored
           (plan_of c.args.self.now) c.args.pass.now.hand c.args.pass.now.seat.me c.args.part c.args.number c.args.code
           c.args.pass.now.sound);
+      last = is_last (plan_of c.args.self.now) (step_on (places.Record c.args.part c.args.number) actions.Store c.args.code) _ _ told c.requires.own.plan refl;
     }
 
 pub returns-clause-own : goal.returns-clause-own

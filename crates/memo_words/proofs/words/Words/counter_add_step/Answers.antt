@@ -1,7 +1,12 @@
-use Rattle.std.proofs.Common.{rules, ℕ, Option, Some, ap, sym, subst, arith}
+use Rattle.std.proofs.Common.{rules, refl, ℕ, Option, Some, ap, sym, subst, arith}
 use Rattle.memo_words.specs.Views.{IsSound, hands}
 use Rattle.memo_words.proofs.Plays.{adds_counter}
 use Rattle.memo_words.proofs.Soundness.{sound_added}
+use Rattle.memo_words.specs.Passes.{plan_of}
+use Rattle.memo_words.specs.declared.word_step.Place.TheVariants as places
+use Rattle.memo_words.specs.declared.word_step.Action.TheVariants as actions
+use Rattle.memo_words.specs.Made.{step_on}
+use Rattle.memo_words.proofs.Made.{is_last}
 use Rattle.memo_words.proofs.words.Words.counter_add_step.Goals as goal
 
 pub fetch_add-found-requires : goal.fetch_add-found-requires
@@ -19,4 +24,5 @@ invariant_of-pass g c = let told = c.fetch_add-found.ensures.2 _ c.requires.own.
       sound = subst (IsSound (Some c.fetch_add-found.result)) (sym told.0)
           (sound_added _ c.args.pass.now.seat.me c.fetch_add-found.result c.requires.own.plan told.1
           (subst (λ (h : Option ℕ). IsSound h c.args.pass.now.seat.me) c.requires.empty_handed c.args.pass.now.sound));
+      last = is_last (plan_of c.args.self.now) (step_on places.Counter actions.Add c.fetch_add-found.result) _ _ told.0 c.requires.own.plan refl;
     }

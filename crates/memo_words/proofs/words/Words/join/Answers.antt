@@ -1,5 +1,7 @@
 use Rattle.std.proofs.Common.{rules, ℕ, Option, sym, subst, ◌∙◌}
 use Rattle.memo_words.specs.Views.{IsSound}
+use Rattle.memo_words.specs.Passes.{plan_of}
+use Rattle.memo_words.proofs.Made.{is_last}
 use Rattle.memo_words.proofs.Moves.{joins}
 use Rattle.memo_words.proofs.Soundness.{sound_joined}
 use Rattle.memo_words.proofs.words.Words.join.Goals as goal
@@ -15,4 +17,6 @@ invariant_of-into c =
     record {
       sound = subst (λ (h : Option ℕ). IsSound h c.join_seat.new.seat.me) (sym c.hand_of_both-into.ensures)
           (subst (IsSound _) (sym c.join_seat.ensures.2) sound);
+      last = is_last (plan_of c.args.self.now) into.made _ _ c.join_seat.ensures.2 c.requires.into.plan
+          (into.last _ c.requires.into.plan);
     }

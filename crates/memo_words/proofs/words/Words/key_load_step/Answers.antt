@@ -1,34 +1,42 @@
-use Rattle.std.proofs.Common.{rules, ℕ, ap, ◌∙◌, sym, subst}
+use Rattle.std.proofs.Common.{rules, refl, ℕ, ap, ◌∙◌, sym, subst}
 use Rattle.atomic_table.specs.Table.{Me}
 use Rattle.memo_words.specs.declared.view.View.{View}
 use Rattle.memo_words.specs.Views.{IsSound}
 use Rattle.memo_words.proofs.Plays.{loads_key_at}
+use Rattle.memo_words.specs.Passes.{plan_of}
+use Rattle.memo_words.specs.declared.word_step.Place.TheVariants as places
+use Rattle.memo_words.specs.declared.word_step.Action.TheVariants as actions
+use Rattle.memo_words.specs.Made.{step_on}
+use Rattle.memo_words.proofs.Made.{is_last}
 use Rattle.memo_words.proofs.words.Words.key_load_step.Goals as goal
 
-pub load-requires : goal.load-requires
-load-requires g c = (
+pub load-found-requires : goal.load-found-requires
+load-found-requires g c = (
   search rules,
   search rules,
   loads_key_at _ _ _ c.args.position _ _ c.key_place.ensures c.requires.inside c.args.pass.now.sound.1,
 )
 
 pub invariant_of-pass : goal.invariant_of-pass
-invariant_of-pass g c = let told = c.load.ensures.2 _ _ c.requires.own.plan c.key_place.ensures in
-    record { sound = subst (IsSound c.args.pass.now.hand) (sym told.0) c.args.pass.now.sound }
+invariant_of-pass g c = let told = c.load-found.ensures.2 _ _ c.requires.own.plan c.key_place.ensures in
+    record {
+      sound = subst (IsSound c.args.pass.now.hand) (sym told.0) c.args.pass.now.sound;
+      last = is_last (plan_of c.args.self.now) (step_on (places.Key c.args.position) actions.Load c.load-found.result) _ _ told.0 c.requires.own.plan refl;
+    }
 
 pub returns-clause-own : goal.returns-clause-own
-returns-clause-own g c = let told = c.load.ensures.2 _ _ c.requires.own.plan c.key_place.ensures in
+returns-clause-own g c = let told = c.load-found.ensures.2 _ _ c.requires.own.plan c.key_place.ensures in
     record {
-      same = c.load.ensures.0 ∙ c.requires.own.same;
+      same = c.load-found.ensures.0 ∙ c.requires.own.same;
       plan = ap (λ (m : Me ℕ View). m.0.plan) told.0
           ∙ c.requires.own.plan;
     }
 
 pub returns-clause-view : goal.returns-clause-view
-returns-clause-view g c = ap (λ (m : Me ℕ View). m.0) (c.load.ensures.2 _ _ c.requires.own.plan c.key_place.ensures).0
+returns-clause-view g c = ap (λ (m : Me ℕ View). m.0) (c.load-found.ensures.2 _ _ c.requires.own.plan c.key_place.ensures).0
 
 pub returns-clause-keys : goal.returns-clause-keys
-returns-clause-keys g c = (c.load.ensures.2 _ _ c.requires.own.plan c.key_place.ensures).1
+returns-clause-keys g c = (c.load-found.ensures.2 _ _ c.requires.own.plan c.key_place.ensures).1
 
 pub returns-clause-stays : goal.returns-clause-stays
-returns-clause-stays g c = (c.load.ensures.2 _ _ c.requires.own.plan c.key_place.ensures).2
+returns-clause-stays g c = (c.load-found.ensures.2 _ _ c.requires.own.plan c.key_place.ensures).2

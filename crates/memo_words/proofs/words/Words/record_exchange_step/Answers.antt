@@ -1,4 +1,4 @@
-use Rattle.std.proofs.Common.{rules, ℕ, ◌<◌, Option, refl, ap, ◌∙◌, sym, subst}
+use Rattle.std.proofs.Common.{rules, ℕ, ◌+◌, ◌<◌, Option, refl, ap, ◌∙◌, sym, subst}
 use Rattle.atomic_table.specs.Table.{Me}
 use Rattle.memo_words.specs.declared.view.View.{View}
 use Rattle.memo_words.specs.Layout.{record_place}
@@ -7,6 +7,10 @@ use Rattle.memo_words.specs.Passes.{plan_of}
 use Rattle.memo_words.proofs.Records.{owns_some}
 use Rattle.memo_words.proofs.Plays.{puts_record_at}
 use Rattle.memo_words.proofs.Soundness.{sound_named}
+use Rattle.memo_words.specs.declared.word_step.Place.TheVariants as places
+use Rattle.memo_words.specs.declared.word_step.Action.TheVariants as actions
+use Rattle.memo_words.specs.Made.{step_on}
+use Rattle.memo_words.proofs.Made.{is_last}
 use Rattle.memo_words.proofs.words.Words.record_exchange_step.Goals as goal
 
 pub compare_exchange-found-requires : goal.compare_exchange-found-requires
@@ -30,6 +34,7 @@ invariant_of-pass g c = let told = c.compare_exchange-found.ensures.2 _ c.args.p
     record {
       sound = subst (λ (h : Option ℕ). IsSound h c.compare_exchange-found.new.seat.me)
           (sym c.hand_after-pass.ensures) (subst (IsSound _) (sym told.0) sound);
+      last = is_last (plan_of c.args.self.now) (step_on (places.RecordWord c.args.position) (actions.Exchange (c.args.number + 1)) c.compare_exchange-found.result) _ _ told.0 c.requires.own.plan refl;
     }
 
 pub returns-clause-own : goal.returns-clause-own
