@@ -9,7 +9,7 @@ use Rattle.grammar_check.specs.declared.part.Worth.TheVariants.{OfRule, OfLetter
 use Rattle.grammar_check.specs.declared.table.Table.{Table}
 use Rattle.grammar_check.specs.Tables.{entry}
 use Rattle.grammar_check.specs.Plans.{ReadsRight, worth_of, greatest_from, rooms, spread, part_at}
-use Rattle.grammar_check.proofs.CutNumbers.{told-sum, told-max}
+use Rattle.grammar_check.proofs.CutNumbers.{told-product, told-sum, told-max}
 
 pub ord_max-numbers : (a b : ℕ) → ord_max nat_cmp a b ≡ max a b
 ord_max-numbers a b = grind arith
@@ -20,6 +20,13 @@ once_read bound table worth rule factor len number is once reads number_is =
     let right : entry table rule len ≡ told (bound rule len) = subst (λ w. ReadsRight bound table w len) is reads in
     let same : bound rule len ≡ factor * bound rule len = subst (λ f. bound rule len ≡ f * bound rule len) (sym once) (omega arith) in
     subst (λ w. number ≡ told (worth_of bound w len)) (sym is) (number_is ∙ right ∙ ap told same)
+
+-- letters add their number times what one of them adds
+pub letters_add : (bound : ℕ → ℕ → ℕ) (worth : Worth) (weight factor each len : ℕ) → worth ≡ OfLetters weight factor → each ≡ told (factor * weight) → told (len * each) ≡ told (worth_of bound worth len)
+letters_add bound worth weight factor each len is each_is =
+    let product : len * (factor * weight) ≡ factor * (weight * len) = grind arith in
+    let all : told (len * each) ≡ told (factor * (weight * len)) = ap (λ e. told (len * e)) each_is ∙ told-product len (factor * weight) ∙ ap told product in
+    subst (λ w. told (len * each) ≡ told (worth_of bound w len)) (sym is) all
 
 -- what a part adds with so many letters more than its least length, and the parts behind it with the others
 abbrev pub added_by : (ℕ → ℕ → ℕ) → Part → List Part → ℕ → ℕ → ℕ

@@ -1,10 +1,10 @@
-ghost use Rattle.std.specs.Prelude.{◌≡◌, ◌≢◌, ℕ, ◌+◌, ◌-◌, ◌^◌, ◌<◌, ◌≤◌, [], ◌∷◌, min, length, drop, slice_index, vec_len, IfOk};
+ghost use Rattle.std.specs.Prelude.{◌≡◌, ◌≢◌, ℕ, ◌+◌, ◌-◌, ◌*◌, ◌^◌, ◌<◌, ◌≤◌, [], ◌∷◌, min, length, drop, slice_index, vec_len, IfOk};
 ghost use Rattle.std.specs.List.{All};
 ghost use Rattle.adp_model.specs.LimitFaults.{told};
 ghost use Rattle.grammar_check.specs.Plans.{IsReadable, ReadsRight, lows, rooms, spread, part_at, worth_of};
 ghost use Rattle.grammar_check.specs.Tables.{entry};
 
-use crate::cut::cut_sum;
+use crate::cut::{cut_product, cut_sum};
 use crate::part::{Part, Worth};
 use crate::table::Table;
 use std::alloc::{AllocError, Global};
@@ -88,6 +88,10 @@ impl Alternative {
         if let Worth::OfRule { rule, factor: 1 } = part.worth {
             return self.best_of_rule(place, spare, rest_room, bounds.row(rule as usize));
         }
+        if let Worth::OfLetters { weight, factor } = part.worth {
+            let worth = cut_product(factor, weight);
+            return self.best_of_letters(place, spare, rest_room, worth);
+        }
         let first = spare.saturating_sub(rest_room);
         let last = spare.min(part.room);
         let mut best = 0;
@@ -95,6 +99,30 @@ impl Alternative {
             let here = part.worth.at(bounds, part.low + more);
             let rest = self.spreads.get(place, spare - more);
             best = best.max(cut_sum(here, rest));
+        }
+        best
+    }
+
+    /// The same, where each letter of the first of these parts adds so much.
+    fn best_of_letters(&self, place: usize, spare: usize, rest_room: usize, worth: u64) -> u64
+        requires place { place + 1 < vec_len self.now.parts }
+        requires column { spare < self.now.spreads.width }
+        requires within { (part_at self.now.parts.items place).low + spare < 2 ^ 64 }
+        requires rest_room { rest_room ≡ min (rooms (drop (place + 1) self.now.parts.items)) (2 ^ 64 - 1) }
+        ensures { (bound : ℕ → ℕ → ℕ)
+            → ((len : ℕ) → told (len * worth) ≡ told (worth_of bound (part_at self.now.parts.items place).worth len))
+            → ((column : ℕ) → column ≤ spare → entry self.now.spreads place column
+            ≡ told (spread bound (drop (place + 1) self.now.parts.items) column))
+            → result ≡ told (spread bound (drop place self.now.parts.items) spare) }
+    {
+        let part = self.parts[place];
+        let first = spare.saturating_sub(rest_room);
+        let last = spare.min(part.room);
+        let others = self.spreads.row(place);
+        let mut best = 0;
+        for more in first..last + 1 {
+            let here = cut_product((part.low + more) as u64, worth);
+            best = best.max(cut_sum(here, others[spare - more]));
         }
         best
     }

@@ -3,7 +3,7 @@ use Rattle.std.proofs.lemmas.List.{get_or_read}
 use Rattle.adp_model.specs.LimitFaults.{told}
 use Rattle.grammar_check.specs.declared.part.Worth.TheVariants.{OfRule, OfLetters}
 use Rattle.grammar_check.specs.Plans.{ReadsRight, worth_of, spread, part_at}
-use Rattle.grammar_check.proofs.Spreads.{added_by, best_step, best_done, once_read, last_alone}
+use Rattle.grammar_check.proofs.Spreads.{added_by, best_step, best_done, letters_add, once_read, last_alone}
 use Rattle.grammar_check.proofs.alternative.Alternative.best_spread.Goals as goal
 
 pub loop-more-preserved : goal.loop-more-preserved
@@ -54,4 +54,17 @@ returns-in-OfRule-default-eq1 c = λ bound reads rest_right.
     (λ more within. once_read bound c.args.bounds.now (part_at parts place).worth c.in-OfRule-default-eq1.rule c.in-OfRule-default-eq1.factor ((part_at parts place).low + more) _
     (subst (λ p. p.worth ≡ OfRule c.in-OfRule-default-eq1.rule c.in-OfRule-default-eq1.factor) part_is c.in-OfRule-default-eq1.is) (omega (arith, c.in-OfRule-default-eq1.factor-test)) (reads more within)
     (c.row.ensures.entries _ (omega (arith, c.requires.within))))
+    (rest_right behind)
+
+pub returns-in-OfLetters : goal.returns-in-OfLetters
+returns-in-OfLetters c = λ bound reads rest_right.
+    let parts = c.args.self.now.parts.items in
+    let place = c.args.place in
+    let inside : place < length parts = omega (arith, c.args.self.now.parts.ok.0, c.requires.place) in
+    let behind : place + 1 < length parts = omega (arith, c.args.self.now.parts.ok.0, c.requires.place, c.if-place-len.false, c.len.ensures) in
+    let part = c.index-part.result.now in
+    let part_is : part ≡ part_at parts place = get_or_read parts place part inside c.index-part.ensures (record { worth = OfLetters 0 0; low = 0; room = 0 }) in
+    c.best_of_letters.ensures bound
+    (λ len. letters_add bound (part_at parts place).worth c.in-OfLetters.weight c.in-OfLetters.factor c.cut_product-worth.result len
+    (subst (λ p. p.worth ≡ OfLetters c.in-OfLetters.weight c.in-OfLetters.factor) part_is c.in-OfLetters.is) c.cut_product-worth.ensures)
     (rest_right behind)
