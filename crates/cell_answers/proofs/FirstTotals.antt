@@ -12,7 +12,8 @@ use Rattle.yield_sizes.specs.Placing.{on_span, Cover}
 use Rattle.cell_tables.specs.Tables.{Table}
 use Rattle.split_lines.specs.declared.lines.Boundary.{Boundary}
 use Rattle.cell_answers.specs.declared.opened.LineArguments.{LineArguments}
-use Rattle.cell_answers.specs.FirstPlaces.{IsFirstAmong, IsFirstGreatest}
+use Rattle.score_numbers.specs.FirstPlaces.{IsFirstAmong}
+use Rattle.cell_answers.specs.FirstPlaces.{IsFirstGreatest}
 use Rattle.cell_answers.specs.Through.{HasTotalAt, HasTotalThrough}
 use Rattle.cell_answers.specs.Totals.{HaveValues, HasTotal}
 use Rattle.score_numbers.specs.Greatest.{IsGreatestOf}

@@ -2,7 +2,6 @@ pub mod Alternatives
 pub mod Bounding
 pub mod Dividing
 pub mod FirstEnds
-pub mod FirstFound
 pub mod FirstGiving
 pub mod FirstTotals
 pub mod FixedTotals

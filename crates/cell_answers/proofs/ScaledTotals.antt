@@ -1,6 +1,6 @@
 -- Totals of a line whose two open arguments are rules and whose tokens between them add nothing: they are the sums of the
 -- numbers that stand for the scores, each times its factor.
-use Rattle.std.proofs.Common.{◌≡◌, ℕ, ◌+◌, ◌-◌, ◌<◌, ◌≤◌, ◌^◌, ℤ, pos, ◌*ℤ◌, nat_abs, Option, Some, List, [], ◌∷◌, ◌++◌, slice_get, refl, sym, ap, subst, inl, inr, ◌∙◌, arith}
+use Rattle.std.proofs.Common.{◌≡◌, ℕ, ◌+◌, ◌-◌, ◌<◌, ◌≤◌, ◌^◌, ℤ, pos, ◌*ℤ◌, nat_abs, Option, Some, None, Bor, List, [], ◌∷◌, ◌++◌, slice_get, refl, sym, ap, subst, inl, inr, ◌∙◌, arith}
 use Rattle.std.specs.List.{AllByRecursion, Contains}
 use Rattle.std.proofs.Math.IntN.{*ℤ-zero, zero-*ℤ, *ℤ_comm}
 use Rattle.std.proofs.lemmas.Int.{ints}
@@ -27,10 +27,13 @@ use Rattle.cell_answers.specs.Through.{HasTotalThrough}
 use Rattle.cell_answers.specs.Totals.{HaveValues, HasTotal}
 use Rattle.score_numbers.specs.Greatest.{IsGreatestOf}
 use Rattle.score_numbers.specs.Turned.{turned}
-use Rattle.score_numbers.specs.Packing.{Width, IsProper, AreProper, told, told_list}
+use Rattle.score_numbers.specs.Packing.{Width, IsProper, AreProper, short, medium, long, told, told_list}
 use Rattle.score_numbers.specs.Sums.{AreLowSums, HasScaledSum, HasScaledSumAt, HaveNumbers, number_at}
 use Rattle.score_numbers.specs.Worthless.{AreWorthless}
-use Rattle.cell_answers.specs.ArgumentEntries.{IsScaled, entries_of}
+use Rattle.cell_answers.specs.declared.argument_values.Numbers.TheVariants.{Short, Medium, Long}
+use Rattle.cell_answers.specs.ArgumentEntries.{AreProperNumbers, IsScaled, entries_of, told_numbers}
+use Rattle.cell_answers.specs.ScaledLines.{IsScaledLine}
+use Rattle.score_numbers.specs.FirstPlaces.{IsFirstOf}
 use Rattle.cell_answers.specs.Opened.{IsOpened}
 use Rattle.cell_answers.proofs.Greatest.{greatest_same}
 use Rattle.cell_answers.proofs.FirstEnds.{AreSound}
@@ -144,15 +147,35 @@ module _ (p : PosedProblem) (one : OneScore (HasBestScore p)) (width : Width) (s
 
 -- ---- both
 
--- the numbers stand for the scores of the two arguments, and the tokens between these add nothing
+-- the numbers stand for the scores of the two arguments
 pub record AreNumbersOf (width : Width) (line : OpenedLine) (scales : Scales) (firsts seconds : List ℤ) : Type 0 where
-  pub worthless : AreWorthless line.arguments.middle.now line.arguments.middle_factors.now
-  pub before : IsScaled line.arguments.first.now line.arguments.first_factor line.row.goal scales.before
-  pub behind : IsScaled line.arguments.second.now line.arguments.second_factor line.column.goal scales.behind
+  pub scaled : IsScaledLine line scales
   pub firsts_proper : AreProper width firsts
   pub seconds_proper : AreProper width seconds
   pub firsts_told : entries_of line.row ≡ told_list width line.row.goal firsts
   pub seconds_told : entries_of line.column ≡ told_list width line.column.goal seconds
+
+-- numbers of the same width on both sides
+module _ (p : PosedProblem) (line : OpenedLine) (opened : IsOpened p line) (scales : Scales) (scaled : IsScaledLine line scales) (firsts seconds : Bor (List ℤ)) where
+  numbers_of : (width : Width) → AreProper width firsts.now → AreProper width seconds.now → entries_of line.row ≡ told_list width line.row.goal firsts.now → entries_of line.column ≡ told_list width line.column.goal seconds.now
+      → AreNumbersOf width line scales firsts.now seconds.now
+  numbers_of width proper proper_behind told told_behind =
+      record { scaled = scaled; firsts_proper = proper; seconds_proper = proper_behind; firsts_told = told; seconds_told = told_behind }
+
+  pub short_numbers : line.row.numbers ≡ Short firsts → line.column.numbers ≡ Short seconds → AreNumbersOf short line scales firsts.now seconds.now
+  short_numbers is is_behind =
+      numbers_of short (subst AreProperNumbers is opened.row_proper) (subst AreProperNumbers is_behind opened.column_proper)
+      (ap (told_numbers line.row.goal) is) (ap (told_numbers line.column.goal) is_behind)
+
+  pub medium_numbers : line.row.numbers ≡ Medium firsts → line.column.numbers ≡ Medium seconds → AreNumbersOf medium line scales firsts.now seconds.now
+  medium_numbers is is_behind =
+      numbers_of medium (subst AreProperNumbers is opened.row_proper) (subst AreProperNumbers is_behind opened.column_proper)
+      (ap (told_numbers line.row.goal) is) (ap (told_numbers line.column.goal) is_behind)
+
+  pub long_numbers : line.row.numbers ≡ Long firsts → line.column.numbers ≡ Long seconds → AreNumbersOf long line scales firsts.now seconds.now
+  long_numbers is is_behind =
+      numbers_of long (subst AreProperNumbers is opened.row_proper) (subst AreProperNumbers is_behind opened.column_proper)
+      (ap (told_numbers line.row.goal) is) (ap (told_numbers line.column.goal) is_behind)
 
 module _ (p : PosedProblem) (one : OneScore (HasBestScore p)) (width : Width) (spaced : IsSpaced width) (small : width.limit < 2 ^ 63) (line : OpenedLine) (opened : IsOpened p line) (scales : Scales) (firsts seconds : List ℤ) (are : AreNumbersOf width line scales firsts seconds) where
   open line use {arguments.{first.{now as first}, first_factor, middle.{now as middle}, middle_factors.{now as middle_factors}, second.{now as second}, second_factor}, boundary.{letters, last}, from, column.{first as begin}}
@@ -171,28 +194,28 @@ module _ (p : PosedProblem) (one : OneScore (HasBestScore p)) (width : Width) (s
 
   pub have_numbers : HaveNumbers at firsts seconds
   have_numbers = record {
-    from_first = λ place stands. (entry_at p one width spaced small first first_factor line.row.goal scales.before are.before firsts are.firsts_proper at.first place from place (row place stands)).from_first;
+    from_first = λ place stands. (entry_at p one width spaced small first first_factor line.row.goal scales.before are.scaled.before firsts are.firsts_proper at.first place from place (row place stands)).from_first;
     before = λ place stands.
-        let there = number_there p one width spaced small first first_factor line.row.goal scales.before are.before firsts are.firsts_proper at.first place from place (row place stands) in
+        let there = number_there p one width spaced small first first_factor line.row.goal scales.before are.scaled.before firsts are.firsts_proper at.first place from place (row place stands) in
         some_place firsts (place - at.first) there.0 there.1;
     behind = λ place stands.
-        let there = number_there p one width spaced small second second_factor line.column.goal scales.behind are.behind seconds are.seconds_proper begin (place + letters) (place + letters) last (column place stands) in
+        let there = number_there p one width spaced small second second_factor line.column.goal scales.behind are.scaled.behind seconds are.seconds_proper begin (place + letters) (place + letters) last (column place stands) in
         omega (arith, same_place place, some_place seconds (place + letters - begin) there.0 there.1);
   }
 
   module _ (place : ℕ) (stands : Contains at.at.now place) (number : ℤ) where
     module _ (sum : HasScaledSum width.mark scales firsts seconds (number_at at place) number) where
       before_value : (value : ℤ) × IsValue p (HasBestScore p) (on_span first from place) value × ((first_factor *ℤ value) ≡ (scales.before *ℤ sum.first))
-      before_value = value_of p one width spaced small first first_factor line.row.goal scales.before are.before firsts are.firsts_proper at.first place from place (row place stands) sum.first sum.first_there sum.first_scores
+      before_value = value_of p one width spaced small first first_factor line.row.goal scales.before are.scaled.before firsts are.firsts_proper at.first place from place (row place stands) sum.first sum.first_there sum.first_scores
 
       behind_value : (value : ℤ) × IsValue p (HasBestScore p) (on_span second (place + letters) last) value × ((second_factor *ℤ value) ≡ (scales.behind *ℤ sum.second))
       behind_value =
-          value_of p one width spaced small second second_factor line.column.goal scales.behind are.behind seconds are.seconds_proper begin (place + letters) (place + letters) last (column place stands) sum.second
+          value_of p one width spaced small second second_factor line.column.goal scales.behind are.scaled.behind seconds are.seconds_proper begin (place + letters) (place + letters) last (column place stands) sum.second
           (ap (slice_get seconds) (same_place place) ∙ sum.second_there) sum.second_scores
 
       nothing_between : HasTotal p (HasBestScore p) middle middle_factors place (place + letters) (pos 0)
       nothing_between =
-          worthless_total p (HasBestScore p) middle middle_factors place (place + letters) are.worthless opened.middle_fixed
+          worthless_total p (HasBestScore p) middle middle_factors place (place + letters) are.scaled.worthless opened.middle_fixed
           (middle_covers p line opened place stands)
 
       through : HasTotalThrough p (HasBestScore p) first middle second first_factor middle_factors second_factor from letters last place number
@@ -220,9 +243,9 @@ module _ (p : PosedProblem) (one : OneScore (HasBestScore p)) (width : Width) (s
 
     back : HasTotalThrough p (HasBestScore p) first middle second first_factor middle_factors second_factor from letters last place number → HasScaledSum width.mark scales firsts seconds (number_at at place) number
     back it =
-        let a = number_of p one width spaced small first first_factor line.row.goal scales.before are.before firsts are.firsts_proper at.first place from place (row place stands) it.value it.is_value in
-        let b = number_of p one width spaced small second second_factor line.column.goal scales.behind are.behind seconds are.seconds_proper begin (place + letters) (place + letters) last (column place stands) it.other it.is_other in
-        let none : it.between ≡ pos 0 = it.has_between.2 ∙ worthless_sum p (HasBestScore p) middle middle_factors place (place + letters) it.has_between.0 are.worthless it.has_between.1 in
+        let a = number_of p one width spaced small first first_factor line.row.goal scales.before are.scaled.before firsts are.firsts_proper at.first place from place (row place stands) it.value it.is_value in
+        let b = number_of p one width spaced small second second_factor line.column.goal scales.behind are.scaled.behind seconds are.seconds_proper begin (place + letters) (place + letters) last (column place stands) it.other it.is_other in
+        let none : it.between ≡ pos 0 = it.has_between.2 ∙ worthless_sum p (HasBestScore p) middle middle_factors place (place + letters) it.has_between.0 are.scaled.worthless it.has_between.1 in
         let e = it.is in
         let e' = a.3 in
         let e'' = b.3 in
@@ -247,3 +270,13 @@ module _ (p : PosedProblem) (one : OneScore (HasBestScore p)) (width : Width) (s
       (λ number has.
       let it = total_through p (HasBestScore p) first middle second first_factor middle_factors second_factor from letters last at.at.now opened.boundary opened.middle_each number has in
       (it.0, it.1, back it.0 it.1 number it.2))
+
+  -- the first place with a sum is the first one with the total
+  pub scaled_first : (total : ℤ) (found : Option ℕ) → IsFirstOf at.at.now (λ place. HasScaledSum width.mark scales firsts seconds (number_at at place) total) found
+      → IsFirstOf at.at.now (λ place. HasTotalThrough p (HasBestScore p) first middle second first_factor middle_factors second_factor from letters last place total) found
+  scaled_first total None none = λ place stands it. none place stands (back place stands total it)
+  scaled_first total (Some place) it = record {
+    stands = it.stands;
+    holds = through place it.stands total it.holds;
+    first = λ other stands holds. it.first other stands (back other stands total holds);
+  }

@@ -1,18 +1,11 @@
 -- The first place of a boundary at which something is the best.
 use Rattle.std.specs.Prelude.{◌≡◌, ℕ, ◌≤◌, ℤ, Some, List, ◌∷◌}
-use Rattle.std.specs.List.{Contains}
 use Rattle.adp_model.specs.declared.grammar.Arg.{Arg}
 use Rattle.adp_model.specs.PosedProblem.{PosedProblem}
 use Rattle.adp_model.specs.Bellman.{HasBestScore}
 use Rattle.cell_answers.specs.Totals.{HasTotal}
 use Rattle.score_numbers.specs.Greatest.{IsGreatestOf}
 use Rattle.cell_answers.specs.Through.{HasTotalAt}
-
--- the first of the places of which it holds
-pub record IsFirstAmong (places : List ℕ) (Holds : ℕ → Type 0) (place : ℕ) : Type 0 where
-  pub stands : Contains places place
-  pub holds : Holds place
-  pub first : (other : ℕ) → Contains places other → Holds other → place ≤ other
 
 -- the first place at which the first of the arguments can end so that their total is the greatest
 pub record IsFirstGreatest (p : PosedProblem) (arguments : List Arg) (factors : List ℤ) (from to place : ℕ)

@@ -6,6 +6,7 @@ pub mod LaidBy
 pub mod Opened
 pub mod PackedTables
 pub mod Rows
+pub mod ScaledLines
 pub mod ScoresFields
 pub mod Through
 pub mod Totals

@@ -13,6 +13,7 @@ ghost use Rattle.cell_answers.specs.ArgumentEntries.{IsScaled};
 ghost use Rattle.cell_answers.specs.Through.{HasTotalThrough};
 ghost use Rattle.cell_answers.specs.Entries.{HasEntry};
 ghost use Rattle.cell_answers.specs.Opened.{IsOpened};
+ghost use Rattle.cell_answers.specs.ScaledLines.{IsScaledLine};
 ghost use Rattle.cell_answers.specs.Totals.{AreLow, AreWeighted, HasTotal};
 ghost use Rattle.score_numbers.specs.Greatest.{IsGreatestOf};
 
@@ -54,6 +55,26 @@ fn scale_of(argument: &Arg, factor: i64, goal: Goal) -> Option<i64>
         (Arg::Rule(_), Goal::Least) => factor.checked_neg(),
         (Arg::Rule(_), Goal::Greatest) => Some(factor),
         _ => None,
+    }
+}
+
+/// The factors of numbers of which the totals of a line are sums; `None` where its two arguments of open length are not
+/// both rules, a factor does not fit, or the tokens between the two may add something.
+#[inline(always)]
+pub fn scales_of(line: &OpenedLine<'_>) -> Option<Scales>
+    ensures { IfSome result (IsScaledLine line.now) }
+{
+    let arguments = line.arguments;
+    let (Some(before), Some(behind)) = (
+        scale_of(arguments.first, arguments.first_factor, line.row.goal),
+        scale_of(arguments.second, arguments.second_factor, line.column.goal),
+    ) else {
+        return None;
+    };
+    if are_worthless(arguments.middle, arguments.middle_factors) {
+        Some(Scales { before, behind })
+    } else {
+        None
     }
 }
 
@@ -157,32 +178,25 @@ pub fn greatest_front(lines: &Lines<'_>, line: &OpenedLine<'_>) -> Option<i64>
         ∷ (line.now.arguments.middle_factors.now ++ line.now.arguments.second_factor ∷ []))
         line.now.from line.now.boundary.last) result }
 {
-    let arguments = line.arguments;
-    if let (Some(before), Some(behind)) = (
-        scale_of(arguments.first, arguments.first_factor, line.row.goal),
-        scale_of(arguments.second, arguments.second_factor, line.column.goal),
-    ) {
-        if are_worthless(arguments.middle, arguments.middle_factors) {
-            lines.problem().admissible();
-            bounds_are_sound();
-            answer_is_unique();
-            let places = Positions {
-                at: line.boundary.places,
-                first: line.row.first,
-            };
-            let scales = Scales { before, behind };
-            match (line.row.numbers, line.column.numbers) {
-                (Numbers::Short(first), Numbers::Short(second)) => {
-                    return greatest_short(first, second, places, line.boundary.limits, scales);
-                }
-                (Numbers::Medium(first), Numbers::Medium(second)) => {
-                    return greatest_medium(first, second, places, scales);
-                }
-                (Numbers::Long(first), Numbers::Long(second)) => {
-                    return greatest_long(first, second, places, scales);
-                }
-                _ => {}
+    if let Some(scales) = scales_of(line) {
+        lines.problem().admissible();
+        bounds_are_sound();
+        answer_is_unique();
+        let places = Positions {
+            at: line.boundary.places,
+            first: line.row.first,
+        };
+        match (line.row.numbers, line.column.numbers) {
+            (Numbers::Short(first), Numbers::Short(second)) => {
+                return greatest_short(first, second, places, line.boundary.limits, scales);
             }
+            (Numbers::Medium(first), Numbers::Medium(second)) => {
+                return greatest_medium(first, second, places, scales);
+            }
+            (Numbers::Long(first), Numbers::Long(second)) => {
+                return greatest_long(first, second, places, scales);
+            }
+            _ => {}
         }
     }
     greatest_valued(lines, line)

@@ -10,19 +10,20 @@ ghost use Rattle.adp_model.specs.Parts.{alternatives_of};
 ghost use Rattle.adp_model.specs.Answers.{IsAnswer};
 ghost use Rattle.adp_model.specs.Bellman.{HasBestScore};
 ghost use Rattle.adp_model.specs.Demand.{IsDemandedChild};
+ghost use Rattle.score_numbers.specs.FirstPlaces.{IsFirstAmong};
 ghost use Rattle.score_numbers.specs.Greatest.{IsGreatestOf};
 ghost use Rattle.split_lines.specs.Laid.{Demands};
 ghost use Rattle.split_lines.specs.Lines.{IsLine};
 ghost use Rattle.cell_answers.specs.CellBest.{IsCellBest};
 ghost use Rattle.cell_answers.specs.Entries.{HasEntry};
-ghost use Rattle.cell_answers.specs.FirstPlaces.{IsFirstAmong, IsFirstGreatest};
+ghost use Rattle.cell_answers.specs.FirstPlaces.{IsFirstGreatest};
 ghost use Rattle.cell_answers.specs.LaidBy.{AreFirstEnds, IsFirstEnd};
 ghost use Rattle.cell_answers.specs.Opened.{IsOpened};
 ghost use Rattle.cell_answers.specs.Through.{HasTotalThrough};
 ghost use Rattle.cell_answers.specs.Totals.{AreLow, AreWeighted, HasTotal};
 
-use crate::along::{greatest_front, total_through};
-use crate::argument_values::argument_value;
+use crate::along::{greatest_front, scales_of, total_through};
+use crate::argument_values::{Numbers, argument_value};
 use crate::filling::{Best, Known, cell_best, greatest_total};
 use crate::opened::{OpenedLine, open_line};
 use crate::scores::Scores;
@@ -33,12 +34,14 @@ use adp_model::laws::well_formed::{
     alternatives_fit, arguments_are_few_and_known, terms_fit_their_alternatives,
 };
 use adp_model::{Answer, Arg, Cell, Choice};
-use score_numbers::{are_worthless, turned, turned_factors};
+use score_numbers::{
+    Positions, are_worthless, first_long, first_medium, first_short, turned, turned_factors,
+};
 use split_lines::{Line, Lines, line_here};
 
 /// The first place of the boundary at which the arguments of a line up to its second one of open length have this
-/// total.
-fn first_through(lines: &Lines<'_>, line: &OpenedLine<'_>, total: i64) -> Option<u16>
+/// total, place by place.
+fn first_valued(lines: &Lines<'_>, line: &OpenedLine<'_>, total: i64) -> Option<u16>
     requires opened { IsOpened lines.now line.now }
     ensures { MatchOption result
         ((place : ℕ) → Contains line.now.boundary.places.now place
@@ -62,6 +65,46 @@ fn first_through(lines: &Lines<'_>, line: &OpenedLine<'_>, total: i64) -> Option
         }
     }
     None
+}
+
+/// The first place of the boundary at which the arguments of a line up to its second one of open length have this
+/// total.
+fn first_through(lines: &Lines<'_>, line: &OpenedLine<'_>, total: i64) -> Option<u16>
+    requires opened { IsOpened lines.now line.now }
+    ensures { MatchOption result
+        ((place : ℕ) → Contains line.now.boundary.places.now place
+        → HasTotalThrough lines.now (HasBestScore lines.now) line.now.arguments.first.now
+        line.now.arguments.middle.now line.now.arguments.second.now line.now.arguments.first_factor
+        line.now.arguments.middle_factors.now line.now.arguments.second_factor line.now.from line.now.boundary.letters
+        line.now.boundary.last place total → ⊥)
+        (IsFirstAmong line.now.boundary.places.now (λ place.
+        HasTotalThrough lines.now (HasBestScore lines.now) line.now.arguments.first.now
+        line.now.arguments.middle.now line.now.arguments.second.now line.now.arguments.first_factor
+        line.now.arguments.middle_factors.now line.now.arguments.second_factor line.now.from line.now.boundary.letters
+        line.now.boundary.last place total)) }
+{
+    if let Some(scales) = scales_of(line) {
+        lines.problem().admissible();
+        bounds_are_sound();
+        answer_is_unique();
+        let places = Positions {
+            at: line.boundary.places,
+            first: line.row.first,
+        };
+        match (line.row.numbers, line.column.numbers) {
+            (Numbers::Short(first), Numbers::Short(second)) => {
+                return first_short(first, second, places, line.boundary.limits, scales, total);
+            }
+            (Numbers::Medium(first), Numbers::Medium(second)) => {
+                return first_medium(first, second, places, scales, total);
+            }
+            (Numbers::Long(first), Numbers::Long(second)) => {
+                return first_long(first, second, places, scales, total);
+            }
+            _ => {}
+        }
+    }
+    first_valued(lines, line, total)
 }
 
 /// The first place of a line's boundary at which arguments that begin with the first one of the line, laid from `from`

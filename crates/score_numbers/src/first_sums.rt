@@ -12,7 +12,7 @@ use crate::sums::{Positions, Scales, are_dense, greatest_aligned, greatest_limit
 use crate::width::Number;
 
 /// So many numbers are passed over at once where none of their sums is as great as the one that is sought.
-const BLOCK: usize = 64;
+const BLOCK: usize = 32;
 
 /// Whether sums are less than this one, of which the greatest is known.
 fn are_less(greatest: Option<i64>, sum: i64) -> bool

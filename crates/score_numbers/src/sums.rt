@@ -105,6 +105,7 @@ fn sum_of<N: Number>(greatest: N) -> Option<i64>
 }
 
 /// The greatest sum of numbers side by side.
+#[inline(always)]
 pub fn greatest_aligned<N: Number>(first: &[N], second: &[N]) -> Option<i64>
     requires first { AreProper N.width (map N.value first.now) }
     requires second { AreProper N.width (map N.value second.now) }
@@ -161,6 +162,7 @@ fn greatest_sum<N: Number>(
 }
 
 /// The greatest sum of numbers of 16 bits side by side, where there is no limit.
+#[inline(always)]
 pub fn greatest_limited_short(first: &[i16], second: &[i16], limits: &[i16]) -> Option<i64>
     requires first { AreProper short first.now }
     requires second { AreProper short second.now }

@@ -3,7 +3,8 @@ use Rattle.std.specs.Prelude.{MatchOption}
 use Rattle.std.specs.List.{Contains}
 use Rattle.std.proofs.lemmas.Int.{to_z-of_z}
 use Rattle.adp_model.specs.Bellman.{HasBestScore}
-use Rattle.cell_answers.specs.FirstPlaces.{IsFirstAmong, IsFirstGreatest}
+use Rattle.score_numbers.specs.FirstPlaces.{IsFirstAmong}
+use Rattle.cell_answers.specs.FirstPlaces.{IsFirstGreatest}
 use Rattle.cell_answers.specs.Totals.{HasTotal}
 use Rattle.cell_answers.proofs.FirstEnds.{AreLaid}
 use Rattle.cell_answers.proofs.FirstTotals.{Through, first_along}

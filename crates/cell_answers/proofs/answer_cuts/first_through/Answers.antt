@@ -1,52 +1,96 @@
-use Rattle.std.proofs.Common.{◌≡◌, ℕ, ℤ, get_or, FitsSigned, w64, to_z, of_z, sym, ap, subst, ◌∙◌, arith, rules, below_more}
-use Rattle.std.proofs.lemmas.List.Elements.{Contains-get_or}
+use Rattle.std.proofs.Common.{◌≡◌, ℕ, ℤ, Option, Some, None, List, FitsSigned, w64, subst, arith, rules}
+use Rattle.std.specs.Prelude.{MatchOption}
+use Rattle.std.specs.List.{Contains}
 use Rattle.std.proofs.lemmas.Int.{to_z-of_z}
-use Rattle.adp_model.specs.Bellman.{HasBestScore}
-use Rattle.cell_answers.specs.Through.{HasTotalThrough}
-use Rattle.cell_answers.proofs.FirstFound.{HoldsOfNone, found_first, found_none}
+use Rattle.adp_model.specs.PosedProblem.{PosedProblem}
+use Rattle.cell_answers.proofs.Bounding.{best_within}
+use Rattle.cell_answers.proofs.FirstEnds.{AreSound}
+use Rattle.cell_answers.proofs.Scoring.{one_score}
+use Rattle.cell_answers.proofs.Spaced.{short_spaced, medium_spaced, long_spaced}
+use Rattle.score_numbers.specs.FirstPlaces.{IsFirstAmong, IsFirstOf}
+use Rattle.score_numbers.specs.Packing.{short, medium, long}
+use Rattle.cell_answers.proofs.ScaledTotals.{short_numbers, medium_numbers, long_numbers, have_numbers, are_low, scaled_first}
 use Rattle.cell_answers.proofs.answer_cuts.first_through.Goals as goal
-use Rattle.cell_answers.proofs.answer_cuts.first_through.Goals.{After-are_worthless-weigh, in-Some+else-found-total, in_default}
+use Rattle.cell_answers.proofs.answer_cuts.first_through.Goals.{After-answer_is_unique}
 
-abbrev Through : After-are_worthless-weigh → ℤ → ℕ → Type 0
-Through c total place = HasTotalThrough c.args.lines.now (HasBestScore c.args.lines.now) c.args.line.now.arguments.first.now c.args.line.now.arguments.middle.now c.args.line.now.arguments.second.now c.args.line.now.arguments.first_factor c.args.line.now.arguments.middle_factors.now c.args.line.now.arguments.second_factor
-    c.args.line.now.from c.args.line.now.boundary.letters c.args.line.now.boundary.last place total
+sound : (c : After-answer_is_unique) → AreSound c.args.lines.now
+sound c =
+    let S : PosedProblem → Type 0 = AreSound in
+    subst S c.problem.ensures (record {
+      within = best_within c.problem.result.now c.admissible.ensures (c.bounds_are_sound.ensures.score c.problem.result.now);
+      one = one_score c.problem.result.now (λ at a b. c.answer_is_unique.ensures c.problem.result.now at a b c.admissible.ensures.checked.well_formed);
+    })
 
--- numbers are the same where their bits are
-same_number : (a b : ℤ) → FitsSigned w64 a → FitsSigned w64 b → of_z w64 a ≡ of_z w64 b → a ≡ b
-same_number a b fits_a fits_b same = sym (to_z-of_z w64 a fits_a) ∙ ap (to_z w64) same ∙ to_z-of_z w64 b fits_b
+-- the same in the words of a match
+matched : (places : List ℕ) (Holds : ℕ → Type 0) (found : Option ℕ) → IsFirstOf places Holds found
+    → MatchOption found ((place : ℕ) → Contains places place → Holds place → ⊥) (IsFirstAmong places Holds)
+matched places Holds None none = none
+matched places Holds (Some place) first = first
 
-pub total_through-through-requires-clause-stands : goal.total_through-through-requires-clause-stands
-total_through-through-requires-clause-stands c = Contains-get_or c.args.line.now.boundary.places.now c.loop-place.place-index 0 c.loop-place-test.true
+pub first_short-requires-clause-have : goal.first_short-requires-clause-have
+first_short-requires-clause-have c =
+    let at = (goal.at.first_short-requires-clause-have c).After-answer_is_unique in
+    have_numbers c.args.lines.now (sound at).one short short_spaced (omega arith) c.args.line.now c.requires.opened c.in-Some.scales c.in-Short-Short.first.now c.in-Short-Short.second.now
+    (short_numbers c.args.lines.now c.args.line.now c.requires.opened c.in-Some.scales c.in-Some.ensures c.in-Short-Short.first c.in-Short-Short.second c.in-Short-Short.is-0 c.in-Short-Short.is-1)
 
-pub returns-then-found-total : goal.returns-then-found-total
-returns-then-found-total c =
-    let at = (goal.at.returns-then-found-total c).After-are_worthless-weigh in
+pub first_short-requires-clause-low : goal.first_short-requires-clause-low
+first_short-requires-clause-low c =
+    let at = (goal.at.first_short-requires-clause-low c).After-answer_is_unique in
+    are_low c.args.lines.now (sound at).one short short_spaced (omega arith) c.args.line.now c.requires.opened c.in-Some.scales c.in-Short-Short.first.now c.in-Short-Short.second.now
+    (short_numbers c.args.lines.now c.args.line.now c.requires.opened c.in-Some.scales c.in-Some.ensures c.in-Short-Short.first c.in-Short-Short.second c.in-Short-Short.is-0 c.in-Short-Short.is-1) (sound at)
+
+pub returns-in-Short-Short : goal.returns-in-Short-Short
+returns-in-Short-Short c =
+    let at = (goal.at.returns-in-Short-Short c).After-answer_is_unique in
     let fits_total : FitsSigned w64 c.args.total = search rules in
-    let fits_found : FitsSigned w64 c.in-Some.found = search rules in
-    let same = same_number c.in-Some.found c.args.total fits_found fits_total c.if-found-total.true in
-    let N : ℤ → Type 0 = λ total. HoldsOfNone c.args.line.now.boundary.places.now (Through at total) c.loop-place.place-index in
-    let none : N (to_z w64 (of_z w64 c.args.total)) = c.loop-place.invariant in
-    let there : Through at c.in-Some.found (get_or c.args.line.now.boundary.places.now c.loop-place.place-index 0) = c.in-Some.ensures.greatest.0 in
-    found_first c.args.line.now.boundary.places.now (Through at c.args.total) c.loop-place.place-index c.requires.opened.boundary.rising c.loop-place-test.true
-    (subst N (to_z-of_z w64 c.args.total fits_total) none) (subst (λ total. Through at total (get_or c.args.line.now.boundary.places.now c.loop-place.place-index 0)) same there)
+    matched c.args.line.now.boundary.places.now _ c.first_short.result
+    (scaled_first c.args.lines.now (sound at).one short short_spaced (omega arith) c.args.line.now c.requires.opened c.in-Some.scales c.in-Short-Short.first.now c.in-Short-Short.second.now
+    (short_numbers c.args.lines.now c.args.line.now c.requires.opened c.in-Some.scales c.in-Some.ensures c.in-Short-Short.first c.in-Short-Short.second c.in-Short-Short.is-0 c.in-Short-Short.is-1)
+    c.args.total c.first_short.result (simp to_z-of_z at c.first_short.ensures))
 
-pub loop-place-preserved : goal.loop-place-preserved
-loop-place-preserved c =
-    let at = (goal.at.loop-place-preserved c).After-are_worthless-weigh in
-    let place = get_or c.args.line.now.boundary.places.now c.loop-place.place-index 0 in
+pub first_medium-requires-clause-have : goal.first_medium-requires-clause-have
+first_medium-requires-clause-have c =
+    let at = (goal.at.first_medium-requires-clause-have c).After-answer_is_unique in
+    have_numbers c.args.lines.now (sound at).one medium medium_spaced (omega arith) c.args.line.now c.requires.opened c.in-Some.scales c.in-Medium-Medium.first.now c.in-Medium-Medium.second.now
+    (medium_numbers c.args.lines.now c.args.line.now c.requires.opened c.in-Some.scales c.in-Some.ensures c.in-Medium-Medium.first c.in-Medium-Medium.second c.in-Medium-Medium.is-0 c.in-Medium-Medium.is-1)
+
+pub first_medium-requires-clause-low : goal.first_medium-requires-clause-low
+first_medium-requires-clause-low c =
+    let at = (goal.at.first_medium-requires-clause-low c).After-answer_is_unique in
+    are_low c.args.lines.now (sound at).one medium medium_spaced (omega arith) c.args.line.now c.requires.opened c.in-Some.scales c.in-Medium-Medium.first.now c.in-Medium-Medium.second.now
+    (medium_numbers c.args.lines.now c.args.line.now c.requires.opened c.in-Some.scales c.in-Some.ensures c.in-Medium-Medium.first c.in-Medium-Medium.second c.in-Medium-Medium.is-0 c.in-Medium-Medium.is-1) (sound at)
+
+pub returns-in-Medium-Medium : goal.returns-in-Medium-Medium
+returns-in-Medium-Medium c =
+    let at = (goal.at.returns-in-Medium-Medium c).After-answer_is_unique in
     let fits_total : FitsSigned w64 c.args.total = search rules in
-    let H : ℤ → Type 0 = λ total. Through at total place in
-    let here : H (to_z w64 (of_z w64 c.args.total)) → H c.args.total = subst H (to_z-of_z w64 c.args.total fits_total) in
-    below_more _ _ c.loop-place.invariant
-    (elim c.match-through.branch [
-      | in-Some+else-found-total w ↦ λ through. w.if-found-total.false (ap (of_z w64) (sym (w.in-Some.ensures.only c.args.total (here through))))
-      | in_default w ↦ λ through. w.in_default.ensures.greatest c.args.total (here through)
-    ])
+    matched c.args.line.now.boundary.places.now _ c.first_medium.result
+    (scaled_first c.args.lines.now (sound at).one medium medium_spaced (omega arith) c.args.line.now c.requires.opened c.in-Some.scales c.in-Medium-Medium.first.now c.in-Medium-Medium.second.now
+    (medium_numbers c.args.lines.now c.args.line.now c.requires.opened c.in-Some.scales c.in-Some.ensures c.in-Medium-Medium.first c.in-Medium-Medium.second c.in-Medium-Medium.is-0 c.in-Medium-Medium.is-1)
+    c.args.total c.first_medium.result (simp to_z-of_z at c.first_medium.ensures))
+
+pub first_long-requires-clause-have : goal.first_long-requires-clause-have
+first_long-requires-clause-have c =
+    let at = (goal.at.first_long-requires-clause-have c).After-answer_is_unique in
+    have_numbers c.args.lines.now (sound at).one long long_spaced (omega arith) c.args.line.now c.requires.opened c.in-Some.scales c.in-Long-Long.first.now c.in-Long-Long.second.now
+    (long_numbers c.args.lines.now c.args.line.now c.requires.opened c.in-Some.scales c.in-Some.ensures c.in-Long-Long.first c.in-Long-Long.second c.in-Long-Long.is-0 c.in-Long-Long.is-1)
+
+pub first_long-requires-clause-low : goal.first_long-requires-clause-low
+first_long-requires-clause-low c =
+    let at = (goal.at.first_long-requires-clause-low c).After-answer_is_unique in
+    are_low c.args.lines.now (sound at).one long long_spaced (omega arith) c.args.line.now c.requires.opened c.in-Some.scales c.in-Long-Long.first.now c.in-Long-Long.second.now
+    (long_numbers c.args.lines.now c.args.line.now c.requires.opened c.in-Some.scales c.in-Some.ensures c.in-Long-Long.first c.in-Long-Long.second c.in-Long-Long.is-0 c.in-Long-Long.is-1) (sound at)
+
+pub returns-in-Long-Long : goal.returns-in-Long-Long
+returns-in-Long-Long c =
+    let at = (goal.at.returns-in-Long-Long c).After-answer_is_unique in
+    let fits_total : FitsSigned w64 c.args.total = search rules in
+    matched c.args.line.now.boundary.places.now _ c.first_long.result
+    (scaled_first c.args.lines.now (sound at).one long long_spaced (omega arith) c.args.line.now c.requires.opened c.in-Some.scales c.in-Long-Long.first.now c.in-Long-Long.second.now
+    (long_numbers c.args.lines.now c.args.line.now c.requires.opened c.in-Some.scales c.in-Some.ensures c.in-Long-Long.first c.in-Long-Long.second c.in-Long-Long.is-0 c.in-Long-Long.is-1)
+    c.args.total c.first_long.result (simp to_z-of_z at c.first_long.ensures))
 
 pub returns : goal.returns
 returns c =
-    let at = (goal.at.returns c).After-are_worthless-weigh in
     let fits_total : FitsSigned w64 c.args.total = search rules in
-    let N : ℤ → Type 0 = λ total. HoldsOfNone c.args.line.now.boundary.places.now (Through at total) c.loop-place.place-index in
-    let none : N (to_z w64 (of_z w64 c.args.total)) = c.loop-place.invariant in
-    found_none c.args.line.now.boundary.places.now (Through at c.args.total) c.loop-place.place-index (omega (arith, c.loop-place-test.false)) (subst N (to_z-of_z w64 c.args.total fits_total) none)
+    simp to_z-of_z at c.first_valued.ensures

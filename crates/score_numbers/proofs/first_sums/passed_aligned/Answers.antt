@@ -7,11 +7,11 @@ use Rattle.score_numbers.proofs.first_sums.passed_aligned.Goals as goal
 
 pub greatest_aligned-greatest-requires-clause-first : goal.greatest_aligned-greatest-requires-clause-first
 greatest_aligned-greatest-requires-clause-first g c =
-    values_proper g.N.Number.width g.N.Number.value c.loop-passed.passed (c.loop-passed.passed + 64) c.args.first.now (omega (arith, c.loop-passed-test.true)) c.requires.first
+    values_proper g.N.Number.width g.N.Number.value c.loop-passed.passed (c.loop-passed.passed + 32) c.args.first.now (omega (arith, c.loop-passed-test.true)) c.requires.first
 
 pub greatest_aligned-greatest-requires-clause-second : goal.greatest_aligned-greatest-requires-clause-second
 greatest_aligned-greatest-requires-clause-second g c =
-    values_proper g.N.Number.width g.N.Number.value c.loop-passed.passed (c.loop-passed.passed + 64) c.args.second.now (omega (arith, c.loop-passed-test.true, c.requires.as_many)) c.requires.second
+    values_proper g.N.Number.width g.N.Number.value c.loop-passed.passed (c.loop-passed.passed + 32) c.args.second.now (omega (arith, c.loop-passed-test.true, c.requires.as_many)) c.requires.second
 
 pub returns-then-not-are_less-clause-none : goal.returns-then-not-are_less-clause-none
 returns-then-not-are_less-clause-none g c =
@@ -23,7 +23,7 @@ loop-passed-preserved g c =
     let width = g.N.Number.width in
     let value = g.N.Number.value in
     let passed = c.loop-passed.passed in
-    let end = passed + 64 in
+    let end = passed + 32 in
     let firsts = c.args.first.now in
     let seconds = c.args.second.now in
     let sum = c.args.sum in

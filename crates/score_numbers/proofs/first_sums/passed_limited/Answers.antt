@@ -10,7 +10,7 @@ use Rattle.score_numbers.proofs.first_sums.passed_limited.Goals as goal
 pub loop-passed-preserved : goal.loop-passed-preserved
 loop-passed-preserved c =
     let passed = c.loop-passed.passed in
-    let end = passed + 64 in
+    let end = passed + 32 in
     let firsts = c.args.first.now in
     let seconds = c.args.second.now in
     let limits = c.args.limits.now in

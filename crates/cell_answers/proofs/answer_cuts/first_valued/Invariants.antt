@@ -1,7 +1,7 @@
 use Rattle.std.proofs.Common.{◌<◌, ℕ, get_or}
 use Rattle.adp_model.specs.Bellman.{HasBestScore}
 use Rattle.cell_answers.specs.Through.{HasTotalThrough}
-use Rattle.cell_answers.proofs.answer_cuts.first_through.Given as goal
+use Rattle.cell_answers.proofs.answer_cuts.first_valued.Given as goal
 
 -- at the first places the total is another one
 abbrev pub invariant-loop-place : goal.invariant-loop-place
