@@ -26,3 +26,4 @@ pub mod SkipSteps
 pub mod FreshMachines
 pub mod PassingNone
 pub mod Stepped
+pub mod Demanded

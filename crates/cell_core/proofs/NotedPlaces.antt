@@ -1,5 +1,6 @@
 -- Up to which place the cells of a line are noted, in the order of a visit.
-use Rattle.std.proofs.Common.{◌≡◌, ℕ, zero, suc, ◌+◌, ◌-◌, ◌*◌, ◌<◌, ◌≤◌, ◌⊎◌, inl, inr, List, length, slice_index, sym, ap, subst, ◌∙◌, arith}
+use Rattle.std.proofs.Common.{◌≡◌, ℕ, zero, suc, ◌+◌, ◌-◌, ◌*◌, ◌<◌, ◌≤◌, ◌⊎◌, inl, inr, false, List, [], ◌∷◌, length, slice_index, sym, ap, subst, ◌∙◌, arith}
+use Rattle.std.specs.Prelude.{◌==◌}
 use Rattle.std.specs.List.{AllAdjacentBelow, Contains}
 use Rattle.std.proofs.lemmas.Bool.{cases_lt}
 use Rattle.std.proofs.lemmas.List.{get_or_default}
@@ -59,8 +60,12 @@ last_or_before places rising place (j, inside, e) =
 
 -- ---- bits
 
-some_there : (places : List ℕ) (place : ℕ) → Contains places place → 0 < length places
+pub some_there : (places : List ℕ) (place : ℕ) → Contains places place → 0 < length places
 some_there places place (j, inside, e) = omega arith
+
+pub some_left : (places : List ℕ) → false ≡ (length places == 0) → 0 < length places
+some_left [] e = absurd cc
+some_left (place ∷ places) e = omega arith
 
 pub room_up_to : (places : List ℕ) (shift : ℕ) (bits : List ℕ) → AreBitsAmong places shift bits → (past : ℕ)
     → EndsByAPlace places past → past + shift ≤ 64 * length bits

@@ -8,7 +8,8 @@ use Rattle.adp_model.specs.declared.visit.Visit.{Visit}
 use Rattle.adp_model.specs.SplitArguments.{SplitArgument, AsksFor, IsSplitArgument}
 use Rattle.adp_model.specs.Visits.{argument_at, is_before}
 use Rattle.adp_model.specs.Walk.{rank_of}
-use Rattle.split_lines.specs.Laid.{IsCellOf}
+use Rattle.adp_model.specs.declared.grammar.Arg.{Arg}
+use Rattle.split_lines.specs.Laid.{IsCellOf, Demands}
 use Rattle.cell_core.specs.declared.skipping.OpenPair.{OpenPair}
 
 -- from the first position on to the second, which is the same or visited later, all cells that are asked for are noted
@@ -47,3 +48,7 @@ pub record IsLastNoted (Noted : Cell → Type 0) (cell : Cell) (turn : ℕ) (pai
   pub behind : rank_of cell turn from < rank_of cell turn to
   pub noted : (place : ℕ) → Contains pair.places.now place → rank_of cell turn from ≤ rank_of cell turn place
       → rank_of cell turn place ≤ rank_of cell turn to → IsNotedAt Noted pair place
+
+-- each cell that the arguments may demand between two places is noted
+abbrev pub AreNotedOn : PosedProblem → (Cell → Type 0) → List Arg → ℕ → ℕ → Type 0
+AreNotedOn p Noted arguments from to = (child : Cell) → Demands p arguments from to child → Noted child

@@ -63,7 +63,7 @@ pub fn seek<N: NotedCells>(
             turns,
             at,
         };
-        let Some(position) = next_position(lines, problem, now) else {
+        let Some(position) = next_position(lines, problem, noted, now) else {
             return None;
         };
         if let Some(cell) = asked(problem, visit.cell, position) {

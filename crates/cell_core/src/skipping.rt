@@ -104,7 +104,7 @@ fn are_noted_before<N: NotedCells>(
 }
 
 /// A place from `begin` up to `past` before which, from `begin` on, the cells of both arguments are noted.
-fn both_noted<N: NotedCells>(noted: &N, pair: OpenPair<'_>, begin: u16, past: u16) -> u16
+pub(crate) fn both_noted<N: NotedCells>(noted: &N, pair: OpenPair<'_>, begin: u16, past: u16) -> u16
     requires order { begin ≤ past }
     requires up_to { EndsByAPlace pair.places.now past }
     requires short { past + pair.letters ≤ 4001 }
