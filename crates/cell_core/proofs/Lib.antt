@@ -18,11 +18,12 @@ pub mod Closing
 pub mod PlainRecords
 pub mod LineOrder
 pub mod LineSplits
-pub mod Skipped
+pub mod SameCuts
+pub mod Reached
 pub mod NotedPlaces
 pub mod ViableCuts
 pub mod LineHere
-pub mod SkipSteps
 pub mod FreshMachines
 pub mod PassingNone
 pub mod Stepped
+pub mod Demanded

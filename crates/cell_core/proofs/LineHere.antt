@@ -37,7 +37,7 @@ start_within cell cuts within ordered (suc n) l =
     (omega (arith, it.0, same), omega (arith, it.1, same))
 
 -- the arguments go forward
-cover_forward : (p : PosedProblem) (arguments : List Arg) (from to : ℕ) → Cover p arguments from to → from ≤ to
+pub cover_forward : (p : PosedProblem) (arguments : List Arg) (from to : ℕ) → Cover p arguments from to → from ≤ to
 cover_forward p [] from to cover = omega (arith, cover)
 cover_forward p (argument ∷ arguments) from to (cut, fits, cover) =
     omega (arith, fits.0.in_order, cover_forward p arguments cut to cover)

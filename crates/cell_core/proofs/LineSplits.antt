@@ -155,7 +155,7 @@ none_asked (token ∷ tokens) start [] fixed k child e = cc
 none_asked (token ∷ tokens) start (end ∷ ends) fixed zero child e = no_rule token start end child fixed.0 e
 none_asked (token ∷ tokens) start (end ∷ ends) fixed (suc k) child e = none_asked tokens end ends fixed.1 k child e
 
-cell_of : (argument : Arg) (from to : ℕ) (child : Cell) → Some (on_span argument from to) ≡ Some (IsCell child)
+pub cell_of : (argument : Arg) (from to : ℕ) (child : Cell) → Some (on_span argument from to) ≡ Some (IsCell child)
     → IsCellOf argument from to child
 cell_of argument from to child e =
     let same : on_span argument from to ≡ IsCell child = some_same (on_span argument from to) (IsCell child) e in

@@ -11,8 +11,8 @@ use Rattle.adp_model.specs.Splits.{Placed, place, ends_by}
 use Rattle.adp_model.specs.declared.visit.Position.{Position}
 use Rattle.adp_model.specs.declared.visit.Visit.{Visit}
 use Rattle.adp_model.specs.SplitArguments.{SplitArgument, AsksFor, IsSplitArgument}
-use Rattle.adp_model.specs.Visits.{visited_at, is_before, is_behind, is_behind_position, argument_at}
-use Rattle.cell_core.specs.Seeking.{moved_to, IsNext, IsLast, IsNextSought, IsNoneSought}
+use Rattle.adp_model.specs.Visits.{visited_at, is_before, is_behind, is_behind_position, argument_at, IsWalk}
+use Rattle.cell_core.specs.Seeking.{moved_to, IsNextLeft, IsNextSought, IsNoneSought}
 use Rattle.cell_core.proofs.VisitOrder.{behind_moved, less_transitive, less_irreflexive}
 
 pub some_same : {X : Type 0} (x y : X) → Some x ≡ Some y → x ≡ y
@@ -48,6 +48,16 @@ asks_one p argument a b asks asks' =
     rules_same : (m n : ℕ) → Rule m ≡ Rule n → m ≡ n
     rules_same m n e = cc
 
+-- a walk that has come to an argument
+pub walk_to : (p : PosedProblem) (visit : Visit) → IsWalk p visit → (position : Position)
+    → IsSplitArgument p (argument_at visit.cell position) → IsWalk p (moved_to visit position)
+walk_to p visit walk position is = record {
+  first = walk.first;
+  three = walk.three;
+  turns = walk.turns;
+  at = λ q e. subst (λ (x : Position). IsSplitArgument p (argument_at visit.cell x)) (some_same position q e) is;
+}
+
 module _ (p : PosedProblem) (Noted : Cell → Type 0) (visit : Visit) (at : Option Position) where
   abbrev now : Visit
   now = record { cell = visit.cell; first = visit.first; turns = visit.turns; at = at }
@@ -59,14 +69,14 @@ module _ (p : PosedProblem) (Noted : Cell → Type 0) (visit : Visit) (at : Opti
   abbrev On : Option Position → Type 0
   On to = (argument : SplitArgument) → is_behind_position p visit to argument ≡ true → is_behind p visit argument ≡ true
 
-  pub none_sought : IsLast p now → Passed at → IsNoneSought p Noted visit
-  none_sought last passed argument child here asks behind = go (is_behind_position p visit at argument) refl
+  pub none_sought : IsNoneSought p Noted now → Passed at → IsNoneSought p Noted visit
+  none_sought noted passed argument child here asks behind = go (is_behind_position p visit at argument) refl
     where
       go : (b : Bool) → is_behind_position p visit at argument ≡ b → Noted child
-      go true e = absurd (last argument here (split_of p argument child asks) e)
+      go true e = noted argument child here asks e
       go false e = passed argument child here asks behind e
 
-  module _ (position : Position) (next : IsNext p now position) where
+  module _ (position : Position) (next : IsNextLeft p Noted now position) where
     abbrev there : SplitArgument
     there = argument_at visit.cell position
 
@@ -76,13 +86,14 @@ module _ (p : PosedProblem) (Noted : Cell → Type 0) (visit : Visit) (at : Opti
     pub passed_more : ((child : Cell) → AsksFor p there child → Noted child) → Passed at → Passed (Some position)
     passed_more noted passed argument child here asks behind e = go (is_behind_position p visit at argument) refl
       where
-        found : (argument ≡ argument_at visit.cell position) ⊎
-            (is_before p visit (argument_at visit.cell position) argument ≡ true) → Noted child
-        found (inl same) = noted child (subst (λ x. AsksFor p x child) same asks)
-        found (inr before) = absurd (false≢true (sym e ∙ before))
+        found : Noted child ⊎ ((argument ≡ argument_at visit.cell position) ⊎
+            (is_before p visit (argument_at visit.cell position) argument ≡ true)) → Noted child
+        found (inl known) = known
+        found (inr (inl same)) = noted child (subst (λ x. AsksFor p x child) same asks)
+        found (inr (inr before)) = absurd (false≢true (sym e ∙ before))
 
         go : (b : Bool) → is_behind_position p visit at argument ≡ b → Noted child
-        go true f = found (next.next argument here (split_of p argument child asks) f)
+        go true f = found (next.next argument child here asks f)
         go false f = passed argument child here asks behind f
 
     pub next_sought : (child : Cell) → AsksFor p there child → On at → Passed at
@@ -112,23 +123,29 @@ module _ (p : PosedProblem) (Noted : Cell → Type 0) (visit : Visit) (at : Opti
             → is_before p visit argument (argument_at visit.cell position) ≡ true → (b : Bool)
             → is_behind_position p visit at argument ≡ b → Noted other
         before argument other here asking behind l true e =
-            absurd (not_both argument l (next.next argument here (split_of p argument other asking) e))
+            earlier (next.next argument other here asking e)
+          where
+            earlier : Noted other ⊎ ((argument ≡ argument_at visit.cell position) ⊎
+                (is_before p visit (argument_at visit.cell position) argument ≡ true)) → Noted other
+            earlier (inl known) = known
+            earlier (inr not_before) = absurd (not_both argument l not_before)
         before argument other here asking behind l false e = passed argument other here asking behind e
 
         found : (argument : SplitArgument) (other : Cell) → AsksFor p argument other
             → is_behind p (moved_to visit position) argument ≡ false
-            → (argument ≡ argument_at visit.cell position) ⊎
-            (is_before p visit (argument_at visit.cell position) argument ≡ true) → Noted other ⊎ (other ≡ child)
-        found argument other asking l (inl same) =
+            → Noted other ⊎ ((argument ≡ argument_at visit.cell position) ⊎
+            (is_before p visit (argument_at visit.cell position) argument ≡ true)) → Noted other ⊎ (other ≡ child)
+        found argument other asking l (inl known) = inl known
+        found argument other asking l (inr (inl same)) =
             inr
             (asks_one p (argument_at visit.cell position) other child
             (subst (λ x. AsksFor p x other) same asking) asks)
-        found argument other asking l (inr m) = absurd (false≢true (sym l ∙ m))
+        found argument other asking l (inr (inr m)) = absurd (false≢true (sym l ∙ m))
 
         passing : (argument : SplitArgument) (other : Cell) → argument.cell ≡ visit.cell → AsksFor p argument other
             → is_behind p visit argument ≡ true
             → is_behind p (moved_to visit position) argument ≡ false → (b : Bool)
             → is_behind_position p visit at argument ≡ b → Noted other ⊎ (other ≡ child)
         passing argument other here asking behind l true e =
-            found argument other asking l (next.next argument here (split_of p argument other asking) e)
+            found argument other asking l (next.next argument other here asking e)
         passing argument other here asking behind l false e = inl (passed argument other here asking behind e)

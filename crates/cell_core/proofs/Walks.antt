@@ -10,13 +10,15 @@ use Rattle.adp_model.specs.PosedProblem.{PosedProblem}
 use Rattle.adp_model.specs.Parts.{alternatives_of, arguments_of}
 use Rattle.adp_model.specs.Preference.{LexicographicallyLess}
 use Rattle.adp_model.specs.Splits.{IsViable}
-use Rattle.adp_model.specs.Walk.{ranks_of, IsVisitedBefore, IsFirstVisited, IsNextVisited, IsLastVisited}
+use Rattle.adp_model.specs.Walk.{ranks_of, IsVisitedBefore, IsFirstVisited, IsNextVisited}
 use Rattle.adp_model.specs.declared.visit.Position.{Position}
 use Rattle.adp_model.specs.declared.visit.Visit.{Visit}
-use Rattle.adp_model.specs.SplitArguments.{SplitArgument, IsSplitArgument}
+use Rattle.adp_model.specs.SplitArguments.{SplitArgument, AsksFor, IsSplitArgument}
 use Rattle.adp_model.specs.Visits.{turned_number, visited_at, is_before, is_behind, is_behind_position, argument_at}
 use Rattle.adp_model.specs.Visits.{IsWalk}
-use Rattle.cell_core.specs.Seeking.{IsNext, IsLast, IsFirstFrom, IsNoneFrom}
+use Rattle.cell_core.specs.Seeking.{AreAllNoted, AreNotedBehind, IsFirstLeft, IsNextLeft, IsNoneLeft, IsNoneSought}
+use Rattle.cell_core.specs.Skipping.{IsReached}
+use Rattle.cell_core.proofs.SeekSteps.{split_of}
 use Rattle.cell_core.proofs.VisitOrder.{lex_from, less_from, lex_total}
 
 -- ---- turned numbers
@@ -54,7 +56,7 @@ lex_front (x ∷ xs) [] us vs l = absurd l
 lex_front (x ∷ xs) (y ∷ ys) us vs (inl l) = inl l
 lex_front (x ∷ xs) (y ∷ ys) us vs (inr (e, l)) = inr (e, lex_front xs ys us vs l)
 
-lex_end : (xs us vs : List ℕ) → LexicographicallyLess us vs → LexicographicallyLess (xs ++ us) (xs ++ vs)
+pub lex_end : (xs us vs : List ℕ) → LexicographicallyLess us vs → LexicographicallyLess (xs ++ us) (xs ++ vs)
 lex_end [] us vs l = l
 lex_end (x ∷ xs) us vs l = inr (refl, lex_end xs us vs l)
 
@@ -81,7 +83,8 @@ length_ranks cell (turn ∷ turns) (cut ∷ cuts) e = omega (arith, length_ranks
 
 -- ---- a walk, where ranks tell viable cuts apart
 
-module _ (p : PosedProblem) (visit : Visit) (walk : IsWalk p visit) (three : length visit.turns ≡ 3)
+module _ (p : PosedProblem) (Noted : Cell → Type 0) (visit : Visit) (walk : IsWalk p visit)
+    (three : length visit.turns ≡ 3)
     (apart : (alternative : ℕ) (cuts others : List ℕ) → IsViable p visit.cell alternative cuts
     → IsViable p visit.cell alternative others
     → ranks_of visit.cell visit.turns cuts ≡ ranks_of visit.cell visit.turns others → cuts ≡ others) where
@@ -187,12 +190,12 @@ module _ (p : PosedProblem) (visit : Visit) (walk : IsWalk p visit) (three : len
     next_number = record { alternative = at.alternative; cuts = at.cuts; number = at.number + 1 }
 
     pub next_in_split : at.number + 1 < length (arguments_of p.grammar visit.cell.rule at.alternative)
-        → IsNext p visit (record { alternative = at.alternative; cuts = at.cuts; number = at.number + 1 })
+        → IsNextLeft p Noted visit (record { alternative = at.alternative; cuts = at.cuts; number = at.number + 1 })
     next_in_split more = record {
       is_argument = record { viable = here_viable; within = more };
       behind = behind_is (argument_at visit.cell next_number) ∙ before_by_number at.alternative at.cuts at.number
           (at.number + 1) (omega arith);
-      next = λ a here is behind. found a here is (sym (behind_is a) ∙ behind);
+      next = λ a child here asks behind. inr (found a here (split_of p a child asks) (sym (behind_is a) ∙ behind));
     }
       where
         decide : (other : ℕ) (others : List ℕ) (n : ℕ) → IsViable p visit.cell other others
@@ -244,12 +247,12 @@ module _ (p : PosedProblem) (visit : Visit) (walk : IsWalk p visit) (three : len
     pub next_in_alternative : (cuts : List ℕ) → IsNextVisited p visit.cell at.alternative visit.turns at.cuts cuts
         → 0 < length (arguments_of p.grammar visit.cell.rule at.alternative)
         → length (arguments_of p.grammar visit.cell.rule at.alternative) ≤ at.number + 1
-        → IsNext p visit (record { alternative = at.alternative; cuts = cuts; number = 0 })
+        → IsNextLeft p Noted visit (record { alternative = at.alternative; cuts = cuts; number = 0 })
     next_in_alternative cuts first some last = record {
       is_argument = record { viable = first.viable; within = some };
       behind =
           behind_is (it at.alternative cuts 0) ∙ before_by_cuts at.alternative at.cuts cuts at.number 0 first.behind;
-      next = λ a here is behind. found a here is (sym (behind_is a) ∙ behind);
+      next = λ a child here asks behind. inr (found a here (split_of p a child asks) (sym (behind_is a) ∙ behind));
     }
       where
         by_number : (others : List ℕ) (n : ℕ) → cuts ≡ others → (0 < n) ⊎ (n ≤ 0)
@@ -300,43 +303,52 @@ module _ (p : PosedProblem) (visit : Visit) (walk : IsWalk p visit) (three : len
             (subst (λ x. is_before p visit (argument_at visit.cell at) x ≡ true) e before) in
             subst (Found cuts) (sym e) (decide a.alternative a.cuts a.number viable within l)
 
+    -- ---- along a line
+
+    pub next_reached : (position : Position) → IsReached p Noted visit at position → IsNextLeft p Noted visit position
+    next_reached position reached = record {
+      is_argument = reached.is_argument;
+      behind = behind_is (argument_at visit.cell position) ∙ reached.on;
+      next = λ a child here asks behind. reached.next a child here asks (sym (behind_is a) ∙ behind);
+    }
+
     -- ---- a later alternative
 
-    -- behind the last argument of the last split of the alternative, all are of later alternatives
-    pub only_later : IsLastVisited p visit.cell at.alternative visit.turns at.cuts
+    -- behind the last argument of a split all are of later alternatives, but for those of later splits
+    pub only_later : AreNotedBehind p Noted visit.cell at.alternative visit.turns at.cuts
         → length (arguments_of p.grammar visit.cell.rule at.alternative) ≤ at.number + 1
-        → (a : SplitArgument) → a.cell ≡ visit.cell → IsSplitArgument p a → is_behind p visit a ≡ true
-        → turned at.alternative < turned a.alternative
-    only_later none last a here is behind =
+        → (a : SplitArgument) (child : Cell) → a.cell ≡ visit.cell → AsksFor p a child → is_behind p visit a ≡ true
+        → Noted child ⊎ (turned at.alternative < turned a.alternative)
+    only_later noted last a child here asks behind =
         let e = parts a here in
-        let viable : IsViable p visit.cell a.alternative a.cuts =
-        subst (λ c. IsViable p c a.alternative a.cuts) here is.viable in
-        let within : a.number < length (arguments_of p.grammar visit.cell.rule a.alternative) =
-        subst (λ (c : Cell). a.number < length (arguments_of p.grammar c.rule a.alternative)) here is.within in
-        go a.alternative a.cuts a.number viable within
-        (later at.alternative at.cuts at.number a.alternative a.cuts a.number here_viable viable
+        go a.alternative a.cuts a.number (subst (λ x. AsksFor p x child) e asks)
+        (split_of p (it a.alternative a.cuts a.number) child (subst (λ x. AsksFor p x child) e asks)).within
+        (later at.alternative at.cuts at.number a.alternative a.cuts a.number here_viable
+        (subst (λ x. AsksFor p x child) e asks).viable
         (subst (λ x. is_before p visit (argument_at visit.cell at) x ≡ true) e (sym (behind_is a) ∙ behind)))
       where
-        go : (other : ℕ) (others : List ℕ) (n : ℕ) → IsViable p visit.cell other others
+        go : (other : ℕ) (others : List ℕ) (n : ℕ) → AsksFor p (it other others n) child
             → n < length (arguments_of p.grammar visit.cell.rule other)
-            → Later at.alternative at.cuts at.number other others n → turned at.alternative < turned other
-        go other others n viable within (inl l) = l
-        go other others n viable within (inr (inl (e, l))) =
-            absurd (none others (subst (λ o. IsViable p visit.cell o others) (sym e) viable) l)
-        go other others n viable within (inr (inr (e, (f, l)))) =
+            → Later at.alternative at.cuts at.number other others n
+            → Noted child ⊎ (turned at.alternative < turned other)
+        go other others n asks within (inl l) = inr l
+        go other others n asks within (inr (inl (e, l))) =
+            inl (noted others n child l (subst (λ o. AsksFor p (it o others n) child) (sym e) asks))
+        go other others n asks within (inr (inr (e, (f, l)))) =
             let same : length (arguments_of p.grammar visit.cell.rule at.alternative) ≡ length
             (arguments_of p.grammar visit.cell.rule other) =
             ap (λ o. length (arguments_of p.grammar visit.cell.rule o)) e in
             absurd (omega arith)
 
-  -- ---- the first argument of an alternative, where no earlier one has any
+  -- ---- the first argument of an alternative, where the cells of the earlier ones are noted
 
   module _ (from : ℕ) (alternative : ℕ) (cuts : List ℕ)
       (first : IsFirstVisited p visit.cell alternative visit.turns cuts)
       (some : 0 < length (arguments_of p.grammar visit.cell.rule alternative))
       (within : from ≤ turned alternative)
-      (none_before : (argument : SplitArgument) → argument.cell ≡ visit.cell → IsSplitArgument p argument
-      → from ≤ turned argument.alternative → turned argument.alternative < turned alternative → ⊥) where
+      (noted_before : (argument : SplitArgument) (child : Cell) → argument.cell ≡ visit.cell
+      → AsksFor p argument child → from ≤ turned argument.alternative
+      → turned argument.alternative < turned alternative → Noted child) where
     abbrev At : SplitArgument → Type 0
     At x = (x ≡ it alternative cuts 0) ⊎ (is_before p visit (it alternative cuts 0) x ≡ true)
 
@@ -365,88 +377,101 @@ module _ (p : PosedProblem) (visit : Visit) (walk : IsWalk p visit) (three : len
         (lex_total (ranks others) (ranks cuts)
         (same_length alternative others alternative cuts viable' first.viable)))
 
-    pub first_from_is : IsFirstFrom p visit from (record { alternative = alternative; cuts = cuts; number = 0 })
+    pub first_from_is : IsFirstLeft p Noted visit from
+        (record { alternative = alternative; cuts = cuts; number = 0 })
     first_from_is = record {
       is_argument = record { viable = first.viable; within = some };
       behind = within;
-      first = λ a here is l. found a here is l;
+      first = λ a child here asks l. found a child here asks l;
     }
       where
-        found : (a : SplitArgument) → a.cell ≡ visit.cell → IsSplitArgument p a → from ≤ turned a.alternative → At a
-        found a here is l =
+        found : (a : SplitArgument) (child : Cell) → a.cell ≡ visit.cell → AsksFor p a child
+            → from ≤ turned a.alternative → Noted child ⊎ At a
+        found a child here asks l =
             let e : a ≡ it a.alternative a.cuts a.number =
             λ i. record { cell = here i; alternative = a.alternative; cuts = a.cuts; number = a.number } in
             let viable : IsViable p visit.cell a.alternative a.cuts =
-            subst (λ c. IsViable p c a.alternative a.cuts) here is.viable in
+            subst (λ c. IsViable p c a.alternative a.cuts) here asks.viable in
             elim (cases_lt (turned a.alternative) (turned alternative)) [
-              | inl before ↦ absurd (none_before a here is l before)
+              | inl before ↦ inl (noted_before a child here asks l before)
               | inr after ↦ elim (cases_lt (turned alternative) (turned a.alternative)) [
-                | inl behind ↦ inr (before_by_alternative (it alternative cuts 0) a refl here behind)
+                | inl behind ↦ inr (inr (before_by_alternative (it alternative cuts 0) a refl here behind))
                 | inr no_behind ↦
                     let same : turned alternative ≡ turned a.alternative = omega arith in
-                    subst At (sym e)
+                    inr
+                    (subst At (sym e)
                     (at_alternative a.alternative a.cuts a.number viable
-                    (same_turned alternative cuts a.alternative a.cuts first.viable viable same))
+                    (same_turned alternative cuts a.alternative a.cuts first.viable viable same)))
               ]
             ]
 
   -- ---- from the position on to a later alternative
 
-  pub next_from_start : (position : Position) → visit.at ≡ None → IsFirstFrom p visit 0 position
-      → IsNext p visit position
+  pub next_from_start : (position : Position) → visit.at ≡ None → IsFirstLeft p Noted visit 0 position
+      → IsNextLeft p Noted visit position
   next_from_start position fresh first = record {
     is_argument = first.is_argument;
     behind = ap (λ o. is_behind_position p visit o (argument_at visit.cell position)) fresh;
-    next = λ a here is behind. first.first a here is (omega arith);
+    next = λ a child here asks behind. first.first a child here asks (omega arith);
   }
 
   pub next_later : (at position : Position) → visit.at ≡ Some at
-      → IsLastVisited p visit.cell at.alternative visit.turns at.cuts
+      → AreNotedBehind p Noted visit.cell at.alternative visit.turns at.cuts
       → length (arguments_of p.grammar visit.cell.rule at.alternative) ≤ at.number + 1
-      → IsFirstFrom p visit (turned at.alternative + 1) position → IsNext p visit position
-  next_later at position stands none last first = record {
+      → IsFirstLeft p Noted visit (turned at.alternative + 1) position → IsNextLeft p Noted visit position
+  next_later at position stands noted last first = record {
     is_argument = first.is_argument;
     behind = ap (λ o. is_behind_position p visit o (argument_at visit.cell position)) stands
         ∙ before_by_alternative (argument_at visit.cell at) (argument_at visit.cell position) refl refl
         (let l = first.behind in omega arith);
-    next = λ a here is behind. first.first a here is (let l = only_later at stands none last a here is behind in
-        omega arith);
+    next = λ a child here asks behind. elim (only_later at stands noted last a child here asks behind) [
+      | inl known ↦ inl known
+      | inr l ↦ first.first a child here asks (omega arith)
+    ];
   }
 
-  pub last_later : (at : Position) → visit.at ≡ Some at → IsLastVisited p visit.cell at.alternative visit.turns at.cuts
+  pub none_later : (at : Position) → visit.at ≡ Some at
+      → AreNotedBehind p Noted visit.cell at.alternative visit.turns at.cuts
       → length (arguments_of p.grammar visit.cell.rule at.alternative) ≤ at.number + 1
-      → IsNoneFrom p visit (turned at.alternative + 1) → IsLast p visit
-  last_later at stands none last no_later a here is behind =
-      no_later a here is (let l = only_later at stands none last a here is behind in omega arith)
+      → IsNoneLeft p Noted visit (turned at.alternative + 1) → IsNoneSought p Noted visit
+  none_later at stands noted last all_noted a child here asks behind =
+      elim (only_later at stands noted last a child here asks behind) [
+        | inl known ↦ known
+        | inr l ↦ all_noted a child here asks (omega arith)
+      ]
 
-  -- an alternative without a viable split has no argument
-  pub none_more : (from number alternative : ℕ) → turned alternative ≡ number → alternative < count
-      → ((others : List ℕ) → IsViable p visit.cell alternative others → ⊥)
-      → ((a : SplitArgument) → a.cell ≡ visit.cell → IsSplitArgument p a → from ≤ turned a.alternative
-      → turned a.alternative < number → ⊥)
-      → (a : SplitArgument) → a.cell ≡ visit.cell → IsSplitArgument p a → from ≤ turned a.alternative
-      → turned a.alternative < number + 1 → ⊥
-  none_more from number alternative at known none before a here is l m =
+  -- one more alternative whose cells are noted
+  pub noted_more : (from number alternative : ℕ) → turned alternative ≡ number → alternative < count
+      → AreAllNoted p Noted visit.cell alternative
+      → ((a : SplitArgument) (child : Cell) → a.cell ≡ visit.cell → AsksFor p a child → from ≤ turned a.alternative
+      → turned a.alternative < number → Noted child)
+      → (a : SplitArgument) (child : Cell) → a.cell ≡ visit.cell → AsksFor p a child → from ≤ turned a.alternative
+      → turned a.alternative < number + 1 → Noted child
+  noted_more from number alternative at known noted before a child here asks l m =
       elim (cases_lt (turned a.alternative) number) [
-        | inl less ↦ before a here is l less
+        | inl less ↦ before a child here asks l less
         | inr same ↦
-            let viable : IsViable p visit.cell a.alternative a.cuts =
-            subst (λ c. IsViable p c a.alternative a.cuts) here is.viable in
+            let it_is : a ≡ it a.alternative a.cuts a.number =
+            λ i. record { cell = here i; alternative = a.alternative; cuts = a.cuts; number = a.number } in
+            let asks' : AsksFor p (it a.alternative a.cuts a.number) child =
+            subst (λ x. AsksFor p x child) it_is asks in
             let e : turned a.alternative ≡ turned alternative = omega arith in
             let f : a.alternative ≡ alternative =
-            turned_same count visit.first a.alternative alternative walk.first viable.in_range known e in
-            none a.cuts (subst (λ o. IsViable p visit.cell o a.cuts) f viable)
+            turned_same count visit.first a.alternative alternative walk.first asks'.viable.in_range known e in
+            noted a.cuts a.number child (subst (λ o. AsksFor p (it o a.cuts a.number) child) f asks')
       ]
 
   -- what is found from a later alternative on
-  pub later_from : (at : Position) → visit.at ≡ Some at → IsLastVisited p visit.cell at.alternative visit.turns at.cuts
+  pub later_from : (at : Position) → visit.at ≡ Some at
+      → AreNotedBehind p Noted visit.cell at.alternative visit.turns at.cuts
       → length (arguments_of p.grammar visit.cell.rule at.alternative) ≤ at.number + 1
-      → (found : Option Position) → MatchOption found (IsNoneFrom p visit (turned at.alternative + 1))
-      (IsFirstFrom p visit (turned at.alternative + 1)) → MatchOption found (IsLast p visit) (IsNext p visit)
-  later_from at stands none last None is = last_later at stands none last is
-  later_from at stands none last (Some position) is = next_later at position stands none last is
+      → (found : Option Position) → MatchOption found (IsNoneLeft p Noted visit (turned at.alternative + 1))
+      (IsFirstLeft p Noted visit (turned at.alternative + 1))
+      → MatchOption found (IsNoneSought p Noted visit) (IsNextLeft p Noted visit)
+  later_from at stands noted last None is = none_later at stands noted last is
+  later_from at stands noted last (Some position) is = next_later at position stands noted last is
 
-  pub start_from : visit.at ≡ None → (found : Option Position) → MatchOption found (IsNoneFrom p visit 0)
-      (IsFirstFrom p visit 0) → MatchOption found (IsLast p visit) (IsNext p visit)
-  start_from fresh None is = λ a here argument behind. is a here argument (omega arith)
+  pub start_from : visit.at ≡ None → (found : Option Position) → MatchOption found (IsNoneLeft p Noted visit 0)
+      (IsFirstLeft p Noted visit 0) → MatchOption found (IsNoneSought p Noted visit) (IsNextLeft p Noted visit)
+  start_from fresh None is = λ a child here asks behind. is a child here asks (omega arith)
   start_from fresh (Some position) is = next_from_start position fresh is

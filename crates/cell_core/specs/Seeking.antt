@@ -1,5 +1,5 @@
 -- The next argument whose cell isn't noted, in the order of a walk.
-use Rattle.std.specs.Prelude.{◌≡◌, ◌⊎◌, ℕ, ◌≤◌, true, false, Some, length}
+use Rattle.std.specs.Prelude.{◌≡◌, ◌⊎◌, ℕ, ◌≤◌, true, false, Some, List, length}
 use Rattle.adp_model.specs.declared.cell.Cell.{Cell}
 use Rattle.adp_model.specs.PosedProblem.{PosedProblem}
 use Rattle.adp_model.specs.Parts.{alternatives_of}
@@ -7,6 +7,7 @@ use Rattle.adp_model.specs.declared.visit.Position.{Position}
 use Rattle.adp_model.specs.declared.visit.Visit.{Visit}
 use Rattle.adp_model.specs.SplitArguments.{SplitArgument, AsksFor, IsSplitArgument}
 use Rattle.adp_model.specs.Visits.{argument_at, turned_number, is_before, is_behind}
+use Rattle.adp_model.specs.Walk.{IsVisitedBefore}
 
 -- the walk, at another position
 abbrev pub moved_to : Visit → Position → Visit
@@ -17,21 +18,28 @@ abbrev pub turned_of : PosedProblem → Visit → ℕ → ℕ
 turned_of p visit alternative =
     turned_number (length (alternatives_of p.grammar visit.cell.rule)) visit.first alternative
 
--- behind the walk's position the argument there is the next one
-pub record IsNext (p : PosedProblem) (visit : Visit) (position : Position) : Type 0 where
+-- each cell that the alternative's splits ask for is noted
+abbrev pub AreAllNoted : PosedProblem → (Cell → Type 0) → Cell → ℕ → Type 0
+AreAllNoted p Noted cell alternative =
+    (cuts : List ℕ) (number : ℕ) (child : Cell)
+    → AsksFor p (record { cell = cell; alternative = alternative; cuts = cuts; number = number }) child
+    → Noted child
+
+-- each one that they ask for behind these cuts is
+abbrev pub AreNotedBehind : PosedProblem → (Cell → Type 0) → Cell → ℕ → List ℕ → List ℕ → Type 0
+AreNotedBehind p Noted cell alternative turns before =
+    (cuts : List ℕ) (number : ℕ) (child : Cell) → IsVisitedBefore cell turns before cuts
+    → AsksFor p (record { cell = cell; alternative = alternative; cuts = cuts; number = number }) child
+    → Noted child
+
+-- behind the walk's position the argument there is the next one, but for some whose cells are noted
+pub record IsNextLeft (p : PosedProblem) (Noted : Cell → Type 0) (visit : Visit) (position : Position) : Type 0 where
   pub is_argument : IsSplitArgument p (argument_at visit.cell position)
   pub behind : is_behind p visit (argument_at visit.cell position) ≡ true
-  pub next : (argument : SplitArgument) → argument.cell ≡ visit.cell → IsSplitArgument p argument
+  pub next : (argument : SplitArgument) (child : Cell) → argument.cell ≡ visit.cell → AsksFor p argument child
       → is_behind p visit argument ≡ true
-      → (argument ≡ argument_at visit.cell position)
-      ⊎ (is_before p visit (argument_at visit.cell position) argument ≡ true)
-
--- there is none
-abbrev pub IsLast : PosedProblem → Visit → Type 0
-IsLast p visit =
-    (argument : SplitArgument) → argument.cell ≡ visit.cell → IsSplitArgument p argument
-    → is_behind p visit argument ≡ true
-    → ⊥
+      → Noted child ⊎ ((argument ≡ argument_at visit.cell position)
+      ⊎ (is_before p visit (argument_at visit.cell position) argument ≡ true))
 
 -- behind the walk's position the argument there is the first one whose cell isn't noted
 pub record IsNextSought (p : PosedProblem) (Noted : Cell → Type 0) (visit : Visit) (position : Position) (child : Cell)
@@ -51,17 +59,19 @@ IsNoneSought p Noted visit =
     (argument : SplitArgument) (other : Cell) → argument.cell ≡ visit.cell → AsksFor p argument other
     → is_behind p visit argument ≡ true → Noted other
 
--- the first argument of the alternatives that are visited from this turned number on
-pub record IsFirstFrom (p : PosedProblem) (visit : Visit) (from : ℕ) (position : Position) : Type 0 where
+-- the argument is the first one of the alternatives that are visited from this turned number on, but for some whose
+-- cells are noted
+pub record IsFirstLeft (p : PosedProblem) (Noted : Cell → Type 0) (visit : Visit) (from : ℕ) (position : Position)
+    : Type 0 where
   pub is_argument : IsSplitArgument p (argument_at visit.cell position)
   pub behind : from ≤ turned_of p visit position.alternative
-  pub first : (argument : SplitArgument) → argument.cell ≡ visit.cell → IsSplitArgument p argument
+  pub first : (argument : SplitArgument) (child : Cell) → argument.cell ≡ visit.cell → AsksFor p argument child
       → from ≤ turned_of p visit argument.alternative
-      → (argument ≡ argument_at visit.cell position)
-      ⊎ (is_before p visit (argument_at visit.cell position) argument ≡ true)
+      → Noted child ⊎ ((argument ≡ argument_at visit.cell position)
+      ⊎ (is_before p visit (argument_at visit.cell position) argument ≡ true))
 
--- there is none
-abbrev pub IsNoneFrom : PosedProblem → Visit → ℕ → Type 0
-IsNoneFrom p visit from =
-    (argument : SplitArgument) → argument.cell ≡ visit.cell → IsSplitArgument p argument
-    → from ≤ turned_of p visit argument.alternative → ⊥
+-- each cell that they ask for is noted
+abbrev pub IsNoneLeft : PosedProblem → (Cell → Type 0) → Visit → ℕ → Type 0
+IsNoneLeft p Noted visit from =
+    (argument : SplitArgument) (child : Cell) → argument.cell ≡ visit.cell → AsksFor p argument child
+    → from ≤ turned_of p visit argument.alternative → Noted child

@@ -5,6 +5,7 @@ mod cell_notes;
 mod machine;
 mod noted_cells;
 mod notes;
+mod passing;
 mod plain_memo;
 mod seeking;
 mod skipping;

@@ -1,6 +1,6 @@
 //! The walk over the arguments of a cell's splits, in the order of a visit.
 
-ghost use Rattle.std.specs.Prelude.{◌≡◌, ◌-◌, ◌<◌, ◌≤◌, ℕ, MatchOption, List, ◌∷◌, length, slice_index};
+ghost use Rattle.std.specs.Prelude.{◌≡◌, ◌-◌, ◌<◌, ◌≤◌, MatchOption, ◌∷◌, length, slice_index};
 ghost use Rattle.std.specs.Bool.{OnTrue, OnFalse};
 ghost use Rattle.std.specs.List.{AllByRecursion};
 ghost use Rattle.adp_model.specs.declared.cell.Cell.{Cell as AnyCell};
@@ -10,8 +10,11 @@ ghost use Rattle.adp_model.specs.Splits.{ends_by, IsViable};
 ghost use Rattle.adp_model.specs.SplitArguments.{IsSplitArgument, AsksFor};
 ghost use Rattle.adp_model.specs.Visits.{argument_at, turned_number, IsWalk};
 ghost use Rattle.adp_model.specs.Walk.{IsFirstVisited, IsNextVisited, IsLastVisited};
-ghost use Rattle.cell_core.specs.Seeking.{IsLast, IsNext, IsFirstFrom, IsNoneFrom};
+ghost use Rattle.cell_core.specs.Seeking.{AreAllNoted, AreNotedBehind, IsFirstLeft, IsNextLeft, IsNoneLeft, IsNoneSought};
 
+use crate::noted_cells::NotedCells;
+use crate::passing::are_all_noted;
+use crate::skipping::reached;
 use adp_model::laws::splits::ranks_tell_splits_apart;
 use adp_model::laws::well_formed::alternatives_fit;
 use adp_model::{Arg, Cell, Position, Problem, Visit};
@@ -30,10 +33,12 @@ fn alternative_behind(first: u32, count: u32, turned: u32) -> u32
     rotated(first, count, turned)
 }
 
-/// Whether an alternative has a viable split of the cell; if so, `cuts` are then the one that is visited first.
-fn first_viable(
+/// Whether an alternative has a viable split of the cell, unless all cells that its splits ask for are seen to be
+/// noted; if so, `cuts` are then the one that is visited first.
+fn first_left<N: NotedCells>(
     lines: &Lines<'_>,
     problem: &Problem<'_>,
+    noted: &N,
     cell: Cell,
     alt: u8,
     turns: [u32; 3],
@@ -44,15 +49,20 @@ fn first_viable(
     requires alternative { alt < length (alternatives_of problem.now.grammar cell.rule) }
     requires turns { AllByRecursion (λ turn. turn ≤ cell.to - cell.from) turns }
     ensures first { OnTrue result (IsFirstVisited problem.now cell alt turns cuts.new.at) }
-    ensures none { OnFalse result ((others : List ℕ) → IsViable problem.now cell alt others → ⊥) }
+    ensures none { OnFalse result (AreAllNoted problem.now (N.is_noted noted.now) cell alt) }
 {
+    if are_all_noted(lines, noted, cell, alt) {
+        return false;
+    }
     lines.first_viable(cell, alt, turns, cuts)
 }
 
-/// Whether a viable split is visited behind `cuts`; if so, they are then the next one.
-fn next_viable(
+/// Whether a viable split is visited behind `cuts`, unless all cells that the alternative's splits ask for are seen to
+/// be noted; if so, they are then the next one.
+fn next_left<N: NotedCells>(
     lines: &Lines<'_>,
     problem: &Problem<'_>,
+    noted: &N,
     cell: Cell,
     alt: u8,
     cuts: &mut Cuts,
@@ -62,22 +72,29 @@ fn next_viable(
     requires turns { AllByRecursion (λ turn. turn ≤ cell.to - cell.from) cuts.old.turns }
     requires viable { IsViable problem.now cell alt cuts.old.at }
     ensures next { OnTrue result (IsNextVisited problem.now cell alt cuts.old.turns cuts.old.at cuts.new.at) }
-    ensures last { OnFalse result (IsLastVisited problem.now cell alt cuts.old.turns cuts.old.at) }
+    ensures last { OnFalse result
+        (AreNotedBehind problem.now (N.is_noted noted.now) cell alt cuts.old.turns cuts.old.at) }
 {
+    if are_all_noted(lines, noted, cell, alt) {
+        return false;
+    }
     lines.next_viable(cell, alt, cuts)
 }
 
-/// The first argument of the alternatives that the visit comes to from this turned number on. Takes no memory.
-fn first_from(
+/// The first argument of the alternatives that the visit comes to from this turned number on, but for alternatives
+/// whose cells are all noted. Takes no memory.
+fn first_from<N: NotedCells>(
     lines: &Lines<'_>,
     problem: &Problem<'_>,
+    noted: &N,
     visit: Visit,
     turned: u32,
 ) -> Option<Position>
     requires same { lines.now ≡ problem.now }
     requires span { IsSpan problem.now.word visit.cell.from visit.cell.to }
     requires walk { IsWalk problem.now visit }
-    ensures { MatchOption result (IsNoneFrom problem.now visit turned) (IsFirstFrom problem.now visit turned) }
+    ensures { MatchOption result (IsNoneLeft problem.now (N.is_noted noted.now) visit turned)
+        (IsFirstLeft problem.now (N.is_noted noted.now) visit turned) }
 {
     problem.admissible();
     alternatives_fit();
@@ -87,7 +104,15 @@ fn first_from(
     let mut cuts = Cuts { at: [0; 3], turns };
     for number in turned..count {
         let alternative = alternative_behind(visit.first, count, number) as u8;
-        if first_viable(lines, problem, visit.cell, alternative, turns, &mut cuts) {
+        if first_left(
+            lines,
+            problem,
+            noted,
+            visit.cell,
+            alternative,
+            turns,
+            &mut cuts,
+        ) {
             let cuts = cuts.at;
             return Some(Position {
                 alternative,
@@ -99,19 +124,21 @@ fn first_from(
     None
 }
 
-/// The argument that the visit comes to next. Takes no memory.
-pub(crate) fn next_position(
+/// The argument that the visit comes to next, but for some whose cells are noted. Takes no memory.
+pub(crate) fn next_position<N: NotedCells>(
     lines: &Lines<'_>,
     problem: &Problem<'_>,
+    noted: &N,
     visit: Visit,
 ) -> Option<Position>
     requires same { lines.now ≡ problem.now }
     requires span { IsSpan problem.now.word visit.cell.from visit.cell.to }
     requires walk { IsWalk problem.now visit }
-    ensures { MatchOption result (IsLast problem.now visit) (IsNext problem.now visit) }
+    ensures { MatchOption result (IsNoneSought problem.now (N.is_noted noted.now) visit)
+        (IsNextLeft problem.now (N.is_noted noted.now) visit) }
 {
     let Some(at) = visit.at else {
-        return first_from(lines, problem, visit, 0);
+        return first_from(lines, problem, noted, visit, 0);
     };
     problem.admissible();
     alternatives_fit();
@@ -125,10 +152,13 @@ pub(crate) fn next_position(
             number: at.number + 1,
         });
     }
+    if let Some(position) = reached(lines, problem, noted, visit, at) {
+        return Some(position);
+    }
     let here = at.cuts;
     let turns = visit.turns;
     let mut cuts = Cuts { at: here, turns };
-    if next_viable(lines, problem, visit.cell, at.alternative, &mut cuts) {
+    if next_left(lines, problem, noted, visit.cell, at.alternative, &mut cuts) {
         let cuts = cuts.at;
         return Some(Position {
             alternative: at.alternative,
@@ -137,7 +167,7 @@ pub(crate) fn next_position(
         });
     }
     let turned = (u32::from(at.alternative) + count - visit.first) % count;
-    first_from(lines, problem, visit, turned + 1)
+    first_from(lines, problem, noted, visit, turned + 1)
 }
 
 /// Where an argument of a split begins, as a position in the word.

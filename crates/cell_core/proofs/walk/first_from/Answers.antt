@@ -1,30 +1,30 @@
 use Rattle.std.proofs.Common.{◌≡◌, ◌<◌, length, subst, ap, arith}
 use Rattle.adp_model.specs.Visits.{turned_number}
 use Rattle.cell_core.specs.Seeking.{turned_of}
-use Rattle.cell_core.proofs.Walks.{first_from_is, none_more}
+use Rattle.cell_core.proofs.Walks.{first_from_is, noted_more}
 use Rattle.cell_core.proofs.walk.first_from.Goals as goal
 
 pub overflow_cast-count : goal.overflow_cast-count
-overflow_cast-count c =
+overflow_cast-count g c =
     let e = ap length c.alternatives.ensures.alternatives in
     let few = c.alternatives.ensures.few in
     omega arith
 
 pub alternative_behind-alternative-requires-clause-few : goal.alternative_behind-alternative-requires-clause-few
-alternative_behind-alternative-requires-clause-few c =
+alternative_behind-alternative-requires-clause-few g c =
     let e = ap length c.alternatives.ensures.alternatives in
     let few = c.alternatives.ensures.few in
     omega arith
 
 pub overflow_cast-alternative : goal.overflow_cast-alternative
-overflow_cast-alternative c =
+overflow_cast-alternative g c =
     let e = ap length c.alternatives.ensures.alternatives in
     let few = c.alternatives.ensures.few in
     let below = c.alternative_behind-alternative.ensures.below in
     omega arith
 
-pub returns-then-first_viable : goal.returns-then-first_viable
-returns-then-first_viable c =
+pub returns-then-first_left : goal.returns-then-first_left
+returns-then-first_left g c =
     let p = c.args.problem.now in
     let v = c.args.visit in
     let formed = c.admissible.ensures.checked.well_formed in
@@ -32,18 +32,19 @@ returns-then-first_viable c =
     let at : turned_of p v c.alternative_behind-alternative.result ≡ c.loop-number.number =
     subst (λ n. turned_number n v.first c.alternative_behind-alternative.result ≡ c.loop-number.number) e
     c.alternative_behind-alternative.ensures.turned in
-    let first = c.if-first_viable.ensures.first in
-    first_from_is p v c.requires.walk c.requires.walk.three
+    let first = c.if-first_left.ensures.first in
+    first_from_is p (g.N.NotedCells.is_noted c.args.noted.now) v c.requires.walk c.requires.walk.three
     (c.ranks_tell_splits_apart.ensures p formed v.cell v.turns c.requires.span.in_order c.requires.walk.three
     c.requires.walk.turns)
-    c.args.turned c.alternative_behind-alternative.result c.first_viable.new.cuts.at first
+    c.args.turned c.alternative_behind-alternative.result c.first_left.new.cuts.at first
     (c.alternatives_fit.ensures.arguments p.grammar formed v.cell.rule c.alternative_behind-alternative.result
     first.viable.in_range)
     (let l = c.loop-number.auto.number in omega arith)
-    (λ a here is l m. c.loop-number.invariant.none a here is l (subst (λ n. turned_of p v a.alternative < n) at m))
+    (λ a child here asks l m. c.loop-number.invariant.noted a child here asks l
+    (subst (λ n. turned_of p v a.alternative < n) at m))
 
 pub loop-number-preserved : goal.loop-number-preserved
-loop-number-preserved c =
+loop-number-preserved g c =
     let p = c.args.problem.now in
     let v = c.args.visit in
     let formed = c.admissible.ensures.checked.well_formed in
@@ -53,9 +54,9 @@ loop-number-preserved c =
     c.alternative_behind-alternative.ensures.turned in
     let below = c.alternative_behind-alternative.ensures.below in
     record {
-      none = none_more p v c.requires.walk c.requires.walk.three
+      noted = noted_more p (g.N.NotedCells.is_noted c.args.noted.now) v c.requires.walk c.requires.walk.three
           (c.ranks_tell_splits_apart.ensures p formed v.cell v.turns c.requires.span.in_order c.requires.walk.three
           c.requires.walk.turns)
           c.args.turned c.loop-number.number c.alternative_behind-alternative.result at
-          (omega arith) c.if-first_viable.ensures.none c.loop-number.invariant.none;
+          (omega arith) c.if-first_left.ensures.none c.loop-number.invariant.noted;
     }

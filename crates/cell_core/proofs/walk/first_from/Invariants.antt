@@ -1,12 +1,13 @@
 use Rattle.std.specs.Prelude.{◌≡◌, ◌<◌, ◌≤◌}
-use Rattle.adp_model.specs.SplitArguments.{SplitArgument, IsSplitArgument}
+use Rattle.adp_model.specs.declared.cell.Cell.{Cell}
+use Rattle.adp_model.specs.SplitArguments.{SplitArgument, AsksFor}
 use Rattle.cell_core.specs.Seeking.{turned_of}
 use Rattle.cell_core.proofs.walk.first_from.Given as goal
 
--- no alternative that was tried has an argument
+-- the cells that the alternatives ask for that were tried are noted
 abbrev pub invariant-loop-number : goal.invariant-loop-number
-invariant-loop-number l = record {
-  none : (argument : SplitArgument) → argument.cell ≡ l.visit.cell → IsSplitArgument l.problem argument
+invariant-loop-number g l = record {
+  noted : (argument : SplitArgument) (child : Cell) → argument.cell ≡ l.visit.cell → AsksFor l.problem argument child
       → l.turned ≤ turned_of l.problem l.visit argument.alternative
-      → turned_of l.problem l.visit argument.alternative < l.number → ⊥;
+      → turned_of l.problem l.visit argument.alternative < l.number → g.N.NotedCells.is_noted l.noted child;
 }

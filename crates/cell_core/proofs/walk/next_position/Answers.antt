@@ -1,18 +1,18 @@
 use Rattle.std.proofs.Common.{◌≡◌, ◌+◌, ◌-◌, ◌%◌, length, subst, ap, arith}
 use Rattle.std.specs.Prelude.{MatchOption}
 use Rattle.std.proofs.lemmas.Nat.{mod_below}
-use Rattle.cell_core.specs.Seeking.{turned_of, IsNoneFrom, IsFirstFrom}
-use Rattle.cell_core.proofs.Walks.{next_in_split, next_in_alternative, later_from}
+use Rattle.cell_core.specs.Seeking.{turned_of, IsNoneLeft, IsFirstLeft}
+use Rattle.cell_core.proofs.Walks.{next_in_split, next_in_alternative, next_reached, later_from}
 use Rattle.cell_core.proofs.walk.next_position.Goals as goal
 
 pub overflow_cast-count : goal.overflow_cast-count
-overflow_cast-count c =
+overflow_cast-count g c =
     let e = ap length c.alternatives.ensures.alternatives in
     let few = c.alternatives.ensures.few in
     omega arith
 
 pub overflow_add-result : goal.overflow_add-result
-overflow_add-result c =
+overflow_add-result g c =
     let p = c.args.problem.now in
     let v = c.args.visit in
     let formed = c.admissible.ensures.checked.well_formed in
@@ -22,34 +22,44 @@ overflow_add-result c =
     omega arith
 
 pub returns-then-at-arguments : goal.returns-then-at-arguments
-returns-then-at-arguments c =
+returns-then-at-arguments g c =
     let p = c.args.problem.now in
     let v = c.args.visit in
     let formed = c.admissible.ensures.checked.well_formed in
     let e = ap length c.arguments.ensures.arguments in
     let l = c.if-at-arguments.true in
-    next_in_split p v c.requires.walk c.requires.walk.three
+    next_in_split p (g.N.NotedCells.is_noted c.args.noted.now) v c.requires.walk c.requires.walk.three
     (c.ranks_tell_splits_apart.ensures p formed v.cell v.turns c.requires.span.in_order c.requires.walk.three
     c.requires.walk.turns)
     c.in-Some.at c.in-Some.is (omega arith)
 
-pub returns-then-next_viable : goal.returns-then-next_viable
-returns-then-next_viable c =
+pub returns-in-Some-reached : goal.returns-in-Some-reached
+returns-in-Some-reached g c =
+    let p = c.args.problem.now in
+    let v = c.args.visit in
+    let formed = c.admissible.ensures.checked.well_formed in
+    next_reached p (g.N.NotedCells.is_noted c.args.noted.now) v c.requires.walk c.requires.walk.three
+    (c.ranks_tell_splits_apart.ensures p formed v.cell v.turns c.requires.span.in_order c.requires.walk.three
+    c.requires.walk.turns)
+    c.in-Some.at c.in-Some.is c.in-Some-reached.position c.in-Some-reached.ensures
+
+pub returns-then-next_left : goal.returns-then-next_left
+returns-then-next_left g c =
     let p = c.args.problem.now in
     let v = c.args.visit in
     let formed = c.admissible.ensures.checked.well_formed in
     let e = ap length c.arguments.ensures.arguments in
     let l = c.if-at-arguments.false in
-    let first = c.if-next_viable.ensures.next in
-    next_in_alternative p v c.requires.walk c.requires.walk.three
+    let first = c.if-next_left.ensures.next in
+    next_in_alternative p (g.N.NotedCells.is_noted c.args.noted.now) v c.requires.walk c.requires.walk.three
     (c.ranks_tell_splits_apart.ensures p formed v.cell v.turns c.requires.span.in_order c.requires.walk.three
     c.requires.walk.turns)
-    c.in-Some.at c.in-Some.is c.next_viable.new.cuts.at first
+    c.in-Some.at c.in-Some.is c.next_left.new.cuts.at first
     (c.alternatives_fit.ensures.arguments p.grammar formed v.cell.rule c.in-Some.at.alternative
     first.viable.in_range) (omega arith)
 
 pub overflow_add-turned : goal.overflow_add-turned
-overflow_add-turned c =
+overflow_add-turned g c =
     let p = c.args.problem.now in
     let v = c.args.visit in
     let formed = c.admissible.ensures.checked.well_formed in
@@ -60,7 +70,7 @@ overflow_add-turned c =
     omega arith
 
 pub overflow_add-turned-2 : goal.overflow_add-turned-2
-overflow_add-turned-2 c =
+overflow_add-turned-2 g c =
     let p = c.args.problem.now in
     let v = c.args.visit in
     let formed = c.admissible.ensures.checked.well_formed in
@@ -72,7 +82,7 @@ overflow_add-turned-2 c =
     omega arith
 
 pub returns : goal.returns
-returns c =
+returns g c =
     let p = c.args.problem.now in
     let v = c.args.visit in
     let formed = c.admissible.ensures.checked.well_formed in
@@ -83,8 +93,9 @@ returns c =
     let same : (c.from.result + length c.alternatives.result.now - v.first) % length c.alternatives.result.now + 1 ≡
     turned_of p v c.in-Some.at.alternative + 1 =
     λ i. (f i + n i - v.first) % n i + 1 in
-    later_from p v c.requires.walk c.requires.walk.three
+    later_from p (g.N.NotedCells.is_noted c.args.noted.now) v c.requires.walk c.requires.walk.three
     (c.ranks_tell_splits_apart.ensures p formed v.cell v.turns c.requires.span.in_order c.requires.walk.three
     c.requires.walk.turns)
-    c.in-Some.at c.in-Some.is c.if-next_viable.ensures.last (omega arith) c.first_from-2.result
-    (subst (λ x. MatchOption c.first_from-2.result (IsNoneFrom p v x) (IsFirstFrom p v x)) same c.first_from-2.ensures)
+    c.in-Some.at c.in-Some.is c.if-next_left.ensures.last (omega arith) c.first_from-2.result
+    (subst (λ x. MatchOption c.first_from-2.result (IsNoneLeft p (g.N.NotedCells.is_noted c.args.noted.now) v x)
+    (IsFirstLeft p (g.N.NotedCells.is_noted c.args.noted.now) v x)) same c.first_from-2.ensures)
