@@ -1,4 +1,4 @@
-use Rattle.std.proofs.Common.{◌≡◌, ℕ, ℤ, Option, Some, None, List, FitsSigned, w64, subst, arith, rules}
+use Rattle.std.proofs.Common.{ℕ, Option, Some, None, List, FitsSigned, w64, subst, arith, rules}
 use Rattle.std.specs.Prelude.{MatchOption}
 use Rattle.std.specs.List.{Contains}
 use Rattle.std.proofs.lemmas.Int.{to_z-of_z}
