@@ -1,9 +1,7 @@
-use Rattle.std.proofs.Common.{◌≡◌, ◌+◌, ◌-◌, ◌<◌, ◌≤◌, ℕ, suc, ℤ, ◌+ℤ◌, ◌-ℤ◌, ◌*ℤ◌, Option, Some, None, List, [], ◌∷◌, length, get_or, take, drop, ap, FitsSigned, w64, to_z, of_z, nat_abs, sym, refl, subst, ◌∙◌, arith, rules}
-use Rattle.std.specs.Prelude.{IfSome, ◌==◌, if◌then◌else◌}
-use Rattle.std.specs.Option.{option_copied}
+use Rattle.std.proofs.Common.{◌≡◌, ◌+◌, ◌-◌, ◌≤◌, ℕ, suc, ℤ, ◌+ℤ◌, ◌-ℤ◌, ◌*ℤ◌, Some, List, [], ◌∷◌, length, get_or, take, drop, ap, FitsSigned, w64, to_z, of_z, nat_abs, sym, subst, ◌∙◌, arith, rules}
+use Rattle.std.specs.Prelude.{IfSome}
 use Rattle.std.proofs.lemmas.Int.{ints, to_z-of_z, fits_signed_from_abs}
 use Rattle.adp_model.specs.declared.grammar.Arg.{Arg}
-use Rattle.split_lines.specs.declared.lines.Line.{Line}
 use Rattle.split_lines.specs.Lines.{IsLine}
 use Rattle.adp_model.specs.PosedProblem.{PosedProblem}
 use Rattle.adp_model.specs.ProblemFields.{greatest_score}
@@ -17,14 +15,12 @@ use Rattle.cell_answers.specs.Totals.{HasTotal}
 use Rattle.score_numbers.specs.Greatest.{IsGreatestOf}
 use Rattle.cell_answers.proofs.Bounding.{best_within}
 use Rattle.cell_answers.proofs.Scoring.{one_score}
-use Rattle.cell_answers.proofs.LineStarts.{line_now}
 use Rattle.cell_answers.proofs.FirstEnds.{AreLaid, AreSound, first_low, first_known_entry, rest_laid, parts_low}
 use Rattle.cell_answers.proofs.Totalling.{values_cover}
 use Rattle.cell_answers.proofs.Dividing.{cover_forward}
-use Rattle.cell_answers.proofs.OneEnds.{empty_without}
-use Rattle.cell_answers.proofs.LaidEnds.{IsFirstEndOf, all_there, end_of_first, first_more, front_same, none_here, rest_greatest}
+use Rattle.cell_answers.proofs.LaidEnds.{IsFirstEndOf, end_of_first, first_more, front_same, none_here, rest_greatest}
 use Rattle.cell_answers.proofs.answer_cuts.+first_ends.Goals as goal
-use Rattle.cell_answers.proofs.answer_cuts.+first_ends.Goals.{After-answer_is_unique, After-first_end-end, After-rest-1}
+use Rattle.cell_answers.proofs.answer_cuts.+first_ends.Goals.{After-answer_is_unique, After-first_end-end}
 
 pub returns-in_default : goal.returns-in_default
 returns-in_default t c room l m =
