@@ -11,7 +11,7 @@ use Rattle.adp_model.specs.Terms.{weighted_sum}
 use Rattle.adp_model.specs.Splits.{AtRule, FitsSpan}
 use Rattle.adp_model.specs.FirstSplit.{IsValue}
 use Rattle.adp_model.specs.Bellman.{HasBestScore}
-use Rattle.yield_sizes.specs.Placing.{on_span, ArePlaces}
+use Rattle.yield_sizes.specs.Placing.{on_span, ArePlaces, Cover}
 use Rattle.cell_tables.specs.Tables.{Table}
 use Rattle.score_numbers.specs.Greatest.{IsGreatestOf}
 use Rattle.cell_answers.specs.Entries.{HasEntry}
@@ -197,6 +197,38 @@ end_along p arguments factors from to total place greatest it =
       there = subst (HasTotalAt p (HasBestScore p) it.argument it.others it.factor it.more from place to) same it.there;
       first = λ other at. it.first other (subst (HasTotalAt p (HasBestScore p) it.argument it.others it.factor it.more from other to) (sym same) at);
     }
+
+-- ---- an end without a choice
+
+-- arguments that have a total, where lengths leave the first one no other end, have it with that end first
+pub only_first : (p : PosedProblem) (arguments : List Arg) (factors : List ℤ) (argument : Arg) (others : List Arg) (from to : ℕ) (total : ℤ) (only : ℕ) → arguments ≡ argument ∷ others → length factors ≡ length arguments
+    → HasTotal p (HasBestScore p) arguments factors from to total → ((end : ℕ) → FitsSpan p (on_span argument from end) → Cover p others end to → end ≡ only) → IsFirstEnd p arguments factors from to total only
+only_first p arguments [] argument others from to total only are each has one = absurd (omega (arith, each, ap length are))
+only_first p arguments (factor ∷ factors) argument others from to total only are each has one =
+    subst (λ them. IsFirstEnd p them (factor ∷ factors) from to total only) (sym are) (record {
+      argument = argument;
+      others = others;
+      factor = factor;
+      more = factors;
+      arguments_are = refl;
+      factors_are = refl;
+      there = subst (λ at. HasTotalAt p (HasBestScore p) argument others factor factors from at to total) (stands it.0 it.1) it.1;
+      first = λ end at. omega (arith, stands end at);
+    })
+  where
+    stands : (end : ℕ) → HasTotalAt p (HasBestScore p) argument others factor factors from end to total → end ≡ only
+    stands end at = one end at.fits (values_cover p (HasBestScore p) others end to at.have_others.0 at.have_others.1)
+
+    it : (end : ℕ) × HasTotalAt p (HasBestScore p) argument others factor factors from end to total
+    it = total_at p (HasBestScore p) argument others factor factors from to total (subst (λ them. HasTotal p (HasBestScore p) them (factor ∷ factors) from to total) are has)
+
+-- and they are laid somehow
+pub laid_of_total : (p : PosedProblem) (arguments : List Arg) (factors : List ℤ) (argument : Arg) (others : List Arg) (from to : ℕ) (total : ℤ) → arguments ≡ argument ∷ others → length factors ≡ length arguments → HasTotal p (HasBestScore p) arguments factors from to total
+    → (end : ℕ) × FitsSpan p (on_span argument from end) × Cover p others end to
+laid_of_total p arguments [] argument others from to total are each has = absurd (omega (arith, each, ap length are))
+laid_of_total p arguments (factor ∷ factors) argument others from to total are each has =
+    let it = total_at p (HasBestScore p) argument others factor factors from to total (subst (λ them. HasTotal p (HasBestScore p) them (factor ∷ factors) from to total) are has) in
+    (it.0, it.1.fits, values_cover p (HasBestScore p) others it.0 to it.1.have_others.0 it.1.have_others.1)
 
 -- ---- of the arguments as they are split
 

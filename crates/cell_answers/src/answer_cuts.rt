@@ -25,6 +25,7 @@ ghost use Rattle.cell_answers.specs.Totals.{AreLow, AreWeighted, HasTotal};
 use crate::along::{greatest_front, scales_of, total_through};
 use crate::argument_values::{Numbers, argument_value};
 use crate::filling::{Best, Known, cell_best, greatest_total};
+use crate::only_ends::only_end;
 use crate::opened::{OpenedLine, open_line};
 use crate::scores::Scores;
 use adp_model::laws::bellman::bellman;
@@ -224,6 +225,48 @@ fn line_left(line: Option<Line<'_>>, ahead: u8) -> (Option<Line<'_>>, u8)
     }
 }
 
+/// The first end of the first of these arguments with which they have this total, their greatest. If the arguments have
+/// a line, `ahead` of them come before it.
+fn first_end(
+    known: &Known<'_, '_>,
+    ahead: u8,
+    arguments: &[Arg],
+    factors: &[i64],
+    from: u16,
+    to: u16,
+    total: i64,
+) -> u16
+    requires same_problem { known.now.scores.now.problem ≡ known.now.lines.now }
+    requires line { IfSome known.now.line (λ line. IsLine known.now.lines.now (drop ahead arguments.now) line) }
+    requires some { 0 < length arguments.now }
+    requires weighted { AreWeighted known.now.lines.now arguments.now factors.now }
+    requires span { IsSpan known.now.lines.now.word from to }
+    requires scored { (cell : Cell) → Demands known.now.lines.now arguments.now from to cell
+        → HasEntry known.now.scores.now cell }
+    requires low { AreLow known.now.lines.now arguments.now factors.now from to }
+    requires greatest { IsGreatestOf (HasTotal known.now.lines.now (HasBestScore known.now.lines.now)
+        arguments.now factors.now from to) (Some total) }
+    ensures { IsFirstEnd known.now.lines.now arguments.now factors.now from to total result }
+{
+    let Known { lines, scores, .. } = *known;
+    let Some((argument, others)) = arguments.split_first() else {
+        unreachable!()
+    };
+    if let Some(end) = only_end(argument, others, from, to) {
+        return end;
+    }
+    if let Some(line) = line_here(known.line.as_ref(), ahead) {
+        return end_along(lines, scores, *line, arguments, factors, from, to, total);
+    }
+    let (line, later) = line_left(known.line, ahead);
+    let behind = Known {
+        lines,
+        scores,
+        line,
+    };
+    end_among(&behind, later, arguments, factors, from, to, total)
+}
+
 /// The first ends with which the arguments, laid from `from` to `to`, have this total, their greatest; ends that are
 /// left over stand at `to`. If the arguments have a line, `ahead` of them come before it.
 fn first_ends(
@@ -257,15 +300,12 @@ fn first_ends(
     lines.problem().admissible();
     bounds_are_sound();
     answer_is_unique();
+    let end = first_end(known, ahead, arguments, factors, from, to, total);
     let (line, later) = line_left(known.line, ahead);
     let behind = Known {
         lines,
         scores,
         line,
-    };
-    let end = match line_here(known.line.as_ref(), ahead) {
-        Some(line) => end_along(lines, scores, *line, arguments, factors, from, to, total),
-        None => end_among(&behind, later, arguments, factors, from, to, total),
     };
     let Some(value) = argument_value(lines, scores, argument, from, end) else {
         unreachable!()

@@ -6,6 +6,7 @@ mod along;
 mod answer_cuts;
 mod argument_values;
 mod filling;
+mod only_ends;
 mod opened;
 mod scores;
 

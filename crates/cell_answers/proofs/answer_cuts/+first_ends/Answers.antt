@@ -1,9 +1,7 @@
-use Rattle.std.proofs.Common.{◌≡◌, ◌+◌, ◌-◌, ◌<◌, ◌≤◌, ℕ, suc, ℤ, ◌+ℤ◌, ◌-ℤ◌, ◌*ℤ◌, Option, Some, None, List, [], ◌∷◌, length, get_or, take, drop, ap, FitsSigned, w64, to_z, of_z, nat_abs, sym, refl, subst, ◌∙◌, arith, rules}
-use Rattle.std.specs.Prelude.{IfSome, ◌==◌, if◌then◌else◌}
-use Rattle.std.specs.Option.{option_copied}
+use Rattle.std.proofs.Common.{◌≡◌, ◌+◌, ◌-◌, ◌≤◌, ℕ, suc, ℤ, ◌+ℤ◌, ◌-ℤ◌, ◌*ℤ◌, Some, List, [], ◌∷◌, length, get_or, take, drop, ap, FitsSigned, w64, to_z, of_z, nat_abs, sym, subst, ◌∙◌, arith, rules}
+use Rattle.std.specs.Prelude.{IfSome}
 use Rattle.std.proofs.lemmas.Int.{ints, to_z-of_z, fits_signed_from_abs}
 use Rattle.adp_model.specs.declared.grammar.Arg.{Arg}
-use Rattle.split_lines.specs.declared.lines.Line.{Line}
 use Rattle.split_lines.specs.Lines.{IsLine}
 use Rattle.adp_model.specs.PosedProblem.{PosedProblem}
 use Rattle.adp_model.specs.ProblemFields.{greatest_score}
@@ -17,14 +15,12 @@ use Rattle.cell_answers.specs.Totals.{HasTotal}
 use Rattle.score_numbers.specs.Greatest.{IsGreatestOf}
 use Rattle.cell_answers.proofs.Bounding.{best_within}
 use Rattle.cell_answers.proofs.Scoring.{one_score}
-use Rattle.cell_answers.proofs.LineStarts.{line_now}
 use Rattle.cell_answers.proofs.FirstEnds.{AreLaid, AreSound, first_low, first_known_entry, rest_laid, parts_low}
 use Rattle.cell_answers.proofs.Totalling.{values_cover}
 use Rattle.cell_answers.proofs.Dividing.{cover_forward}
-use Rattle.cell_answers.proofs.OneEnds.{empty_without}
-use Rattle.cell_answers.proofs.LaidEnds.{IsFirstEndOf, all_there, end_of_first, first_more, front_same, none_here, rest_greatest}
+use Rattle.cell_answers.proofs.LaidEnds.{IsFirstEndOf, end_of_first, first_more, front_same, none_here, rest_greatest}
 use Rattle.cell_answers.proofs.answer_cuts.+first_ends.Goals as goal
-use Rattle.cell_answers.proofs.answer_cuts.+first_ends.Goals.{After-answer_is_unique, Joined-line_here, After-rest-1, in-Some, in-None}
+use Rattle.cell_answers.proofs.answer_cuts.+first_ends.Goals.{After-answer_is_unique, After-first_end-end}
 
 pub returns-in_default : goal.returns-in_default
 returns-in_default t c room l m =
@@ -63,27 +59,24 @@ sound t c =
     })
 
 -- the first end that was found
-first_end : (t : ℕ) (c : Joined-line_here t) → IsFirstEndOf c.args.known.now.lines.now c.in-Some-Some.argument.now c.in-Some-Some.others.now c.in-Some-Some.factor.now c.in-Some-Some.more.now c.args.from c.args.to c.args.total c.match-line_here.end
+first_end : (t : ℕ) (c : After-first_end-end t) → IsFirstEndOf c.args.known.now.lines.now c.in-Some-Some.argument.now c.in-Some-Some.others.now c.in-Some-Some.factor.now c.in-Some-Some.more.now c.args.from c.args.to c.args.total c.first_end-end.result
 first_end t c =
     let p = c.args.known.now.lines.now in
     let E : ℕ → Type 0 = λ end. IsFirstEnd p c.args.arguments.now c.args.factors.now c.args.from c.args.to c.args.total end in
     let fits : FitsSigned w64 c.args.total = search rules in
-    let found : E c.match-line_here.end = elim c.match-line_here.branch [
-      | in-Some w ↦ let along : E w.end_along-end.result = simp to_z-of_z at w.end_along-end.ensures in subst E (sym w.end-is) along
-      | in-None w ↦ let among : E w.end_among-end.result = simp to_z-of_z at w.end_among-end.ensures in subst E (sym w.end-is) among
-    ] in
-    end_of_first p c.args.arguments.now c.args.factors.now c.in-Some-Some.argument.now c.in-Some-Some.others.now c.in-Some-Some.factor.now c.in-Some-Some.more.now c.args.from c.args.to c.args.total c.match-line_here.end c.in-Some-Some.ensures.cases.0 c.in-Some-Some.ensures'.cases.0 found
+    let found : E c.first_end-end.result = simp to_z-of_z at c.first_end-end.ensures in
+    end_of_first p c.args.arguments.now c.args.factors.now c.in-Some-Some.argument.now c.in-Some-Some.others.now c.in-Some-Some.factor.now c.in-Some-Some.more.now c.args.from c.args.to c.args.total c.first_end-end.result c.in-Some-Some.ensures.cases.0 c.in-Some-Some.ensures'.cases.0 found
 
-fits_end : (t : ℕ) (c : Joined-line_here t) → FitsSpan c.args.known.now.lines.now (on_span c.in-Some-Some.argument.now c.args.from c.match-line_here.end)
+fits_end : (t : ℕ) (c : After-first_end-end t) → FitsSpan c.args.known.now.lines.now (on_span c.in-Some-Some.argument.now c.args.from c.first_end-end.result)
 fits_end t c = (first_end t c).there.fits
 
 pub argument_value-requires-clause-low : goal.argument_value-requires-clause-low
 argument_value-requires-clause-low t c =
     let begun = (goal.at.argument_value-requires-clause-low t c).After-answer_is_unique in
-    first_low c.args.known.now.lines.now c.args.known.now.scores.now c.in-Some-Some.argument.now c.in-Some-Some.others.now c.in-Some-Some.factor.now c.in-Some-Some.more.now c.args.from c.args.to (laid t begun) c.match-line_here.end (fits_end t c)
+    first_low c.args.known.now.lines.now c.args.known.now.scores.now c.in-Some-Some.argument.now c.in-Some-Some.others.now c.in-Some-Some.factor.now c.in-Some-Some.more.now c.args.from c.args.to (laid t begun) c.first_end-end.result (fits_end t (goal.at.argument_value-requires-clause-low t c).After-first_end-end)
 
 pub argument_value-requires-clause-fits : goal.argument_value-requires-clause-fits
-argument_value-requires-clause-fits t c = fits_end t c
+argument_value-requires-clause-fits t c = fits_end t (goal.at.argument_value-requires-clause-fits t c).After-first_end-end
 
 -- the first argument's cell has its entry
 entry : (t : ℕ) (c : After-answer_is_unique t) (end : ℕ) → IsFirstEndOf c.args.known.now.lines.now c.in-Some-Some.argument.now c.in-Some-Some.others.now c.in-Some-Some.factor.now c.in-Some-Some.more.now c.args.from c.args.to c.args.total end → AtRule (HasEntry c.args.known.now.scores.now) (on_span c.in-Some-Some.argument.now c.args.from end)
@@ -94,9 +87,9 @@ entry t c end it =
 pub unreachable-requires : goal.unreachable-requires
 unreachable-requires t c =
     let begun = (goal.at.unreachable-requires t c).After-answer_is_unique in
-    let joined = (goal.at.unreachable-requires t c).Joined-line_here in
+    let joined = (goal.at.unreachable-requires t c).After-first_end-end in
     let it = first_end t joined in
-    c.in_default-argument_value.ensures (entry t begun c.match-line_here.end it) it.there.value it.there.is_value
+    c.in_default-argument_value.ensures (entry t begun c.first_end-end.result it) it.there.value it.there.is_value
 
 -- what is left for the others
 record IsLeft (t : ℕ) (c : After-answer_is_unique t) (end : ℕ) (value : ℤ) : Type 0 where
@@ -135,9 +128,9 @@ wrapped total factor value fits_total fits_factor fits_value fits_product fits_r
 pub overflow_mul-rest : goal.overflow_mul-rest
 overflow_mul-rest t c =
     let begun = (goal.at.overflow_mul-rest t c).After-answer_is_unique in
-    let joined = (goal.at.overflow_mul-rest t c).Joined-line_here in
-    let value = c.in-Some-argument_value.value in
-    let it = left t begun c.match-line_here.end (first_end t joined) value (λ entry. c.in-Some-argument_value.ensures entry) in
+    let joined = (goal.at.overflow_mul-rest t c).After-first_end-end in
+    let value = c.in-Some.value in
+    let it = left t begun c.first_end-end.result (first_end t joined) value (λ entry. c.in-Some.ensures entry) in
     let fits_factor : FitsSigned w64 c.in-Some-Some.factor.now = search rules in
     let fits_value : FitsSigned w64 value = search rules in
     simp to_z-of_z it.product_fits
@@ -145,9 +138,9 @@ overflow_mul-rest t c =
 pub overflow_sub-rest : goal.overflow_sub-rest
 overflow_sub-rest t c =
     let begun = (goal.at.overflow_sub-rest t c).After-answer_is_unique in
-    let joined = (goal.at.overflow_sub-rest t c).Joined-line_here in
-    let value = c.in-Some-argument_value.value in
-    let it = left t begun c.match-line_here.end (first_end t joined) value (λ entry. c.in-Some-argument_value.ensures entry) in
+    let joined = (goal.at.overflow_sub-rest t c).After-first_end-end in
+    let value = c.in-Some.value in
+    let it = left t begun c.first_end-end.result (first_end t joined) value (λ entry. c.in-Some.ensures entry) in
     let fits_total : FitsSigned w64 c.args.total = search rules in
     let fits_factor : FitsSigned w64 c.in-Some-Some.factor.now = search rules in
     let fits_value : FitsSigned w64 value = search rules in
@@ -157,12 +150,12 @@ overflow_sub-rest t c =
 pub first_ends-requires : goal.first_ends-requires
 first_ends-requires t c =
     let begun = (goal.at.first_ends-requires t c).After-answer_is_unique in
-    let joined = (goal.at.first_ends-requires t c).Joined-line_here in
+    let joined = (goal.at.first_ends-requires t c).After-first_end-end in
     let p = c.args.known.now.lines.now in
-    let end = c.match-line_here.end in
-    let value = c.in-Some-argument_value.value in
+    let end = c.first_end-end.result in
+    let value = c.in-Some.value in
     let first = first_end t joined in
-    let it = left t begun end first value (λ entry. c.in-Some-argument_value.ensures entry) in
+    let it = left t begun end first value (λ entry. c.in-Some.ensures entry) in
     let fits_total : FitsSigned w64 c.args.total = search rules in
     let fits_factor : FitsSigned w64 c.in-Some-Some.factor.now = search rules in
     let fits_value : FitsSigned w64 value = search rules in
@@ -180,12 +173,12 @@ first_ends-requires t c =
 pub returns : goal.returns
 returns t c room l m =
     let begun = (goal.at.returns t c).After-answer_is_unique in
-    let joined = (goal.at.returns t c).Joined-line_here in
+    let joined = (goal.at.returns t c).After-first_end-end in
     let p = c.args.known.now.lines.now in
-    let end = c.match-line_here.end in
-    let value = c.in-Some-argument_value.value in
+    let end = c.first_end-end.result in
+    let value = c.in-Some.value in
     let first = first_end t joined in
-    let it = left t begun end first value (λ entry. c.in-Some-argument_value.ensures entry) in
+    let it = left t begun end first value (λ entry. c.in-Some.ensures entry) in
     let fits_total : FitsSigned w64 c.args.total = search rules in
     let fits_factor : FitsSigned w64 c.in-Some-Some.factor.now = search rules in
     let fits_value : FitsSigned w64 value = search rules in
