@@ -1,12 +1,13 @@
 -- What an alternative's splits ask for is what its arguments demand between the ends of the cell.
-use Rattle.std.proofs.Common.{◌≡◌, ℕ, zero, suc, ◌+◌, ◌-◌, ◌≤◌, ◌<◌, inl, inr, Option, Some, None, List, [], ◌∷◌, ◌++◌, length, drop, get_or, slice_get, refl, sym, ap, subst, arith}
+use Rattle.std.proofs.Common.{◌≡◌, ℕ, zero, suc, ◌+◌, ◌-◌, ◌≤◌, ◌<◌, ◌⊎◌, inl, inr, Option, Some, None, List, [], ◌∷◌, ◌++◌, length, drop, get_or, slice_get, refl, sym, ap, subst, ◌∙◌, arith}
 use Rattle.std.specs.List.{AllByRecursion, Contains}
 use Rattle.adp_model.specs.declared.grammar.Arg.{Arg}
 use Rattle.adp_model.specs.declared.grammar.Arg.TheVariants.{Rule, Literal, Letter, Run}
 use Rattle.adp_model.specs.declared.cell.Cell.{Cell}
 use Rattle.adp_model.specs.PosedProblem.{PosedProblem}
 use Rattle.adp_model.specs.Parts.{arguments_of}
-use Rattle.adp_model.specs.Splits.{place, ends_by, FitsSpan}
+use Rattle.adp_model.specs.Splits.{place, ends_by, FitsSpan, IsViable}
+use Rattle.adp_model.specs.SplitArguments.{AsksFor}
 use Rattle.yield_sizes.specs.Placing.{on_span, Cover}
 use Rattle.split_lines.specs.Ends.{IsFrontTold}
 use Rattle.split_lines.specs.Laid.{IsFixed, IsCellOf, Demands, LineParts, AreBoundaries}

@@ -18,11 +18,11 @@ pub mod Closing
 pub mod PlainRecords
 pub mod LineOrder
 pub mod LineSplits
-pub mod SameCuts
-pub mod Reached
+pub mod Skipped
 pub mod NotedPlaces
 pub mod ViableCuts
 pub mod LineHere
+pub mod SkipSteps
 pub mod FreshMachines
 pub mod PassingNone
 pub mod Stepped

@@ -1,5 +1,5 @@
--- What a visit passes over along a line of splits whose cells are noted.
-use Rattle.std.specs.Prelude.{◌≡◌, ◌⊎◌, ℕ, ◌+◌, ◌<◌, ◌≤◌, true, List}
+-- How far a visit can go on along a line of splits whose cells are all noted.
+use Rattle.std.specs.Prelude.{◌≡◌, ◌⊎◌, ℕ, ◌+◌, ◌<◌, ◌≤◌, true, false, List}
 use Rattle.std.specs.List.{Contains}
 use Rattle.adp_model.specs.declared.cell.Cell.{Cell}
 use Rattle.adp_model.specs.PosedProblem.{PosedProblem}
@@ -12,14 +12,13 @@ use Rattle.adp_model.specs.declared.grammar.Arg.{Arg}
 use Rattle.split_lines.specs.Laid.{IsCellOf, Demands}
 use Rattle.cell_core.specs.declared.skipping.OpenPair.{OpenPair}
 
--- behind the first position the argument at the second one is the next, but for some whose cells are noted
-pub record IsReached (p : PosedProblem) (Noted : Cell → Type 0) (visit : Visit) (at to : Position) : Type 0 where
+-- from the first position on to the second, which is the same or visited later, all cells that are asked for are noted
+pub record IsSkipped (p : PosedProblem) (Noted : Cell → Type 0) (visit : Visit) (at to : Position) : Type 0 where
   pub is_argument : IsSplitArgument p (argument_at visit.cell to)
-  pub on : is_before p visit (argument_at visit.cell at) (argument_at visit.cell to) ≡ true
-  pub next : (argument : SplitArgument) (child : Cell) → argument.cell ≡ visit.cell → AsksFor p argument child
+  pub on : (to ≡ at) ⊎ (is_before p visit (argument_at visit.cell at) (argument_at visit.cell to) ≡ true)
+  pub passed : (argument : SplitArgument) (child : Cell) → argument.cell ≡ visit.cell → AsksFor p argument child
       → is_before p visit (argument_at visit.cell at) argument ≡ true
-      → Noted child ⊎ ((argument ≡ argument_at visit.cell to)
-      ⊎ (is_before p visit (argument_at visit.cell to) argument ≡ true))
+      → is_before p visit (argument_at visit.cell to) argument ≡ false → Noted child
 
 -- the cells of the first arguments of a split, so many of them, are noted
 abbrev pub AreNotedBefore : PosedProblem → (Cell → Type 0) → Cell → Position → ℕ → Type 0
@@ -42,28 +41,13 @@ AreNotedBetween Noted pair begin past =
 abbrev pub EndsByAPlace : List ℕ → ℕ → Type 0
 EndsByAPlace places past = (last : ℕ) × Contains places last × (past ≤ last + 1)
 
--- the place is the first of these from `begin` on, and before `past`
-pub record IsFirstBetween (places : List ℕ) (begin past place : ℕ) : Type 0 where
-  pub stands : Contains places place
-  pub low : begin ≤ place
-  pub high : place < past
-  pub first : (other : ℕ) → Contains places other → begin ≤ other → place ≤ other
-
--- the place is one of the boundary's from `begin` on and before `past`, and before it, from `begin` on, the cells of both
--- arguments of a line are noted
-pub record IsLeftBetween (Noted : Cell → Type 0) (pair : OpenPair) (begin past place : ℕ) : Type 0 where
-  pub stands : Contains pair.places.now place
-  pub low : begin ≤ place
-  pub high : place < past
-  pub noted : AreNotedBetween Noted pair begin place
-
--- the place is one of the boundary's and comes behind this one, and from this one on, before it, the cells of both
--- arguments are noted
-pub record IsNotedUpTo (Noted : Cell → Type 0) (cell : Cell) (turn : ℕ) (pair : OpenPair) (from to : ℕ) : Type 0 where
+-- the place is one of the boundary's and comes behind this one, and from this one up to it the cells of both arguments
+-- are noted
+pub record IsLastNoted (Noted : Cell → Type 0) (cell : Cell) (turn : ℕ) (pair : OpenPair) (from to : ℕ) : Type 0 where
   pub stands : Contains pair.places.now to
   pub behind : rank_of cell turn from < rank_of cell turn to
   pub noted : (place : ℕ) → Contains pair.places.now place → rank_of cell turn from ≤ rank_of cell turn place
-      → rank_of cell turn place < rank_of cell turn to → IsNotedAt Noted pair place
+      → rank_of cell turn place ≤ rank_of cell turn to → IsNotedAt Noted pair place
 
 -- each cell that the arguments may demand between two places is noted
 abbrev pub AreNotedOn : PosedProblem → (Cell → Type 0) → List Arg → ℕ → ℕ → Type 0

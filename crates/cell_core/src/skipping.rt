@@ -1,6 +1,6 @@
-//! Where a visit comes to along a line of splits whose cells are noted.
+//! How far a visit can go on along a line of splits whose cells are all noted.
 
-ghost use Rattle.std.specs.Prelude.{◌≡◌, ◌+◌, ◌-◌, ◌<◌, ◌≤◌, ℕ, ◌∷◌, IfSome, MatchOption, length, slice_index, slice_index_or, take};
+ghost use Rattle.std.specs.Prelude.{◌≡◌, ◌+◌, ◌-◌, ◌<◌, ◌≤◌, ℕ, ◌∷◌, IfSome, length, slice_index, slice_index_or, take};
 ghost use Rattle.std.specs.Bool.{OnTrue};
 ghost use Rattle.std.specs.List.{AllAdjacentBelow, Contains};
 ghost use Rattle.adp_model.specs.declared.cell.Cell.{Cell as AnyCell};
@@ -13,7 +13,7 @@ ghost use Rattle.adp_model.specs.Visits.{argument_at, IsWalk};
 ghost use Rattle.yield_sizes.specs.Placing.{on_span};
 ghost use Rattle.split_lines.specs.Laid.{IsCellOf};
 ghost use Rattle.split_lines.specs.Flags.{AreBitsAmong};
-ghost use Rattle.cell_core.specs.Skipping.{AreNotedBefore, AreNotedBetween, EndsByAPlace, IsFirstBetween, IsLeftBetween, IsNotedUpTo, IsReached};
+ghost use Rattle.cell_core.specs.Skipping.{IsSkipped, AreNotedBefore, AreNotedBetween, EndsByAPlace, IsLastNoted};
 
 use crate::noted_cells::NotedCells;
 use crate::walk::{asked, end_of, start_of};
@@ -139,66 +139,9 @@ fn last_between(places: &[u16], begin: u16, past: u16) -> Option<u16>
     Some(last)
 }
 
-/// The first of the places from `begin` on, where it is before `past`.
-fn first_between(places: &[u16], begin: u16, past: u16) -> Option<u16>
-    requires rising { AllAdjacentBelow (λ (a b : ℕ). a < b) places.now (length places.now) }
-    ensures { MatchOption result
-        ((place : ℕ) → Contains places.now place → begin ≤ place → place < past → ⊥)
-        (IsFirstBetween places.now begin past) }
-{
-    let index = match places.binary_search(&begin) {
-        Ok(_) if begin < past => return Some(begin),
-        Ok(_) => return None,
-        Err(index) => index,
-    };
-    if index == places.len() {
-        return None;
-    }
-    let place = places[index];
-    if place >= past {
-        return None;
-    }
-    Some(place)
-}
-
-/// A place from `begin` on and before `past` such that from `begin` up to it the cells of both arguments are noted: the
-/// first one where they aren't, or the last one where all are.
-fn first_left<N: NotedCells>(noted: &N, pair: OpenPair<'_>, begin: u16, past: u16) -> Option<u16>
-    requires rising { AllAdjacentBelow (λ (a b : ℕ). a < b) pair.places.now (length pair.places.now) }
-    requires order { begin ≤ past }
-    requires up_to { EndsByAPlace pair.places.now past }
-    requires short { past + pair.letters ≤ 4001 }
-    requires here { AreBitsAmong pair.places.now 0 pair.here.now }
-    requires behind { AreBitsAmong pair.places.now pair.letters pair.behind.now }
-    ensures { IfSome result (IsLeftBetween (N.is_noted noted.now) pair.entry begin past) }
-{
-    let stop = both_noted(noted, pair, begin, past);
-    match first_between(pair.places, stop, past) {
-        Some(place) => Some(place),
-        None => last_between(pair.places, begin, past),
-    }
-}
-
-/// The same from the place behind `begin` on, where the cells of `begin` are noted too.
-fn left_behind<N: NotedCells>(noted: &N, pair: OpenPair<'_>, begin: u16, past: u16) -> Option<u16>
-    requires rising { AllAdjacentBelow (λ (a b : ℕ). a < b) pair.places.now (length pair.places.now) }
-    requires order { begin ≤ past }
-    requires up_to { EndsByAPlace pair.places.now past }
-    requires short { past + pair.letters ≤ 4001 }
-    requires here { AreBitsAmong pair.places.now 0 pair.here.now }
-    requires behind { AreBitsAmong pair.places.now pair.letters pair.behind.now }
-    ensures left { IfSome result (IsLeftBetween (N.is_noted noted.now) pair.entry begin past) }
-    ensures behind { IfSome result (λ place. begin < place) }
-{
-    match first_left(noted, pair, begin, past) {
-        Some(place) if place > begin => Some(place),
-        _ => None,
-    }
-}
-
-/// A place that is visited behind this one, such that from this one up to it the cells of both arguments of a line are
-/// noted: the first one where they aren't, if there is one.
-fn next_place<N: NotedCells>(
+/// The last place up to which, from this one on, the cells of both arguments of a line are noted; `None` where there is
+/// none behind it.
+fn last_noted<N: NotedCells>(
     noted: &N,
     cell: Cell,
     turn: u32,
@@ -213,7 +156,7 @@ fn next_place<N: NotedCells>(
     requires turn { turn ≤ cell.to - cell.from }
     requires order { cell.from ≤ cell.to }
     requires place { (cell.from ≤ place) × (place ≤ cell.to) }
-    ensures { IfSome result (IsNotedUpTo (N.is_noted noted.now) cell turn pair.entry place) }
+    ensures { IfSome result (IsLastNoted (N.is_noted noted.now) cell turn pair.entry place) }
 {
     ranks_begin_at_the_turn();
     let places = pair.places;
@@ -221,20 +164,23 @@ fn next_place<N: NotedCells>(
         return None;
     }
     let (first, last) = (places[0], places[places.len() - 1]);
+    if last <= place {
+        return None;
+    }
     let pivot = cell.from + turn as u16;
-    if place < last && place < pivot {
-        return left_behind(noted, pair, place, pivot.min(last + 1));
+    if place < pivot {
+        let stop = both_noted(noted, pair, place, pivot.min(last + 1));
+        return last_between(places, place + 1, stop);
     }
-    if place < last {
-        return left_behind(noted, pair, place, last + 1);
+    let stop = both_noted(noted, pair, place, last + 1);
+    if stop <= last || pivot <= first {
+        return last_between(places, place + 1, stop);
     }
-    if place > last || place < pivot || pivot <= first {
-        return None;
+    let stop = both_noted(noted, pair, first, pivot);
+    match last_between(places, first, stop) {
+        Some(place) => Some(place),
+        None => Some(last),
     }
-    if both_noted(noted, pair, place, last + 1) <= last {
-        return None;
-    }
-    first_left(noted, pair, first, pivot)
 }
 
 /// The cuts with the boundary of a line, and the tokens behind it, moved to a place.
@@ -306,20 +252,20 @@ fn is_viable(
     true
 }
 
-/// The next argument that the visit comes to behind the split at `at`, but for some along its line whose cells are
-/// noted; `None` where that isn't told.
-pub(crate) fn reached<N: NotedCells>(
+/// Where the visit comes to along the line of the split at `at` while the cells that are asked for are noted: to the
+/// last argument of a later split.
+pub fn skipped<N: NotedCells>(
     lines: &Lines<'_>,
     problem: &Problem<'_>,
     noted: &N,
     visit: Visit,
     at: Position,
-) -> Option<Position>
+) -> Position
     requires same { lines.now ≡ problem.now }
     requires span { IsSpan problem.now.word visit.cell.from visit.cell.to }
     requires walk { IsWalk problem.now visit }
     requires argument { IsSplitArgument problem.now (argument_at visit.cell at) }
-    ensures { IfSome result (IsReached problem.now (N.is_noted noted.now) visit at) }
+    ensures { IsSkipped problem.now (N.is_noted noted.now) visit at result }
 {
     problem.admissible();
     arguments_are_few_and_known();
@@ -327,10 +273,10 @@ pub(crate) fn reached<N: NotedCells>(
     ranks_begin_at_the_turn();
     let cell = visit.cell;
     let Some(line) = lines.line(cell.rule, at.alternative) else {
-        return None;
+        return at;
     };
     if !are_noted_before(problem, noted, cell, at, line.first) {
-        return None;
+        return at;
     }
     let first = line.first as usize;
     let between = line.between as usize;
@@ -354,16 +300,16 @@ pub(crate) fn reached<N: NotedCells>(
         letters: boundary.letters,
         last: boundary.last,
     };
-    let Some(place) = next_place(noted, cell, visit.turns[first], pair, cuts[first]) else {
-        return None;
+    let Some(place) = last_noted(noted, cell, visit.turns[first], pair, cuts[first]) else {
+        return at;
     };
     let cuts = moved(cuts, first, between, place);
     if !is_viable(lines, problem, cell, at, line, pair, cuts) {
-        return None;
+        return at;
     }
-    Some(Position {
+    Position {
         alternative: at.alternative,
         cuts,
-        number: line.first,
-    })
+        number: (all.len() - 1) as u8,
+    }
 }

@@ -14,7 +14,6 @@ ghost use Rattle.cell_core.specs.Seeking.{AreAllNoted, AreNotedBehind, IsFirstLe
 
 use crate::noted_cells::NotedCells;
 use crate::passing::are_all_noted;
-use crate::skipping::reached;
 use adp_model::laws::splits::ranks_tell_splits_apart;
 use adp_model::laws::well_formed::alternatives_fit;
 use adp_model::{Arg, Cell, Position, Problem, Visit};
@@ -33,8 +32,8 @@ fn alternative_behind(first: u32, count: u32, turned: u32) -> u32
     rotated(first, count, turned)
 }
 
-/// Whether an alternative has a viable split of the cell, unless all cells that its splits ask for are seen to be
-/// noted; if so, `cuts` are then the one that is visited first.
+/// Whether an alternative has a viable split of the cell, unless all cells that its splits ask for are seen to be noted;
+/// if so, `cuts` are then the one that is visited first.
 fn first_left<N: NotedCells>(
     lines: &Lines<'_>,
     problem: &Problem<'_>,
@@ -124,7 +123,7 @@ fn first_from<N: NotedCells>(
     None
 }
 
-/// The argument that the visit comes to next, but for some whose cells are noted. Takes no memory.
+/// The argument that the visit comes to next, but for alternatives whose cells are all noted. Takes no memory.
 pub(crate) fn next_position<N: NotedCells>(
     lines: &Lines<'_>,
     problem: &Problem<'_>,
@@ -151,9 +150,6 @@ pub(crate) fn next_position<N: NotedCells>(
             cuts,
             number: at.number + 1,
         });
-    }
-    if let Some(position) = reached(lines, problem, noted, visit, at) {
-        return Some(position);
     }
     let here = at.cuts;
     let turns = visit.turns;

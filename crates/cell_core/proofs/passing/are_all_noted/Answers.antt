@@ -1,4 +1,4 @@
-use Rattle.std.proofs.Common.{Bool, true, false, ℕ, Some, ◌++◌, length, ap, subst, sym, arith}
+use Rattle.std.proofs.Common.{◌≡◌, Bool, true, false, ℕ, ◌<◌, ◌≤◌, Option, Some, None, ◌++◌, length, ap, subst, sym, arith}
 use Rattle.std.specs.Bool.{OnTrue}
 use Rattle.std.proofs.lemmas.Bool.{eqb-true}
 use Rattle.adp_model.specs.declared.cell.Cell.{Cell}

@@ -1,5 +1,6 @@
-use Rattle.std.proofs.Common.{Bool, true, false, ℕ, drop, subst}
+use Rattle.std.proofs.Common.{Bool, true, false, ℕ, List, drop, subst}
 use Rattle.std.specs.Bool.{OnTrue}
+use Rattle.adp_model.specs.declared.grammar.Arg.{Arg}
 use Rattle.adp_model.specs.declared.cell.Cell.{Cell}
 use Rattle.split_lines.specs.Laid.{IsCellOf}
 use Rattle.split_lines.specs.Lines.{IsLine}

@@ -1,4 +1,4 @@
-use Rattle.std.proofs.Common.{Bool, true, false, sym, subst}
+use Rattle.std.proofs.Common.{ℕ, Bool, true, false, List, sym, subst}
 use Rattle.std.specs.Bool.{OnFalse}
 use Rattle.adp_model.specs.PosedProblem.{PosedProblem}
 use Rattle.adp_model.specs.Splits.{IsViable}

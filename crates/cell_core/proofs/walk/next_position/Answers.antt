@@ -2,7 +2,7 @@ use Rattle.std.proofs.Common.{◌≡◌, ◌+◌, ◌-◌, ◌%◌, length, subs
 use Rattle.std.specs.Prelude.{MatchOption}
 use Rattle.std.proofs.lemmas.Nat.{mod_below}
 use Rattle.cell_core.specs.Seeking.{turned_of, IsNoneLeft, IsFirstLeft}
-use Rattle.cell_core.proofs.Walks.{next_in_split, next_in_alternative, next_reached, later_from}
+use Rattle.cell_core.proofs.Walks.{next_in_split, next_in_alternative, later_from}
 use Rattle.cell_core.proofs.walk.next_position.Goals as goal
 
 pub overflow_cast-count : goal.overflow_cast-count
@@ -32,16 +32,6 @@ returns-then-at-arguments g c =
     (c.ranks_tell_splits_apart.ensures p formed v.cell v.turns c.requires.span.in_order c.requires.walk.three
     c.requires.walk.turns)
     c.in-Some.at c.in-Some.is (omega arith)
-
-pub returns-in-Some-reached : goal.returns-in-Some-reached
-returns-in-Some-reached g c =
-    let p = c.args.problem.now in
-    let v = c.args.visit in
-    let formed = c.admissible.ensures.checked.well_formed in
-    next_reached p (g.N.NotedCells.is_noted c.args.noted.now) v c.requires.walk c.requires.walk.three
-    (c.ranks_tell_splits_apart.ensures p formed v.cell v.turns c.requires.span.in_order c.requires.walk.three
-    c.requires.walk.turns)
-    c.in-Some.at c.in-Some.is c.in-Some-reached.position c.in-Some-reached.ensures
 
 pub returns-then-next_left : goal.returns-then-next_left
 returns-then-next_left g c =

@@ -6,8 +6,8 @@ use Rattle.adp_model.specs.Parts.{arguments_of}
 use Rattle.adp_model.specs.Splits.{ends_by}
 use Rattle.split_lines.specs.Lines.{parts_by, HasLine}
 use Rattle.cell_core.proofs.LineHere.{cut_within, start_within, boundaries_here, place_within, read_at, spans_there}
-use Rattle.cell_core.proofs.Reached.{is_reached, length_drop}
-use Rattle.cell_core.proofs.skipping.reached.Goals as goal
+use Rattle.cell_core.proofs.Skipped.{is_skipped, length_drop}
+use Rattle.cell_core.proofs.skipping.skipped.Goals as goal
 
 -- the arguments from a number on, as a slice and as a list
 sliced : (given arguments : List Arg) (n : ℕ) → given ≡ arguments
@@ -45,8 +45,8 @@ boundary-boundary-requires-clause-span g c =
     subst (λ (q : PosedProblem). IsSpan q.word c.start_of-from.result cell.to) (sym c.requires.same)
     (record { in_order = omega (arith, it.1, begins); in_word = c.requires.span.in_word })
 
-pub next_place-requires-clause-within : goal.next_place-requires-clause-within
-next_place-requires-clause-within g c =
+pub last_noted-requires-clause-within : goal.last_noted-requires-clause-within
+last_noted-requires-clause-within g c =
     let p = c.args.problem.now in
     let cell = c.args.visit.cell in
     let n = c.in-Some.line.first in
@@ -79,8 +79,8 @@ next_place-requires-clause-within g c =
     other contains in
     (omega (arith, it.0, start.0, begins), omega (arith, it.1))
 
-pub next_place-requires-clause-short : goal.next_place-requires-clause-short
-next_place-requires-clause-short g c =
+pub last_noted-requires-clause-short : goal.last_noted-requires-clause-short
+last_noted-requires-clause-short g c =
     let p = c.args.problem.now in
     let cell = c.args.visit.cell in
     let n = c.in-Some.line.first in
@@ -98,8 +98,8 @@ next_place-requires-clause-short g c =
     other contains in
     omega (arith, it.1, c.requires.span.in_word, c.admissible.ensures.limits.letters)
 
-pub next_place-requires-clause-place : goal.next_place-requires-clause-place
-next_place-requires-clause-place g c =
+pub last_noted-requires-clause-place : goal.last_noted-requires-clause-place
+last_noted-requires-clause-place g c =
     let p = c.args.problem.now in
     let cell = c.args.visit.cell in
     let n = c.in-Some.line.first in
@@ -133,7 +133,7 @@ is_viable-requires-clause-short g c =
     c.boundary-boundary.ensures.boundaries in
     let it = place_within p (parts_by (drop n arguments) c.in-Some.line.between) c.start_of-from.result cell.to
     c.boundary-boundary.result.letters c.boundary-boundary.result.last c.boundary-boundary.result.places.now boundaries
-    c.in-Some-next_place.place c.in-Some-next_place.ensures.stands in
+    c.in-Some-last_noted.place c.in-Some-last_noted.ensures.stands in
     omega (arith, it.1, c.moved-cuts.ensures.there, c.requires.span.in_word, c.admissible.ensures.limits.letters)
 
 pub is_viable-requires-clause-first : goal.is_viable-requires-clause-first
@@ -152,7 +152,7 @@ is_viable-requires-clause-first g c =
     c.boundary-boundary.ensures.boundaries in
     (spans_there p arguments n c.in-Some.line.between c.start_of-from.result cell.to
     c.boundary-boundary.result.letters c.boundary-boundary.result.last c.boundary-boundary.result.places.now boundaries
-    c.in-Some-next_place.place c.in-Some-next_place.ensures.stands
+    c.in-Some-last_noted.place c.in-Some-last_noted.ensures.stands
     (slice_index (cell.from ∷ ends_by cell c.args.at.cuts) n) (slice_index c.moved-cuts.result n)
     c.start_of-from.ensures c.moved-cuts.ensures.there).0
 
@@ -172,7 +172,7 @@ is_viable-requires-clause-second g c =
     c.boundary-boundary.ensures.boundaries in
     (spans_there p arguments n c.in-Some.line.between c.start_of-from.result cell.to
     c.boundary-boundary.result.letters c.boundary-boundary.result.last c.boundary-boundary.result.places.now boundaries
-    c.in-Some-next_place.place c.in-Some-next_place.ensures.stands
+    c.in-Some-last_noted.place c.in-Some-last_noted.ensures.stands
     (slice_index (cell.from ∷ ends_by cell c.args.at.cuts) n) (slice_index c.moved-cuts.result n)
     c.start_of-from.ensures c.moved-cuts.ensures.there).1
 
@@ -198,17 +198,18 @@ returns g c =
     let few = few_before arguments n c.in-Some.line.between has
     (c.arguments_are_few_and_known.ensures.few p.grammar formed cell.rule c.args.at.alternative) in
     let several = has.several in
-    is_reached p (g.N.NotedCells.is_noted c.args.noted.now) c.args.visit c.requires.walk c.args.at c.moved-cuts.result n
-    c.in-Some-next_place.place
+    is_skipped p (g.N.NotedCells.is_noted c.args.noted.now) c.args.visit c.requires.walk c.args.at c.moved-cuts.result n
+    c.in-Some-last_noted.place (length c.arguments-all.result.now - 1)
     c.ranks_begin_at_the_turn.ensures.apart
     (λ alternative cuts viable. c.viable_cuts_lie_within_the_cell.ensures p formed cell alternative cuts
     c.requires.span.in_order viable)
     (λ alternative. c.arguments_are_few_and_known.ensures.few p.grammar formed cell.rule alternative)
     c.requires.argument c.if-not-is_viable.ensures
+    (let counted = ap length c.arguments-all.ensures.arguments in omega (arith, counted, few.1))
     (omega (arith, few.0)) c.moved-cuts.ensures.front c.moved-cuts.ensures.there
     c.if-not-are_noted_before.ensures
     _
-    c.in-Some-next_place.ensures
+    c.in-Some-last_noted.ensures
     (parts_by (drop n arguments) c.in-Some.line.between) has.parts boundaries c.start_of-from.ensures
     (read_at given (drop n arguments) 0 c.index-arguments-0.result alike
     (omega (arith, several)) c.index-arguments-0.is)

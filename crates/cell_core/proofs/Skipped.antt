@@ -1,5 +1,5 @@
--- Along a line of splits a visit may go on to a place before which all cells are noted.
-use Rattle.std.proofs.Common.{◌≡◌, ℕ, zero, suc, ◌+◌, ◌-◌, ◌<◌, ◌≤◌, ◌⊎◌, inl, inr, Bool, true, false, Some, List, [], ◌∷◌, ◌++◌, length, take, drop, slice_get, slice_index, refl, sym, ap, subst, ◌∙◌, arith}
+-- Along a line of splits a visit may go on to the last place up to which all cells are noted.
+use Rattle.std.proofs.Common.{◌≡◌, ℕ, zero, suc, ◌+◌, ◌-◌, ◌<◌, ◌≤◌, ◌⊎◌, inl, inr, true, false, Some, List, [], ◌∷◌, ◌++◌, length, take, drop, slice_get, slice_index, refl, sym, ap, subst, ◌∙◌, arith}
 use Rattle.std.specs.List.{AllByRecursion}
 use Rattle.std.proofs.lemmas.Bool.{cases_lt, false≢true}
 use Rattle.adp_model.specs.declared.grammar.Arg.{Arg}
@@ -15,14 +15,12 @@ use Rattle.adp_model.specs.Visits.{argument_at, turned_number, visited_at, is_be
 use Rattle.adp_model.specs.Walk.{rank_of, ranks_of}
 use Rattle.split_lines.specs.Laid.{IsCellOf, LineParts, HasParts, AreBoundaries}
 use Rattle.cell_core.specs.declared.skipping.OpenPair.{OpenPair}
-use Rattle.cell_core.specs.Skipping.{IsReached, AreNotedBefore, IsNotedAt, IsNotedUpTo}
+use Rattle.cell_core.specs.Skipping.{IsSkipped, AreNotedBefore, IsNotedAt, IsLastNoted}
 use Rattle.cell_core.proofs.VisitOrder.{lex_from, less_from, lex_transitive, lex_irreflexive}
-use Rattle.cell_core.proofs.Walks.{turned_same, lex_end}
+use Rattle.cell_core.proofs.Walks.{turned_same}
 use Rattle.cell_core.proofs.WalkEnds.{places_length}
 use Rattle.cell_core.proofs.PlacedArguments.{length_ends}
 use Rattle.cell_core.proofs.LineOrder.{at_index, squeeze, AreWithin, RanksApart, same_front, front_ranks, rank_at, front_at, take_front, less_at}
-use Rattle.cell_core.proofs.LineHere.{cut_within}
-use Rattle.cell_core.proofs.SameCuts.{same_behind, same_by_parts, same_before}
 use Rattle.cell_core.proofs.LineSplits.{AreAt, IsCell, drop_placed, drop_fits, front_placed, same_start, on_line}
 
 -- ---- lists
@@ -48,31 +46,15 @@ length_drop zero xs = omega arith
 length_drop (suc n) [] = omega arith
 length_drop (suc n) (x ∷ xs) = length_drop n xs ∙ omega arith
 
-take_more : (n : ℕ) (xs ys : List ℕ) → n < length xs → n < length ys → take n xs ≡ take n ys
-    → slice_index xs n ≡ slice_index ys n → take (suc n) xs ≡ take (suc n) ys
-take_more n [] ys l m front here = absurd (omega arith)
-take_more n (x ∷ xs) [] l m front here = absurd (omega arith)
-take_more zero (x ∷ xs) (y ∷ ys) l m front here = ap (λ a. a ∷ []) here
-take_more (suc n) (x ∷ xs) (y ∷ ys) l m front here =
-    let first : x ≡ y = cc in
-    let later : take n xs ≡ take n ys = cc in
-    let rest = take_more n xs ys (omega arith) (omega arith) later here in
-    λ i. first i ∷ rest i
-
-turn_low : {most : ℕ} (n : ℕ) (turns : List ℕ) → AllByRecursion (λ turn. turn ≤ most) turns → n < length turns
-    → slice_index turns n ≤ most
-turn_low n [] low l = absurd (omega arith)
-turn_low zero (turn ∷ turns) low l = low.0
-turn_low (suc n) (turn ∷ turns) low l = turn_low n turns low.1 (omega arith)
-
 module _ (p : PosedProblem) (Noted : Cell → Type 0) (visit : Visit) (walk : IsWalk p visit) (at : Position)
-    (cuts : List ℕ) (n place' : ℕ) (apart : RanksApart)
+    (cuts : List ℕ) (n place' last' : ℕ) (apart : RanksApart)
     (within : (alternative : ℕ) (cuts : List ℕ) → IsViable p visit.cell alternative cuts → AreWithin visit.cell cuts)
     (few : (alternative : ℕ) → length (arguments_of p.grammar visit.cell.rule alternative) ≤ 4)
     (is : IsSplitArgument p (argument_at visit.cell at)) (viable : IsViable p visit.cell at.alternative cuts)
+    (inside_last : last' < length (arguments_of p.grammar visit.cell.rule at.alternative))
     (low : n < 3) (front : take n cuts ≡ take n at.cuts) (there : slice_index cuts n ≡ place')
     (upper : AreNotedBefore p Noted visit.cell at n) (pair : OpenPair)
-    (noted : IsNotedUpTo Noted visit.cell (slice_index visit.turns n) pair (slice_index at.cuts n) place')
+    (noted : IsLastNoted Noted visit.cell (slice_index visit.turns n) pair (slice_index at.cuts n) place')
     (parts : LineParts) (has : HasParts (drop n (arguments_of p.grammar visit.cell.rule at.alternative)) parts)
     (boundaries : AreBoundaries p parts pair.from visit.cell.to pair.letters pair.last pair.places.now)
     (begins : pair.from ≡ slice_index (visit.cell.from ∷ ends_by visit.cell at.cuts) n)
@@ -94,7 +76,7 @@ module _ (p : PosedProblem) (Noted : Cell → Type 0) (visit : Visit) (walk : Is
   visited alternative others k = visited_at p visit (it alternative others k)
 
   abbrev to : Position
-  to = record { alternative = at.alternative; cuts = cuts; number = n }
+  to = record { alternative = at.alternative; cuts = cuts; number = last' }
 
   length_ranks : (others : List ℕ) (k : ℕ) → length others ≡ 3
       → length (ranks_of cell visit.turns others ++ k ∷ []) ≡ 4
@@ -116,22 +98,22 @@ module _ (p : PosedProblem) (Noted : Cell → Type 0) (visit : Visit) (walk : Is
       ∙ rank_at cell n visit.turns others (omega (arith, walk.three)) (omega (arith, three))
 
   same_visited : take (suc n) (visited at.alternative at.cuts at.number) ≡ take (suc n)
-      (visited at.alternative cuts n)
+      (visited at.alternative cuts last')
   same_visited =
       ap (λ rest. turned_number (length (alternatives_of p.grammar cell.rule)) visit.first at.alternative ∷ rest)
       (front_of at.cuts at.number is.viable.three
       ∙ front_ranks cell n visit.turns at.cuts cuts (sym front) (is.viable.three ∙ sym viable.three)
-      ∙ sym (front_of cuts n viable.three))
+      ∙ sym (front_of cuts last' viable.three))
 
   behind : is_before p visit (argument_at cell at) (argument_at cell to) ≡ true
   behind =
-      less_from (visited at.alternative at.cuts at.number) (visited at.alternative cuts n)
-      (less_at (suc n) (visited at.alternative at.cuts at.number) (visited at.alternative cuts n)
+      less_from (visited at.alternative at.cuts at.number) (visited at.alternative cuts last')
+      (less_at (suc n) (visited at.alternative at.cuts at.number) (visited at.alternative cuts last')
       (omega (arith, length_ranks at.cuts at.number is.viable.three))
-      (omega (arith, length_ranks cuts n viable.three))
+      (omega (arith, length_ranks cuts last' viable.three))
       same_visited
       (let a = rank_is at.cuts at.number is.viable.three in
-      let b = rank_is cuts n viable.three in
+      let b = rank_is cuts last' viable.three in
       let c = ap (rank_of cell turn) there in
       omega (arith, a, b, c, noted.behind)))
 
@@ -150,10 +132,10 @@ module _ (p : PosedProblem) (Noted : Cell → Type 0) (visit : Visit) (walk : Is
   between alternative others k viable' b c =
       let A = visited at.alternative at.cuts at.number in
       let X = visited alternative others k in
-      let B = visited at.alternative cuts n in
+      let B = visited at.alternative cuts last' in
       let ax : LexicographicallyLess A X = lex_from A X b in
       let found = squeeze (suc n) A X B (omega (arith, length_ranks at.cuts at.number is.viable.three))
-      (omega (arith, length_ranks others k viable'.three)) (omega (arith, length_ranks cuts n viable.three))
+      (omega (arith, length_ranks others k viable'.three)) (omega (arith, length_ranks cuts last' viable.three))
       same_visited (λ xa. lex_irreflexive A (lex_transitive A X A ax xa))
       (λ bx. false≢true (sym c ∙ less_from B X bx)) in
       split found.0 found.1.0 found.1.1
@@ -161,7 +143,7 @@ module _ (p : PosedProblem) (Noted : Cell → Type 0) (visit : Visit) (walk : Is
       split : take (suc n) (visited alternative others k) ≡ take (suc n) (visited at.alternative at.cuts at.number)
           → at_index (visited at.alternative at.cuts at.number) (suc n) ≤ at_index (visited alternative others k)
           (suc n)
-          → at_index (visited alternative others k) (suc n) ≤ at_index (visited at.alternative cuts n) (suc n)
+          → at_index (visited alternative others k) (suc n) ≤ at_index (visited at.alternative cuts last') (suc n)
           → IsBetween alternative others
       split alike low high =
           let count = length (alternatives_of p.grammar cell.rule) in
@@ -172,7 +154,7 @@ module _ (p : PosedProblem) (Noted : Cell → Type 0) (visit : Visit) (walk : Is
           let ranks' = sym (front_of others k viable'.three) ∙ ranks ∙ front_of at.cuts at.number is.viable.three in
           let x = rank_is others k viable'.three in
           let a = rank_is at.cuts at.number is.viable.three in
-          let c = rank_is cuts n viable.three in
+          let c = rank_is cuts last' viable.three in
           let d = ap (rank_of cell turn) there in
           record {
             same =
@@ -196,24 +178,22 @@ module _ (p : PosedProblem) (Noted : Cell → Type 0) (visit : Visit) (walk : Is
       take_front others cell.to n (omega (arith, three)) ∙ alike
       ∙ sym (take_front at.cuts cell.to n (omega (arith, is.viable.three)))
 
-  in_front : (others : List ℕ) (k : ℕ) (child : Cell) → IsViable p cell at.alternative others
-      → slice_get (placed p cell at.alternative others) k ≡ Some (IsCell child) → take n others ≡ take n at.cuts
-      → k < n → Noted child
-  in_front others k child viable' e alike less =
-      upper k child less (record {
-        viable = is.viable;
-        there = sym (front_placed n (arguments_of p.grammar visit.cell.rule at.alternative) visit.cell.from
-            (ends_by visit.cell others) (ends_by visit.cell at.cuts) k less
-            (omega (arith, four others viable'.three)) (omega (arith, four at.cuts is.viable.three))
-            (ends_alike others viable'.three alike)) ∙ e;
-      })
-
   asked : (others : List ℕ) (k : ℕ) (child : Cell) → IsViable p cell at.alternative others
       → slice_get (placed p cell at.alternative others) k ≡ Some (IsCell child) → take n others ≡ take n at.cuts
       → rank_of cell turn (slice_index at.cuts n) ≤ rank_of cell turn (slice_index others n)
-      → rank_of cell turn (slice_index others n) < rank_of cell turn place' → Noted child
+      → rank_of cell turn (slice_index others n) ≤ rank_of cell turn place' → Noted child
   asked others k child viable' e alike after before = go (cases_lt k n)
     where
+      in_front : k < n → Noted child
+      in_front less =
+          upper k child less (record {
+            viable = is.viable;
+            there = sym (front_placed n (arguments_of p.grammar visit.cell.rule at.alternative) visit.cell.from
+                (ends_by visit.cell others) (ends_by visit.cell at.cuts) k less
+                (omega (arith, four others viable'.three)) (omega (arith, four at.cuts is.viable.three))
+                (ends_alike others viable'.three alike)) ∙ e;
+          })
+
       along : n ≤ k → Noted child
       along later =
           let arguments = arguments_of p.grammar visit.cell.rule at.alternative in
@@ -261,145 +241,41 @@ module _ (p : PosedProblem) (Noted : Cell → Type 0) (visit : Visit) (walk : Is
               (sym second_is) second)
 
       go : (k < n) ⊎ (n ≤ k) → Noted child
-      go (inl less) = in_front others k child viable' e alike less
+      go (inl less) = in_front less
       go (inr later) = along later
 
-  -- ---- the split that is reached
-
-  -- what is laid from the line's boundary on
-  record IsLaid (others : List ℕ) : Type 0 where
-    fits : AllByRecursion (FitsSpan p) (place (parts.middle ++ parts.second ∷ parts.tail) (slice_index others n)
-        (drop (suc n) (ends_by cell others)))
-    closed : AreAt cell.to (drop (length (parts.middle ++ parts.second ∷ parts.tail) - 1)
-        (drop (suc n) (ends_by cell others)))
-    enough : length (parts.middle ++ parts.second ∷ parts.tail) ≤ length (drop (suc n) (ends_by cell others))
-
-  laid : (others : List ℕ) → IsViable p cell at.alternative others → IsLaid others
-  laid others viable' =
-      let arguments = arguments_of p.grammar visit.cell.rule at.alternative in
-      let ends = ends_by visit.cell others in
-      let long = four others viable'.three in
-      let boundary = slice_index others n in
-      let ends_are : drop n ends ≡ boundary ∷ drop (suc n) ends =
-      drop_at n ends (omega arith)
-      ∙ ap (λ b. b ∷ drop (suc n) ends) (front_at others visit.cell.to n (omega (arith, viable'.three))) in
-      let line = parts.first ∷ parts.middle ++ parts.second ∷ parts.tail in
-      let back = parts.middle ++ parts.second ∷ parts.tail in
-      let begin = slice_index (visit.cell.from ∷ ends) n in
-      let moved : place (drop n arguments) begin (drop n ends) ≡ place line begin (boundary ∷ drop (suc n) ends) =
-      λ i. place (has.are i) begin (ends_are i) in
-      let fits : AllByRecursion (FitsSpan p) (place line begin (boundary ∷ drop (suc n) ends)) =
-      subst (AllByRecursion (FitsSpan p)) moved
-      (drop_fits p n arguments visit.cell.from ends (omega arith) viable'.fits) in
-      let count = length_drop n arguments in
-      let counted : length (drop n arguments) ≡ length line = ap length has.are in
-      let some = some_behind parts.middle in
-      record {
-        fits = fits.1;
-        closed = subst (AreAt cell.to) (sym (drop_drop (length back - 1) (suc n) ends))
-            (let m : length arguments - 1 ≡ suc n + (length back - 1) = omega (arith, count, counted, inside, some) in
-            subst (λ j. AreAt visit.cell.to (drop j ends)) m viable'.last);
-        enough = omega (arith, count, counted, few at.alternative, length_drop (suc n) ends);
-      }
-    where
-      some_behind : (tokens : List Arg) → 0 < length (tokens ++ parts.second ∷ parts.tail)
-      some_behind [] = omega arith
-      some_behind (token ∷ tokens) = omega arith
-
-  -- a split with the same boundary is the same
-  same_cuts : (others : List ℕ) → IsViable p cell at.alternative others → take n others ≡ take n at.cuts
-      → rank_of cell turn (slice_index others n) ≡ rank_of cell turn place' → others ≡ cuts
-  same_cuts others viable' alike same_rank =
-      let a = cut_within cell others (within at.alternative others viable') n (omega (arith, viable'.three)) in
-      let b = cut_within cell cuts (within at.alternative cuts viable) n (omega (arith, viable.three)) in
-      let low_turn = turn_low n visit.turns walk.turns (omega (arith, walk.three)) in
-      let boundary : slice_index others n ≡ slice_index cuts n =
-      apart cell turn (slice_index others n) (slice_index cuts n) low_turn a.0 a.1 b.0 b.1
-      (same_rank ∙ ap (rank_of cell turn) (sym there)) in
-      let x = laid others viable' in
-      let y = laid cuts viable in
-      let back = parts.middle ++ parts.second ∷ parts.tail in
-      let begins_alike = λ (xs : List ℕ). AllByRecursion (FitsSpan p) (place back (slice_index others n) xs) in
-      let fits' : begins_alike (drop (suc n) (ends_by cell cuts)) =
-      subst (λ b. AllByRecursion (FitsSpan p) (place back b (drop (suc n) (ends_by cell cuts)))) (sym boundary)
-      y.fits in
-      let long = four others viable'.three in
-      let long' = four cuts viable.three in
-      let behind_same : drop (suc n) (ends_by cell others) ≡ drop (suc n) (ends_by cell cuts) =
-      same_behind p parts pair.from cell.to pair.letters pair.last pair.places.now has.tail_fixed boundaries
-      parts.middle (slice_index others n) (drop (suc n) (ends_by cell others)) (drop (suc n) (ends_by cell cuts))
-      has.middle_fixed
-      (length_drop (suc n) (ends_by cell others) ∙ omega (arith, long, long')
-      ∙ sym (length_drop (suc n) (ends_by cell cuts)))
-      x.enough x.fits fits' x.closed y.closed in
-      let front_same : take (suc n) (ends_by cell others) ≡ take (suc n) (ends_by cell cuts) =
-      take_more n (ends_by cell others) (ends_by cell cuts) (omega (arith, long)) (omega (arith, long'))
-      (take_front others cell.to n (omega (arith, viable'.three)) ∙ alike ∙ sym front
-      ∙ sym (take_front cuts cell.to n (omega (arith, viable.three))))
-      (front_at others cell.to n (omega (arith, viable'.three)) ∙ boundary
-      ∙ sym (front_at cuts cell.to n (omega (arith, viable.three)))) in
-      same_before cell.to others cuts (same_by_parts (suc n) (ends_by cell others) (ends_by cell cuts) front_same
-      behind_same)
-
-  -- ---- what comes behind
-
-  abbrev Behind : SplitArgument → Type 0
-  Behind argument =
-      (argument ≡ argument_at cell to) ⊎ (is_before p visit (argument_at cell to) argument ≡ true)
-
-  by_number : (others : List ℕ) (k : ℕ) → others ≡ cuts → n ≤ k → Behind (it at.alternative others k)
-  by_number others k same l = elim (cases_lt n k) [
-    | inl less ↦
-        inr
-        (subst (λ xs. is_before p visit (it at.alternative cuts n) (it at.alternative xs k) ≡ true) (sym same)
-        (less_from (visited at.alternative cuts n) (visited at.alternative cuts k)
-        (inr (refl, lex_end (ranks_of cell visit.turns cuts) (n ∷ []) (k ∷ []) (inl less)))))
-    | inr not ↦ let here : k ≡ n = omega arith in inl (λ i. it at.alternative (same i) (here i))
-  ]
-
-  along_line : (others : List ℕ) (k : ℕ) (child : Cell) → AsksFor p (it at.alternative others k) child
-      → take n others ≡ take n at.cuts
-      → rank_of cell turn (slice_index at.cuts n) ≤ rank_of cell turn (slice_index others n)
-      → rank_of cell turn (slice_index others n) ≤ rank_of cell turn place'
-      → Noted child ⊎ Behind (it at.alternative others k)
-  along_line others k child asks alike after before =
-      elim (cases_lt (rank_of cell turn (slice_index others n)) (rank_of cell turn place')) [
-        | inl less ↦ inl (asked others k child asks.viable asks.there alike after less)
-        | inr not ↦ elim (cases_lt k n) [
-          | inl less ↦ inl (in_front others k child asks.viable asks.there alike less)
-          | inr later ↦ inr (by_number others k (same_cuts others asks.viable alike (omega (arith, not, before))) later)
-        ]
-      ]
-
-  next : (argument : SplitArgument) (child : Cell) → argument.cell ≡ cell → AsksFor p argument child
-      → is_before p visit (argument_at cell at) argument ≡ true → Noted child ⊎ Behind argument
-  next argument child here asks b =
+  passed : (argument : SplitArgument) (child : Cell) → argument.cell ≡ cell → AsksFor p argument child
+      → is_before p visit (argument_at cell at) argument ≡ true
+      → is_before p visit (argument_at cell to) argument ≡ false
+      → Noted child
+  passed argument child here asks b c =
       let e : argument ≡ it argument.alternative argument.cuts argument.number =
       λ i. record {
         cell = here i;
         alternative = argument.alternative;
         cuts = argument.cuts;
-        number = argument.number;
+        number =
+            argument.number;
       } in
-      subst (λ x. Noted child ⊎ Behind x) (sym e)
-      (go argument.alternative argument.cuts argument.number (subst (λ x. AsksFor p x child) e asks)
-      (subst (λ x. is_before p visit (argument_at cell at) x ≡ true) e b)
-      (is_before p visit (argument_at cell to) (it argument.alternative argument.cuts argument.number)) refl)
+      go (subst (λ x. AsksFor p x child) e asks) (subst (λ x. is_before p visit (argument_at cell at) x ≡ true) e b)
+      (subst (λ x. is_before p visit (argument_at cell to) x ≡ false) e c)
     where
-      go : (alternative : ℕ) (others : List ℕ) (k : ℕ) → AsksFor p (it alternative others k) child
-          → is_before p visit (argument_at cell at) (it alternative others k) ≡ true
-          → (behind : Bool) → is_before p visit (argument_at cell to) (it alternative others k) ≡ behind
-          → Noted child ⊎ Behind (it alternative others k)
-      go alternative others k asks b true c = inr (inr c)
-      go alternative others k asks b false c =
-          let found = between alternative others k asks.viable b c in
-          subst (λ a. Noted child ⊎ Behind (it a others k)) (sym found.same)
-          (along_line others k child (subst (λ a. AsksFor p (it a others k) child) found.same asks) found.alike
-          found.after found.before)
+      go : AsksFor p (it argument.alternative argument.cuts argument.number) child
+          → is_before p visit (argument_at cell at) (it argument.alternative argument.cuts argument.number) ≡ true
+          → is_before p visit (argument_at cell to) (it argument.alternative argument.cuts argument.number) ≡ false
+          → Noted child
+      go asks b c =
+          let found = between argument.alternative argument.cuts argument.number asks.viable b c in
+          let viable' : IsViable p cell at.alternative argument.cuts =
+          subst (λ a. IsViable p cell a argument.cuts) found.same asks.viable in
+          let there' : slice_get (placed p cell at.alternative argument.cuts) argument.number ≡ Some (IsCell child) =
+          subst (λ a. slice_get (placed p cell a argument.cuts) argument.number ≡ Some (IsCell child)) found.same
+          asks.there in
+          asked argument.cuts argument.number child viable' there' found.alike found.after found.before
 
-  pub is_reached : IsReached p Noted visit at (record { alternative = at.alternative; cuts = cuts; number = n })
-  is_reached = record {
-    is_argument = record { viable = viable; within = inside };
-    on = behind;
-    next = next;
+  pub is_skipped : IsSkipped p Noted visit at (record { alternative = at.alternative; cuts = cuts; number = last' })
+  is_skipped = record {
+    is_argument = record { viable = viable; within = inside_last };
+    on = inr behind;
+    passed = passed;
   }
