@@ -1,11 +1,8 @@
 //! The program `adp`: the top call over the standard streams, with a gate that is always open.
 #![tactic(auto)]
 
-mod words;
-
-use crate::words::words;
 use adp_io::{StdSink, StdSource, write_whole};
-use adp_main::{Status, run};
+use adp_main::{Status, run, words_behind_name};
 use evaluators::OpenGate;
 use std::io;
 use std::process::ExitCode;
@@ -16,7 +13,7 @@ fn main(rt: HostRuntime) -> ExitCode {
     let mut out = StdSink::new(rt.stdout());
     let mut err = StdSink::new(rt.stderr());
     let mut gate = OpenGate;
-    let status = match words(&rt) {
+    let status = match words_behind_name(&rt) {
         Ok(words) => run(
             &rt, alloc, &words, &mut input, &mut out, &mut err, &mut gate,
         ),

@@ -12,7 +12,7 @@ use Rattle.adp_model.specs.Verdict.{IsVerdict, KeepLimits, IsFirstLimit, AreRepo
 use Rattle.adp_model.specs.Verdict as verdicts
 use Rattle.report.specs.declared.fault.Fault.{Fault}
 use Rattle.report.specs.declared.fault.Fault.TheVariants as faults
-use Rattle.adp_main.specs.declared.checked_job.CheckedJob.{CheckedJob}
+use Rattle.adp_main.specs.declared.checking.CheckedJob.{CheckedJob}
 use Rattle.adp_main.specs.Ending.{IsOfVerdict, ShowsFirst, ShowsPart, ShowsVerdict}
 use Rattle.adp_main.specs.Faults.{fault_verdict, status_after}
 use Rattle.adp_main.specs.Reporting.{AreReportsOf, HasWritten, IsCheckedJob, IsJobEnding, IsJobRefusal, IsReported}

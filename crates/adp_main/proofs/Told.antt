@@ -11,7 +11,7 @@ use Rattle.adp_model.specs.Verdict.{AsksUnder}
 use Rattle.evaluators.specs.declared.finished.RunNote.{RunNote}
 use Rattle.report.specs.declared.fault.Fault.{Fault}
 use Rattle.report.specs.declared.fault.Fault.TheVariants as faults
-use Rattle.adp_main.specs.declared.checked_job.CheckedJob.{CheckedJob}
+use Rattle.adp_main.specs.declared.checking.CheckedJob.{CheckedJob}
 use Rattle.adp_main.specs.declared.status.Status.{Status}
 use Rattle.adp_main.specs.declared.status.Status.TheVariants.{Done}
 use Rattle.adp_main.specs.Faults.{status_of}

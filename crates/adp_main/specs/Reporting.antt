@@ -11,7 +11,7 @@ use Rattle.adp_model.specs.Verdict.{IsVerdict, AsksUnder, KeepLimits, IsFirstLim
 use Rattle.adp_model.specs.Verdict as verdicts
 use Rattle.report.specs.declared.fault.Fault.{Fault}
 use Rattle.report.specs.declared.fault.Fault.TheVariants as faults
-use Rattle.adp_main.specs.declared.checked_job.CheckedJob.{CheckedJob}
+use Rattle.adp_main.specs.declared.checking.CheckedJob.{CheckedJob}
 use Rattle.grammar_check.specs.declared.error.CheckError.{CheckError}
 use Rattle.grammar_check.specs.declared.error.CheckError.TheVariants as check_errors
 use Rattle.grammar_text.specs.declared.error.TextError.{TextError}

@@ -15,7 +15,7 @@ ghost use Rattle.adp_main.specs.Reporting.{IsJobEnding};
 ghost use Rattle.adp_main.specs.declared.status.Status.TheVariants.{WriteFault};
 ghost use Rattle.report.specs.Faults.{HasShortName};
 
-use crate::checked_job::{CheckedJob, checked_job};
+use crate::checking::{CheckedJob, checked_job};
 use crate::limits::judge_words;
 use crate::schedule::schedule_entries;
 use crate::words::Command;

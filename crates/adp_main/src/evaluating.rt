@@ -27,7 +27,7 @@ impl Mode {
     }
 
     /// Whether a job is read, and no word made.
-    pub(crate) fn reads_job(self) -> bool
+    pub fn reads_job(self) -> bool
         ensures { MatchBool result (ReadsJob (mode_of self)) (mode_of self ≡ asked.Big) }
     {
         match self {

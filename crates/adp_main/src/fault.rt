@@ -10,7 +10,7 @@ use grammar_text::TextError;
 use report::Fault;
 
 /// The status that a run with this fault ends with.
-pub(crate) fn status_of(fault: &Fault) -> Status
+pub fn status_of(fault: &Fault) -> Status
     ensures { result ≡ status_of fault.now }
 {
     match fault {
@@ -25,7 +25,7 @@ pub(crate) fn status_of(fault: &Fault) -> Status
 }
 
 /// The fault of an input that was not read.
-pub(crate) fn reading_fault(fault: JobFault) -> Fault
+pub fn reading_fault(fault: JobFault) -> Fault
     ensures { result ≡ reading_fault fault }
 {
     match fault {

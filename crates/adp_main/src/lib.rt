@@ -2,8 +2,9 @@
 #![tactic(auto)]
 
 mod answering;
+mod behind_name;
 mod big;
-mod checked_job;
+mod checking;
 mod evaluating;
 mod fault;
 mod limits;
@@ -14,6 +15,10 @@ mod top_call;
 mod words;
 mod writing;
 
+pub use behind_name::words_behind_name;
+pub use checking::{CheckedJob, checked_job};
+pub use fault::{reading_fault, status_of};
+pub use schedule::schedule_entries;
 pub use status::Status;
 pub use top_call::run;
 pub use words::{Command, Mode, Usage, read_words};

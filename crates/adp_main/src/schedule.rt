@@ -33,7 +33,7 @@ fn is_entry(byte: u8) -> bool
 }
 
 /// The machines that the schedule of a command names in turn; none where it has no schedule.
-pub(crate) fn schedule_entries(
+pub fn schedule_entries(
     alloc: Global,
     words: &[String],
     command: &Command,

@@ -5,3 +5,4 @@ pub mod Teams
 pub mod Joining
 pub mod Finishing
 pub mod Playing
+pub mod Watching

@@ -42,3 +42,13 @@ map_after f g xs ys len count same =
 pub map_written_back : {A B : Type 0} (f : A → B) (xs ys : List A) (len : ℕ) → len ≡ length xs → map f ys ≡ map f xs
     → map f (take len (ys ++ drop (length ys) xs)) ≡ map f xs
 map_written_back f xs ys len count same = map_after f f xs ys len count same ∙ same
+
+pub written_back : {A B : Type 0} (f : A → B) (xs ys : List A) (len : ℕ) → len ≡ length xs → map f ys ≡ map f xs
+    → take len (ys ++ drop (length ys) xs) ≡ ys
+written_back f xs ys len count same =
+    let lengths = same_length f xs ys same in
+    let none : length (drop (length ys) xs) ≡ 0 =
+    let left = length-drop (length ys) xs in omega (arith, left, lengths) in
+    let all = length-append ys (drop (length ys) xs) in
+    take_whole (ys ++ drop (length ys) xs) len (omega (arith, all, none, lengths, count))
+    ∙ ap (λ rest. ys ++ rest) (nothing (drop (length ys) xs) none) ∙ append-nil ys

@@ -63,7 +63,7 @@ entry_here : (number : ℕ) (schedule : List ℕ) (at : ℕ) → at < length sch
 entry_here number schedule at inside e =
     count_by_more_yes (nat_eq number) schedule at 0 inside (eq-eqb number (get_or schedule at 0) e)
 
-other_number : (a b : ℕ) (same : Bool) → nat_eq a b ≡ same → (a ≡ b → ⊥) → nat_eq a b ≡ false
+pub other_number : (a b : ℕ) (same : Bool) → nat_eq a b ≡ same → (a ≡ b → ⊥) → nat_eq a b ≡ false
 other_number a b true is other = absurd (other (eqb-true a b is))
 other_number a b false is other = is
 

@@ -5,3 +5,4 @@ pub mod Runs
 pub mod Schedules
 pub mod Playing
 pub mod Joined
+pub mod Watching

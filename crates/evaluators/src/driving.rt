@@ -2,7 +2,9 @@
 
 ghost use Rattle.std.specs.Prelude.{◌≡◌, ◌<◌, true};
 ghost use Rattle.evaluators.specs.Driving.{CanGoOn, HasGoneOn};
+ghost use Rattle.evaluators.specs.Watching.{IsToldOn};
 
+use crate::watcher::Watcher;
 use adp_model::laws::existence::{
     demanded_cells_are_listed, rule_arguments_are_few, rule_arguments_are_listed,
 };
@@ -17,10 +19,12 @@ pub(crate) trait Door {
     fn pass(&self, worker: u32);
 }
 
-/// Steps a machine of worker `number` until it has ended. The door is passed before each step that loads a record word.
-pub(crate) fn drive<M: Memo, D: Door>(
+/// Steps a machine of worker `number` until it has ended. The door is passed before each step that loads a record word,
+/// and the watcher is told of each step.
+pub(crate) fn drive<M: Memo, D: Door, W: Watcher<M::Pass>>(
     memo: &M,
     door: &D,
+    watcher: &mut W,
     number: u32,
     machine: &mut Machine<'_, M>,
     pass: &mut M::Pass,
@@ -29,14 +33,17 @@ pub(crate) fn drive<M: Memo, D: Door>(
     requires ready { CanGoOn M.meaning (M.is_of memo.now) machine.old pass.old }
     ensures on { HasGoneOn M.meaning (M.is_of memo.now) machine.old machine.new pass.old pass.new }
     ensures ended { machine.new.machine.ended ≡ true }
+    ensures told { IsToldOn number (W.told watcher.old) (W.told watcher.new) machine.old.machine.moves
+        machine.new.machine.moves }
 {
-    drive_counted::<M, Brand, D>(memo, door, number, Blank::new(1), machine, pass);
+    drive_counted::<M, Brand, D, W>(memo, door, watcher, number, Blank::new(1), machine, pass);
 }
 
 /// The same, with a counter of steps that is opened for it.
-fn drive_counted<M: Memo, L: Ledger, D: Door>(
+fn drive_counted<M: Memo, L: Ledger, D: Door, W: Watcher<M::Pass>>(
     memo: &M,
     door: &D,
+    watcher: &mut W,
     number: u32,
     blank: Blank,
     machine: &mut Machine<'_, M>,
@@ -48,6 +55,8 @@ fn drive_counted<M: Memo, L: Ledger, D: Door>(
     requires ready { CanGoOn M.meaning (M.is_of memo.now) machine.old pass.old }
     ensures on { HasGoneOn M.meaning (M.is_of memo.now) machine.old machine.new pass.old pass.new }
     ensures ended { machine.new.machine.ended ≡ true }
+    ensures told { IsToldOn number (W.told watcher.old) (W.told watcher.new) machine.old.machine.moves
+        machine.new.machine.moves }
 {
     demanded_cells_are_listed();
     rule_arguments_are_listed();
@@ -62,7 +71,8 @@ fn drive_counted<M: Memo, L: Ledger, D: Door>(
         if machine.loads_record_word(memo) {
             door.pass(number);
         }
-        let _ = machine.step(memo, pass, &mut steps);
+        let turn = machine.step(memo, pass, &mut steps);
+        watcher.stepped(number, pass, turn);
     }
     unreachable!()
 }

@@ -3,6 +3,7 @@
 use crate::driving::Door;
 use crate::gate::Gate;
 use crate::halves::Evaluator;
+use crate::watcher::Unwatched;
 use crate::worker::{TableWorker, work};
 use memo_table::Table;
 
@@ -15,8 +16,8 @@ pub(crate) struct GatedWorker<'g, W, G> {
 
 /// The way through a gate.
 #[derive(Drop)]
-struct Way<'g, G> {
-    gate: &'g G,
+pub(crate) struct Way<'g, G> {
+    pub(crate) gate: &'g G,
 }
 
 impl<'g, G: Gate> Door for Way<'g, G> {
@@ -36,6 +37,7 @@ impl<'a, 'g, G: Gate> Evaluator for GatedWorker<'g, TableWorker<'a>, G> {
 
     fn run(&mut self, table: &Table) {
         let way = Way { gate: self.gate };
-        work(table, &way, &mut self.worker);
+        let number = self.worker.number;
+        work(table, &way, &mut Unwatched, number, &mut self.worker);
     }
 }

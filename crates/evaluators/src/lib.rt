@@ -8,9 +8,11 @@ mod gate;
 mod gated;
 mod halves;
 mod schedule;
+mod watcher;
 mod worker;
 
 pub use crew::run_workers;
 pub use finished::{Finished, RunNote};
 pub use gate::{Gate, LogGate, OpenGate};
-pub use schedule::run_schedule;
+pub use schedule::{run_schedule, watch_schedule};
+pub use watcher::{Unwatched, Watcher};

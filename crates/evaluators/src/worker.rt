@@ -1,9 +1,12 @@
 //! One evaluator: it steps its machine over the table until this has ended.
 
 ghost use Rattle.std.specs.Prelude.{◌≡◌};
+ghost use Rattle.evaluators.specs.Runs.{moves_of};
+ghost use Rattle.evaluators.specs.Watching.{IsToldOn};
 ghost use Rattle.evaluators.specs.Working.{IsReady, IsDone, post_of};
 
 use crate::driving::{Door, drive};
+use crate::watcher::Watcher;
 use cell_core::Machine;
 use memo_table::{Pass, Table};
 
@@ -19,17 +22,26 @@ pub(crate) struct Worker<M> {
 /// An evaluator whose machine works over the table.
 pub(crate) type TableWorker<'a> = Worker<Machine<'a, Table>>;
 
-/// Steps the worker's machine until it has ended. The door is passed before each step that loads a record word.
-pub(crate) fn work<D: Door>(table: &Table, door: &D, worker: &mut TableWorker<'_>)
+/// Steps the worker's machine until it has ended. The door is passed before each step that loads a record word, and the
+/// watcher is told of each step; both know the worker by this number.
+pub(crate) fn work<D: Door, W: Watcher<Pass>>(
+    table: &Table,
+    door: &D,
+    watcher: &mut W,
+    number: u32,
+    worker: &mut TableWorker<'_>,
+)
     requires ready { IsReady table.now worker.old }
     ensures done { IsDone table.now worker.new }
     ensures post { post_of worker.new ≡ post_of worker.old }
+    ensures told { IsToldOn number (W.told watcher.old) (W.told watcher.new) (moves_of worker.old.machine)
+        (moves_of worker.new.machine) }
 {
     let Worker {
         machine,
         pass,
-        number,
+        number: _,
         seed: _,
     } = worker;
-    drive(table, door, *number, machine, pass);
+    drive(table, door, watcher, number, machine, pass);
 }

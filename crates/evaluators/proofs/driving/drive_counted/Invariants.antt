@@ -3,6 +3,7 @@ use Rattle.adp_model.specs.Demand.{IsDemandedCount}
 use Rattle.adp_model.specs.SplitArguments.{SplitArgument, AreRuleArguments}
 use Rattle.adp_model.specs.StepBound.{step_bound, remaining_bound}
 use Rattle.evaluators.specs.Driving.{HasGoneOn}
+use Rattle.evaluators.specs.Watching.{IsToldOn}
 use Rattle.evaluators.proofs.driving.drive_counted.Given as goal
 
 abbrev pub invariant-steps : goal.invariant-steps
@@ -12,6 +13,8 @@ invariant-steps g l = record {
       → AreRuleArguments l.fn.machine.machine.problem arguments
       → remaining_bound g.M.Memo.meaning m arguments l.machine.machine l.pass + l.counter
       ≤ step_bound m (length arguments);
+  told : IsToldOn l.number (g.W.Watcher.told l.fn.watcher) (g.W.Watcher.told l.watcher) l.fn.machine.machine.moves
+      l.machine.machine.moves;
 }
 
 abbrev pub decreases-steps : goal.decreases-steps

@@ -1,9 +1,12 @@
-use Rattle.std.proofs.Common.{take, get_or, arith}
+use Rattle.std.proofs.Common.{take, get_or, sym, subst, ◌∙◌, arith}
 use Rattle.std.proofs.Math.Seq.{map-set_same}
+use Rattle.evaluators.specs.Runs.{moves_of}
+use Rattle.evaluators.specs.Watching.{IsToldOn}
 use Rattle.evaluators.specs.Working.{TableWorker, post_of}
 use Rattle.evaluators.specs.Playing.{IsPlayed}
 use Rattle.evaluators.specs.declared.gated.GatedWorker.{GatedWorker}
 use Rattle.evaluators.proofs.Playing.{item_of, played_by_none, played_by}
+use Rattle.evaluators.proofs.Watching.{told_by}
 use Rattle.evaluators.proofs.schedule.play_entry.Goals as goal
 
 pub returns-then-number-workers-clause-played : goal.returns-then-number-workers-clause-played
@@ -43,3 +46,17 @@ pub returns-clause-posts : goal.returns-clause-posts
 returns-clause-posts g c =
     map-set_same (λ (gated : GatedWorker TableWorker _). post_of gated.worker) c.args.workers.now c.from-number.result
     _ c.index-workers-number.result c.step_once.ensures.post
+
+pub returns-clause-told : goal.returns-clause-told
+returns-clause-told g c =
+    told_by (λ (gated : GatedWorker TableWorker _). moves_of gated.worker.machine) c.from-number.result
+    (g.W.Watcher.told c.args.watcher.now) (g.W.Watcher.told c.step_once.new.watcher) c.args.workers.now
+    (record {
+      worker = c.step_once.new.worker;
+      gate = (get_or c.args.workers.now c.from-number.result c.index-workers-number.result).gate;
+    })
+    c.index-workers-number.result (omega (arith, c.if-number-workers.false))
+    (subst (λ number. IsToldOn number (g.W.Watcher.told c.args.watcher.now) (g.W.Watcher.told c.step_once.new.watcher)
+    (moves_of (get_or c.args.workers.now c.from-number.result c.index-workers-number.result).worker.machine)
+    (moves_of c.step_once.new.worker.machine)) (c.from.ensures ∙ sym c.from-number.ensures) c.step_once.ensures.told)
+    c.requires.told

@@ -1,9 +1,7 @@
-// The words of the command line behind the program's name. The name, and the folder in it, may be no text, so it is
-// not read.
 use std::env::{Env, FillError};
 use std::{env, io};
 
-// An environment whose first word is the one behind the program's name.
+/// An environment whose first word is the one behind the program's name.
 #[derive(Drop)]
 struct BehindName<'a> {
     env: &'a HostRuntime,
@@ -26,8 +24,13 @@ impl Env for BehindName<'_> {
     }
 }
 
-// The words behind the program's name. It is an error where one of them is no text.
-pub(crate) fn words(rt: &HostRuntime) -> io::Result<Vec<String>> {
+/// The words of the command line behind the program's name. The name, and the folder in it, may be no text, so it is not
+/// read.
+///
+/// # Errors
+///
+/// Where one of the words is no text, or there is no memory.
+pub fn words_behind_name(rt: &HostRuntime) -> io::Result<Vec<String>> {
     let behind = BehindName { env: rt };
     let words = env::args(&(behind, rt.alloc()))?.collect(rt.alloc())?;
     Ok(words)

@@ -6,7 +6,7 @@ use Rattle.adp_main.specs.Commands.{asked_command}
 use Rattle.adp_main.specs.Reporting.{grammar_refusal}
 use Rattle.adp_main.proofs.CheckedJobs.{is_text, is_checked, grammar_refused}
 use Rattle.adp_main.proofs.Turned.{gave_ok, gave_err}
-use Rattle.adp_main.proofs.checked_job.checked_job.Goals as goal
+use Rattle.adp_main.proofs.checking.checked_job.Goals as goal
 
 pub new-name-requires : goal.new-name-requires
 new-name-requires c =

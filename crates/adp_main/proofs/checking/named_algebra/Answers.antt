@@ -1,7 +1,7 @@
 use Rattle.std.proofs.Common.{arith}
 use Rattle.adp_main.proofs.AskedNames.{within_words, name_is, name_named}
 use Rattle.std.specs.String.{string_bytes}
-use Rattle.adp_main.proofs.checked_job.named_algebra.Goals as goal
+use Rattle.adp_main.proofs.checking.named_algebra.Goals as goal
 
 pub bounds-words-place : goal.bounds-words-place
 bounds-words-place c = within_words string_bytes c.args.words.now _ c.in-Some.place c.requires.command c.in-Some.is

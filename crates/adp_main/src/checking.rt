@@ -18,13 +18,13 @@ use std::alloc::{AllocError, Global};
 
 /// The checked grammar and the words.
 #[derive(Drop)]
-pub(crate) struct CheckedJob {
-    pub(crate) checked: Checked,
-    pub(crate) words: Sequence<Text>,
+pub struct CheckedJob {
+    pub checked: Checked,
+    pub words: Sequence<Text>,
 }
 
 /// Reads the job that the bytes spell, and checks its grammar under the algebra that the command asks for.
-pub(crate) fn checked_job(
+pub fn checked_job(
     alloc: Global,
     words: &[String],
     command: &Command,

@@ -1,0 +1,117 @@
+//! The program `adp-trace`: the steps of machines that follow a schedule, a line for each.
+//!
+//! It takes the options of the mode `replay` and a job on its standard input, of which it answers the first word.
+#![tactic(auto)]
+
+ghost use Rattle.std.specs.Prelude.{◌≤◌, IfErr};
+ghost use Rattle.report.specs.Faults.{HasShortName};
+ghost use Rattle.adp_main.specs.Commands.{asked_command};
+
+mod lines;
+mod step_lines;
+mod words;
+
+use crate::lines::push_trace;
+use crate::words::words;
+use adp_io::{Sink, Source, StdSink, StdSource, read_job, write_whole};
+use adp_main::{
+    CheckedJob, Command, Status, checked_job, read_words, reading_fault, schedule_entries,
+    status_of,
+};
+use adp_model::laws::verdict::command_is_unique;
+use grammar_check::{AdmitError, admit};
+use report::{Fault, fault_line};
+use std::alloc::Global;
+use std::io;
+use std::process::ExitCode;
+use step_traces::trace_schedule;
+
+fn main(rt: HostRuntime) -> ExitCode {
+    let alloc = rt.alloc();
+    let mut input = StdSource::new(rt.stdin());
+    let mut out = StdSink::new(rt.stdout());
+    let status = match answer(&rt, alloc, &mut input, &mut out) {
+        Ok(()) => Status::Done,
+        Err(fault) => {
+            // A line that cannot be written changes nothing else.
+            let _ = write_whole(&mut StdSink::new(rt.stderr()), fault_line(&fault).bytes());
+            status_of(&fault)
+        }
+    };
+    ExitCode::from(status.number())
+}
+
+/// Reads the job and writes the trace of its first word.
+fn answer<S: Source, K: Sink>(
+    rt: &HostRuntime,
+    alloc: Global,
+    input: &mut S,
+    out: &mut K,
+) -> Result<(), Fault>
+    ensures { IfErr result HasShortName }
+{
+    command_is_unique();
+    let words = match words(rt) {
+        Ok(words) => words,
+        Err(error) => return Err(words_fault(error)),
+    };
+    let command = read_words(&words)?;
+    if !command.mode.reads_job() {
+        return Err(Fault::Usage);
+    }
+    let bytes = match read_job(alloc, input) {
+        Ok(bytes) => bytes,
+        Err(fault) => return Err(reading_fault(fault)),
+    };
+    let job = checked_job(alloc, &words, &command, &bytes)?;
+    let schedule = schedule_entries(alloc, &words, &command)?;
+    let text = trace_text(alloc, &command, &schedule, &job)?;
+    match write_whole(out, &text) {
+        Ok(()) => Ok(()),
+        Err(_) => Err(Fault::Write),
+    }
+}
+
+/// The trace of the first word; nothing where there is no word.
+fn trace_text(
+    alloc: Global,
+    command: &Command,
+    schedule: &[u8],
+    job: &CheckedJob,
+) -> Result<Vec<u8>, Fault>
+    requires some { 1 ≤ (asked_command command.now).workers }
+    requires few_workers { (asked_command command.now).workers ≤ 32 }
+    ensures { IfErr result HasShortName }
+{
+    let mut text = Vec::new(alloc);
+    let Some(word) = job.words.as_slice().first() else {
+        return Ok(text);
+    };
+    let problem = match admit(alloc, &job.checked, word) {
+        Ok(problem) => problem,
+        Err(error) => return Err(admit_fault(error)),
+    };
+    let traced = trace_schedule(alloc, &problem, command.workers, command.seed, schedule)?;
+    push_trace(&mut text, command.seed, &problem, &traced)?;
+    Ok(text)
+}
+
+/// The fault of a first word that passes a limit.
+fn admit_fault(error: AdmitError) -> Fault
+    ensures { HasShortName result }
+{
+    match error {
+        AdmitError::Fault(fault) => Fault::Limit { word: 1, fault },
+        AdmitError::Memory => Fault::Memory,
+    }
+}
+
+/// The fault of words that were not taken: those that are no text are no command.
+fn words_fault(error: io::Error) -> Fault
+    ensures { HasShortName result }
+{
+    match error.kind() {
+        io::ErrorKind::OutOfMemory => Fault::Memory,
+        _ => Fault::Usage,
+    }
+}
