@@ -1,5 +1,5 @@
 -- The totals of laid arguments, one end of the first argument after another.
-use Rattle.std.proofs.Common.{◌≡◌, ℕ, ◌+◌, ◌≤◌, ◌⊎◌, ℤ, ◌+ℤ◌, ◌*ℤ◌, nat_abs, Option, Some, None, List, ◌∷◌, get_or, refl, inl, inr, arith}
+use Rattle.std.proofs.Common.{◌≡◌, ℕ, ◌+◌, ◌≤◌, ◌⊎◌, ℤ, ◌+ℤ◌, ◌*ℤ◌, nat_abs, Option, Some, None, List, ◌∷◌, get_or, refl, ap, inl, inr, arith}
 use Rattle.std.specs.List.{Contains}
 use Rattle.std.specs.declared.ops.Range.{Range}
 use Rattle.adp_model.specs.declared.grammar.Arg.{Arg}
@@ -18,7 +18,7 @@ use Rattle.cell_answers.specs.Entries.{HasEntry}
 use Rattle.cell_answers.specs.Through.{HasTotalAt}
 use Rattle.cell_answers.specs.Totals.{HasTotal, IsWithinBound, AreLow, AreWeighted}
 use Rattle.score_numbers.specs.Greatest.{IsGreatestOf}
-use Rattle.cell_answers.proofs.Totalling.{OneScore, HasTotalBefore, values_cover, greatest_at, before_all, low_rest, low_parts}
+use Rattle.cell_answers.proofs.Totalling.{OneScore, HasTotalBefore, values_kept, values_cover, sum_low, greatest_at, before_all, low_rest, low_parts}
 use Rattle.cell_answers.proofs.Greatest.{before_more, before_none}
 
 -- it holds of the argument's cell, if it has one
@@ -39,6 +39,14 @@ pub record AreLaid (p : PosedProblem) (table : Table ℤ) (arguments : List Arg)
 pub record AreSound (p : PosedProblem) : Type 0 where
   pub within : (cell : Cell) (score : ℤ) → HasBestScore p cell score → IsWithinBound p cell score
   pub one : OneScore (HasBestScore p)
+
+-- a total of best scores is no greater than the greatest score
+pub total_low : (p : PosedProblem) → AreSound p → (arguments : List Arg) (factors : List ℤ) (from to : ℕ) → AreLow p arguments factors from to → (total : ℤ) → HasTotal p (HasBestScore p) arguments factors from to total → nat_abs total ≤ greatest_score
+total_low p sound arguments factors from to low total (values, have, is) =
+    let all = low values (values_kept p (HasBestScore p) (IsWithinBound p) sound.within arguments from to values have) in
+    let sum = sum_low factors values in
+    let same = ap nat_abs is in
+    omega arith
 
 -- the arguments behind the first one
 pub weighted_rest : (p : PosedProblem) (argument : Arg) (others : List Arg) (factor : ℤ) (factors : List ℤ) → AreWeighted p (argument ∷ others) (factor ∷ factors) → AreWeighted p others factors

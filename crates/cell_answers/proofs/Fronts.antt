@@ -1,5 +1,5 @@
 -- Totals of arguments behind tokens of fixed length in front of them.
-use Rattle.std.proofs.Common.{◌≡◌, ℕ, ◌-◌, ◌≤◌, ℤ, ◌+ℤ◌, nat_abs, Some, None, List, ◌++◌, length, ap, subst, arith}
+use Rattle.std.proofs.Common.{◌≡◌, ℕ, ◌≤◌, ℤ, ◌+ℤ◌, nat_abs, Some, None, List, ◌++◌, length, subst, arith}
 use Rattle.std.specs.List.{AllByRecursion}
 use Rattle.std.proofs.lemmas.Int.{ints}
 use Rattle.adp_model.specs.declared.grammar.Arg.{Arg}
@@ -9,14 +9,14 @@ use Rattle.adp_model.specs.Bellman.{HasBestScore}
 use Rattle.yield_sizes.specs.Placing.{Cover}
 use Rattle.split_lines.specs.Laid.{IsFixed}
 use Rattle.cell_tables.specs.Tables.{Table}
-use Rattle.cell_answers.specs.Totals.{HasTotal, IsWithinBound, AreLow, AreWeighted}
+use Rattle.cell_answers.specs.Totals.{HasTotal, AreLow, AreWeighted}
 use Rattle.score_numbers.specs.Greatest.{IsGreatestOf}
 use Rattle.cell_answers.proofs.Dividing.{cover_forward}
 use Rattle.cell_answers.proofs.WholeLines.{demands_back}
-use Rattle.cell_answers.proofs.FirstEnds.{AreLaid, AreSound}
+use Rattle.cell_answers.proofs.FirstEnds.{AreLaid, AreSound, total_low}
 use Rattle.cell_answers.proofs.FrontPlaces.{weighted_front, weighted_back}
 use Rattle.cell_answers.proofs.LineTotals.{AreTotals, totals_parted, totals_joined, low_front, low_back, fixed_total_unique}
-use Rattle.cell_answers.proofs.Totalling.{values_kept, values_cover, sum_low}
+use Rattle.cell_answers.proofs.Totalling.{values_cover}
 use Rattle.split_lines.specs.Ends.{IsFrontTold}
 
 -- where the tokens have no end there is no total
@@ -69,9 +69,4 @@ module _ (p : PosedProblem) (table : Table ℤ) (front others : List Arg) (facto
   )
 
   pub both_low : AreSound p → (a b : ℤ) → HasTotal p (HasBestScore p) front factors from end a → HasTotal p (HasBestScore p) others more end to b → nat_abs (a +ℤ b) ≤ greatest_score
-  both_low sound a b has has' =
-      let all = totals_joined p (HasBestScore p) front others factors more from to each end a b has has' in
-      let low = laid.low all.0 (values_kept p (HasBestScore p) (IsWithinBound p) sound.within (front ++ others) from to all.0 all.1) in
-      let sum = sum_low (factors ++ more) all.0 in
-      let same = ap nat_abs all.2 in
-      omega arith
+  both_low sound a b has has' = total_low p sound (front ++ others) (factors ++ more) from to laid.low (a +ℤ b) (totals_joined p (HasBestScore p) front others factors more from to each end a b has has')

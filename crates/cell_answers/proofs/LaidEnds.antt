@@ -1,5 +1,5 @@
 -- Arguments laid by ends that are given: one end before others, totals with them, and the first of them.
-use Rattle.std.proofs.Common.{◌≡◌, ℕ, zero, suc, ◌+◌, ◌<◌, ◌≤◌, ℤ, pos, ◌+ℤ◌, ◌*ℤ◌, ◌≤ℤ◌, Option, Some, None, List, [], ◌∷◌, length, get_or, take, refl, sym, ap, subst, ◌∙◌, inl, inr, arith}
+use Rattle.std.proofs.Common.{◌≡◌, ℕ, zero, suc, ◌+◌, ◌<◌, ◌≤◌, ℤ, pos, ◌+ℤ◌, ◌*ℤ◌, Some, None, List, [], ◌∷◌, length, get_or, take, refl, sym, ap, subst, ◌∙◌, inl, inr, arith}
 use Rattle.std.specs.List.{AllByRecursion}
 use Rattle.std.specs.declared.ops.Range.{Range}
 use Rattle.std.proofs.lemmas.Bool.{cases_lt}
@@ -15,7 +15,6 @@ use Rattle.yield_sizes.specs.Placing.{on_span, ArePlaces, Cover}
 use Rattle.cell_tables.specs.Tables.{Table}
 use Rattle.score_numbers.specs.Greatest.{IsGreatestOf}
 use Rattle.cell_answers.specs.Entries.{HasEntry}
-use Rattle.cell_answers.specs.FirstPlaces.{IsFirstGreatest}
 use Rattle.cell_answers.specs.LaidBy.{HasTotalBy, AreFirstEnds, IsFirstEnd}
 use Rattle.cell_answers.specs.Through.{HasTotalAt}
 use Rattle.cell_answers.specs.Totals.{HasTotal}
@@ -177,26 +176,6 @@ module _ (p : PosedProblem) (table : Table ℤ) (sound : AreSound p) (argument :
         let it = total_at p (HasBestScore p) argument others factor factors from to total greatest.0 in
         let missed = are.none_missed it.0 it.1.fits (values_cover p (HasBestScore p) others it.0 to it.1.have_others.0 it.1.have_others.1) in
         none it.0 (omega (arith, missed.1)) it.1
-
--- ---- along a line
-
--- the first place of a boundary is the first end
-pub end_along : (p : PosedProblem) (arguments : List Arg) (factors : List ℤ) (from to : ℕ) (total : ℤ) (place : ℕ) → IsGreatestOf (HasTotal p (HasBestScore p) arguments factors from to) (Some total) → IsFirstGreatest p arguments factors from to place
-    → IsFirstEnd p arguments factors from to total place
-end_along p arguments factors from to total place greatest it =
-    let l = greatest.1 it.greatest it.is_greatest.0 in
-    let m = it.is_greatest.1 total greatest.0 in
-    let same : it.greatest ≡ total = omega (arith, ints) in
-    record {
-      argument = it.argument;
-      others = it.others;
-      factor = it.factor;
-      more = it.more;
-      arguments_are = it.arguments_are;
-      factors_are = it.factors_are;
-      there = subst (HasTotalAt p (HasBestScore p) it.argument it.others it.factor it.more from place to) same it.there;
-      first = λ other at. it.first other (subst (HasTotalAt p (HasBestScore p) it.argument it.others it.factor it.more from other to) (sym same) at);
-    }
 
 -- ---- an end without a choice
 

@@ -1,5 +1,5 @@
 -- Lists of one element.
-use Rattle.std.proofs.Common.{◌≡◌, ◌-◌, List, [], ◌∷◌, length, get_or, sym, ap, arith}
+use Rattle.std.proofs.Common.{◌≡◌, List, [], ◌∷◌, length, get_or, sym, ap, arith}
 
 -- a list of one element
 pub one_alone : {V : Type 0} (xs : List V) (first : V) → length xs ≡ 1 → first ≡ get_or xs 0 first → xs ≡ first ∷ []

@@ -22,10 +22,10 @@ use Rattle.cell_tables.specs.Tables.{Table}
 use Rattle.cell_answers.specs.Entries.{HasEntry, IsEntry}
 use Rattle.cell_answers.specs.Rows.{HasEntryAt}
 use Rattle.cell_tables.specs.Spans.{Spans, value_at}
-use Rattle.cell_answers.specs.Totals.{HasTotal, IsWithinBound, AreLow, AreWeighted}
+use Rattle.cell_answers.specs.Totals.{HasTotal, AreLow, AreWeighted}
 use Rattle.score_numbers.specs.Greatest.{IsGreatestOf}
-use Rattle.cell_answers.proofs.Totalling.{values_kept, values_cover, sum_low}
-use Rattle.cell_answers.proofs.FirstEnds.{AreLaid, AreSound}
+use Rattle.cell_answers.proofs.Totalling.{values_cover}
+use Rattle.cell_answers.proofs.FirstEnds.{AreLaid, AreSound, total_low}
 use Rattle.cell_answers.proofs.LineTotals.{AreTotals, totals_parted, totals_joined, low_front, low_back, fixed_total_unique}
 use Rattle.cell_answers.proofs.FrontPlaces.{weighted_front, weighted_back}
 
@@ -214,9 +214,4 @@ module _ (p : PosedProblem) (table : Table ℤ) (line : LineArguments) (from to 
   )
 
   pub whole_low : AreSound p → (a b : ℤ) → HasTotal p (HasBestScore p) front front_factors from last a → HasTotal p (HasBestScore p) tail tail_factors last to b → nat_abs (a +ℤ b) ≤ greatest_score
-  whole_low sound a b has has' =
-      let all = joined a b has has' in
-      let low = whole.laid.low all.0 (values_kept p (HasBestScore p) (IsWithinBound p) sound.within (first ∷ (middle ++ second ∷ tail)) from to all.0 all.1) in
-      let sum = sum_low (first_factor ∷ (middle_factors ++ second_factor ∷ tail_factors)) all.0 in
-      let same = ap nat_abs all.2 in
-      omega arith
+  whole_low sound a b has has' = total_low p sound (first ∷ (middle ++ second ∷ tail)) (first_factor ∷ (middle_factors ++ second_factor ∷ tail_factors)) from to whole.laid.low (a +ℤ b) (joined a b has has')

@@ -1,5 +1,5 @@
 -- The entries of cells, which tell their best scores.
-use Rattle.std.specs.Prelude.{◌≡◌, ℤ, ◌-◌, Some, MatchOption}
+use Rattle.std.specs.Prelude.{◌≡◌, ℤ, Some, MatchOption}
 use Rattle.adp_model.specs.declared.cell.Cell.{Cell}
 use Rattle.adp_model.specs.declared.cell.Answer.TheVariants.{NoCandidate}
 use Rattle.adp_model.specs.PosedProblem.{PosedProblem}

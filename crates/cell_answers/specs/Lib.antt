@@ -1,7 +1,6 @@
 pub mod ArgumentEntries
 pub mod CellBest
 pub mod Entries
-pub mod FirstPlaces
 pub mod LaidBy
 pub mod Opened
 pub mod PackedTables

@@ -1,5 +1,5 @@
 -- Tables of numbers of a width, and of the entries that they stand for.
-use Rattle.std.specs.Prelude.{◌≡◌, ℕ, ◌-◌, ℤ, Some}
+use Rattle.std.specs.Prelude.{◌≡◌, ℕ, ℤ, Some}
 use Rattle.adp_model.specs.declared.grammar.Goal.{Goal}
 use Rattle.cell_tables.specs.Spans.{Spans, value_at}
 use Rattle.cell_tables.specs.Tables.{Table}

@@ -29,7 +29,7 @@ use score_numbers::{
 use split_lines::{Line, Lines, fixed_length};
 
 /// The total of tokens of fixed length that match the letters from `from` to `to`.
-fn fixed_total(lines: &Lines<'_>, tokens: &[Arg], factors: &[i64], from: u16, to: u16) -> i64
+pub fn fixed_total(lines: &Lines<'_>, tokens: &[Arg], factors: &[i64], from: u16, to: u16) -> i64
     requires weighted { AreWeighted lines.now tokens.now factors.now }
     requires fixed { AllByRecursion IsFixed tokens.now }
     requires covers { Cover lines.now tokens.now from to }
@@ -170,7 +170,7 @@ fn greatest_valued(lines: &Lines<'_>, line: &OpenedLine<'_>) -> Option<i64>
 
 /// The greatest total of the arguments of a line up to its second one of open length.
 #[inline(always)]
-pub fn greatest_front(lines: &Lines<'_>, line: &OpenedLine<'_>) -> Option<i64>
+fn greatest_front(lines: &Lines<'_>, line: &OpenedLine<'_>) -> Option<i64>
     requires opened { IsOpened lines.now line.now }
     ensures { IsGreatestOf (HasTotal lines.now (HasBestScore lines.now)
         (line.now.arguments.first.now ∷ (line.now.arguments.middle.now ++ line.now.arguments.second.now ∷ []))

@@ -1,6 +1,6 @@
 //! The cuts of a cell's answer: of the splits by an alternative that gives the best score, the first that has it.
 
-ghost use Rattle.std.specs.Prelude.{◌≡◌, ◌<◌, ◌≤◌, ℕ, ℤ, IfSome, MatchOption, Some, List, ◌∷◌, drop, length, take};
+ghost use Rattle.std.specs.Prelude.{◌≡◌, ◌<◌, ◌≤◌, ℕ, IfSome, MatchOption, Some, List, ◌∷◌, drop, length, take};
 ghost use Rattle.std.specs.List.{Contains};
 ghost use Rattle.adp_model.specs.declared.cell.Answer.TheVariants.{Best as BestAnswer};
 ghost use Rattle.adp_model.specs.declared.cell.Cell.{Cell};
@@ -16,13 +16,12 @@ ghost use Rattle.split_lines.specs.Laid.{Demands};
 ghost use Rattle.split_lines.specs.Lines.{IsLine};
 ghost use Rattle.cell_answers.specs.CellBest.{IsCellBest};
 ghost use Rattle.cell_answers.specs.Entries.{HasEntry};
-ghost use Rattle.cell_answers.specs.FirstPlaces.{IsFirstGreatest};
 ghost use Rattle.cell_answers.specs.LaidBy.{AreFirstEnds, IsFirstEnd};
 ghost use Rattle.cell_answers.specs.Opened.{IsOpened};
 ghost use Rattle.cell_answers.specs.Through.{HasTotalThrough};
 ghost use Rattle.cell_answers.specs.Totals.{AreLow, AreWeighted, HasTotal};
 
-use crate::along::{greatest_front, scales_of, total_through};
+use crate::along::{fixed_total, scales_of, total_through};
 use crate::argument_values::{Numbers, argument_value};
 use crate::filling::{Best, Known, cell_best, greatest_total};
 use crate::only_ends::only_end;
@@ -108,34 +107,9 @@ fn first_through(lines: &Lines<'_>, line: &OpenedLine<'_>, total: i64) -> Option
     first_valued(lines, line, total)
 }
 
-/// The first place of a line's boundary at which arguments that begin with the first one of the line, laid from `from`
-/// to `to`, have their greatest total; `None` where they have no total.
-fn first_along(
-    lines: &Lines<'_>,
-    scores: &Scores<'_>,
-    line: Line<'_>,
-    arguments: &[Arg],
-    factors: &[i64],
-    from: u16,
-    to: u16,
-) -> Option<u16>
-    requires same_problem { scores.now.problem ≡ lines.now }
-    requires line { IsLine lines.now arguments.now line }
-    requires weighted { AreWeighted lines.now arguments.now factors.now }
-    requires span { IsSpan lines.now.word from to }
-    requires scored { (cell : Cell) → Demands lines.now arguments.now from to cell → HasEntry scores.now cell }
-    requires low { AreLow lines.now arguments.now factors.now from to }
-    ensures { MatchOption result
-        ((total : ℤ) → HasTotal lines.now (HasBestScore lines.now) arguments.now factors.now from to total → ⊥)
-        (IsFirstGreatest lines.now arguments.now factors.now from to) }
-{
-    let opened = open_line(lines, scores, line, arguments, factors, from, to)?;
-    let greatest = greatest_front(lines, &opened)?;
-    first_through(lines, &opened, greatest)
-}
-
-/// The first end of the first of these arguments, which is the first one of a line, with which they have this total,
-/// their greatest.
+/// The first end of the first of these arguments, which is the first one of a line, with which they have this total: the
+/// first place of the boundary at which those up to the second one of open length have what the tokens behind them leave
+/// of it.
 fn end_along(
     lines: &Lines<'_>,
     scores: &Scores<'_>,
@@ -152,11 +126,19 @@ fn end_along(
     requires span { IsSpan lines.now.word from to }
     requires scored { (cell : Cell) → Demands lines.now arguments.now from to cell → HasEntry scores.now cell }
     requires low { AreLow lines.now arguments.now factors.now from to }
-    requires greatest { IsGreatestOf (HasTotal lines.now (HasBestScore lines.now) arguments.now factors.now from to)
-        (Some total) }
+    requires has { HasTotal lines.now (HasBestScore lines.now) arguments.now factors.now from to total }
     ensures { IsFirstEnd lines.now arguments.now factors.now from to total result }
 {
-    match first_along(lines, scores, line, arguments, factors, from, to) {
+    lines.problem().admissible();
+    bounds_are_sound();
+    answer_is_unique();
+    let Some(opened) = open_line(lines, scores, line, arguments, factors, from, to) else {
+        unreachable!()
+    };
+    let arguments = opened.arguments;
+    let last = opened.boundary.last;
+    let front = total - fixed_total(lines, arguments.tail, arguments.tail_factors, last, to);
+    match first_through(lines, &opened, front) {
         Some(place) => place,
         None => unreachable!(),
     }

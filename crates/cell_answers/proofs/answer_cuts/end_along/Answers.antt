@@ -1,6 +1,98 @@
-use Rattle.cell_answers.proofs.LaidEnds.{end_along}
+use Rattle.std.proofs.Common.{ℕ, ℤ, ◌-ℤ◌, get_or, FitsSigned, w64, subst, arith, rules}
+use Rattle.std.specs.List.{Contains}
+use Rattle.std.proofs.lemmas.Int.{ints, to_z-of_z, fits_signed_from_abs}
+use Rattle.adp_model.specs.PosedProblem.{PosedProblem}
+use Rattle.adp_model.specs.Bellman.{HasBestScore}
+use Rattle.score_numbers.specs.FirstPlaces.{IsFirstAmong}
+use Rattle.cell_answers.specs.LaidBy.{IsFirstEnd}
+use Rattle.cell_answers.specs.Totals.{AreLow, HasTotal}
+use Rattle.cell_answers.proofs.Bounding.{best_within}
+use Rattle.cell_answers.proofs.Scoring.{one_score}
+use Rattle.cell_answers.proofs.FirstEnds.{AreLaid, AreSound, total_low}
+use Rattle.cell_answers.proofs.FirstTotals.{Through, first_left, not_nowhere}
+use Rattle.cell_answers.proofs.OpenedLines.{opened_whole, opened_stands, opened_holds}
+use Rattle.cell_answers.proofs.WholeLines.{IsWhole, tail_weighted, tail_covers, tail_low}
 use Rattle.cell_answers.proofs.answer_cuts.end_along.Goals as goal
+use Rattle.cell_answers.proofs.answer_cuts.end_along.Goals.{In-Some}
+
+laid : (c : In-Some) → AreLaid c.args.lines.now c.args.scores.now c.args.arguments.now c.args.factors.now c.args.from c.args.to
+laid c = record { weighted = c.requires.weighted; span = c.requires.span; scored = c.requires.scored; low = c.requires.low }
+
+whole : (c : In-Some) → IsWhole c.args.lines.now c.args.scores.now c.in-Some.opened.arguments c.in-Some.opened.from c.args.to c.in-Some.opened.boundary
+whole c = opened_whole c.args.lines.now c.args.scores.now c.args.arguments.now c.args.factors.now c.args.from c.args.to (laid c) c.in-Some.opened c.in-Some.ensures
+
+stands : (c : In-Some) → Contains c.in-Some.opened.boundary.places.now (get_or c.in-Some.opened.boundary.places.now 0 0)
+stands c = opened_stands c.args.lines.now c.args.scores.now c.args.arguments.now c.args.factors.now c.args.from c.args.to (laid c) c.in-Some.opened c.in-Some.ensures
+
+tail_is_low : (c : In-Some) → AreLow c.args.lines.now c.in-Some.opened.arguments.tail.now c.in-Some.opened.arguments.tail_factors.now c.in-Some.opened.boundary.last c.args.to
+tail_is_low c =
+    let line = c.in-Some.opened in
+    tail_low c.args.lines.now c.args.scores.now line.arguments line.from c.args.to line.boundary (whole c) _ (stands c)
+
+pub fixed_total-requires-clause-weighted : goal.fixed_total-requires-clause-weighted
+fixed_total-requires-clause-weighted c =
+    let at = (goal.at.fixed_total-requires-clause-weighted c).In-Some in
+    let line = c.in-Some.opened in
+    tail_weighted c.args.lines.now c.args.scores.now line.arguments line.from c.args.to line.boundary (whole at)
+
+pub fixed_total-requires-clause-covers : goal.fixed_total-requires-clause-covers
+fixed_total-requires-clause-covers c =
+    let at = (goal.at.fixed_total-requires-clause-covers c).In-Some in
+    let line = c.in-Some.opened in
+    tail_covers c.args.lines.now c.args.scores.now line.arguments line.from c.args.to line.boundary (whole at) _ (stands at)
+
+pub fixed_total-requires-clause-low : goal.fixed_total-requires-clause-low
+fixed_total-requires-clause-low c = tail_is_low (goal.at.fixed_total-requires-clause-low c).In-Some
+
+sound : (c : In-Some) → AreSound c.args.lines.now
+sound c =
+    let S : PosedProblem → Type 0 = AreSound in
+    subst S c.problem.ensures (record {
+      within = best_within c.problem.result.now c.admissible.ensures (c.bounds_are_sound.ensures.score c.problem.result.now);
+      one = one_score c.problem.result.now (λ cell a b. c.answer_is_unique.ensures c.problem.result.now cell a b c.admissible.ensures.checked.well_formed);
+    })
+
+-- what the tokens leave fits
+left_fits : (c : In-Some) (behind : ℤ) → HasTotal c.args.lines.now (HasBestScore c.args.lines.now) c.in-Some.opened.arguments.tail.now c.in-Some.opened.arguments.tail_factors.now c.in-Some.opened.boundary.last c.args.to behind → FitsSigned w64 (c.args.total -ℤ behind)
+left_fits c behind has =
+    let p = c.args.lines.now in
+    let line = c.in-Some.opened in
+    let low = total_low p (sound c) c.args.arguments.now c.args.factors.now c.args.from c.args.to c.requires.low c.args.total c.requires.has in
+    let low' = total_low p (sound c) line.arguments.tail.now line.arguments.tail_factors.now line.boundary.last c.args.to (tail_is_low c) behind has in
+    fits_signed_from_abs w64 (c.args.total -ℤ behind) (omega (arith, ints))
+
+pub overflow_sub-front : goal.overflow_sub-front
+overflow_sub-front c =
+    let at = (goal.at.overflow_sub-front c).In-Some in
+    let fits_total : FitsSigned w64 c.args.total = search rules in
+    let fits_behind : FitsSigned w64 c.fixed_total.result = search rules in
+    simp to_z-of_z (left_fits at c.fixed_total.result c.fixed_total.ensures)
+
+pub unreachable-requires-in-None : goal.unreachable-requires-in-None
+unreachable-requires-in-None c =
+    let at = (goal.at.unreachable-requires-in-None c).In-Some in
+    let p = c.args.lines.now in
+    let line = c.in-Some.opened in
+    let behind = c.fixed_total.result in
+    let fits_total : FitsSigned w64 c.args.total = search rules in
+    let fits_behind : FitsSigned w64 behind = search rules in
+    let fits_left : FitsSigned w64 (c.args.total -ℤ behind) = left_fits at behind c.fixed_total.ensures in
+    let none : (place : ℕ) → Contains line.boundary.places.now place → Through p c.args.scores.now line.arguments line.from c.args.to line.boundary (whole at) (c.args.total -ℤ behind) place → ⊥ = simp to_z-of_z at c.in-None.ensures in
+    opened_holds p c.args.scores.now c.args.arguments.now c.args.factors.now c.args.from c.args.to (laid at) line c.in-Some.ensures
+    (λ arguments factors from. HasTotal p (HasBestScore p) arguments factors from c.args.to c.args.total → ⊥)
+    (λ has. not_nowhere p c.args.scores.now line.arguments line.from c.args.to line.boundary (whole at) c.args.total behind c.fixed_total.ensures has none) c.requires.has
 
 pub returns : goal.returns
 returns c =
-    end_along c.args.lines.now c.args.arguments.now c.args.factors.now c.args.from c.args.to c.args.total c.in-Some.place c.requires.greatest c.in-Some.ensures
+    let at = (goal.at.returns c).In-Some in
+    let p = c.args.lines.now in
+    let line = c.in-Some.opened in
+    let behind = c.fixed_total.result in
+    let place = c.in-Some-first_through.place in
+    let fits_total : FitsSigned w64 c.args.total = search rules in
+    let fits_behind : FitsSigned w64 behind = search rules in
+    let fits_left : FitsSigned w64 (c.args.total -ℤ behind) = left_fits at behind c.fixed_total.ensures in
+    let first : IsFirstAmong line.boundary.places.now (Through p c.args.scores.now line.arguments line.from c.args.to line.boundary (whole at) (c.args.total -ℤ behind)) place = simp to_z-of_z at c.in-Some-first_through.ensures in
+    opened_holds p c.args.scores.now c.args.arguments.now c.args.factors.now c.args.from c.args.to (laid at) line c.in-Some.ensures
+    (λ arguments factors from. IsFirstEnd p arguments factors from c.args.to c.args.total place)
+    (first_left p c.args.scores.now line.arguments line.from c.args.to line.boundary (whole at) c.args.total behind c.fixed_total.ensures place first)

@@ -1,4 +1,4 @@
-use Rattle.std.proofs.Common.{◌≡◌, ◌<◌, ◌≤◌, ◌+◌, ℕ, ℤ, ◌+ℤ◌, ◌-ℤ◌, Some, List, [], ◌∷◌, length, get_or, take, map, FitsSigned, w64, to_z, of_z, nat_abs, sym, refl, ap, subst, ◌∙◌, arith, rules}
+use Rattle.std.proofs.Common.{◌≡◌, ◌<◌, ◌≤◌, ◌+◌, ℕ, ℤ, ◌+ℤ◌, ◌-ℤ◌, Some, List, [], ◌∷◌, length, get_or, take, map, FitsSigned, w64, to_z, of_z, nat_abs, sym, ap, subst, ◌∙◌, arith, rules}
 use Rattle.std.proofs.lemmas.Int.{ints, to_z-of_z, fits_signed_from_abs}
 use Rattle.adp_model.specs.declared.grammar.Arg.{Arg}
 use Rattle.adp_model.specs.declared.grammar.Goal.{Goal}
@@ -7,19 +7,17 @@ use Rattle.adp_model.specs.declared.cell.Answer.TheVariants.{Best}
 use Rattle.adp_model.specs.PosedProblem.{PosedProblem}
 use Rattle.adp_model.specs.ProblemFields.{greatest_score, IsAdmissible}
 use Rattle.adp_model.specs.Parts.{algebra_of, alternatives_of, arguments_of, term_of}
-use Rattle.adp_model.specs.Answers.{IsAnswer}
 use Rattle.adp_model.specs.Bellman.{HasBestScore, Bellman}
 use Rattle.score_numbers.specs.Greatest.{IsGreatestOf}
 use Rattle.score_numbers.specs.Turned.{turned}
 use Rattle.cell_answers.specs.LaidBy.{AreFirstEnds}
-use Rattle.cell_answers.specs.Totals.{HasTotal, IsWithinBound, AreLow, AreWeighted}
+use Rattle.cell_answers.specs.Totals.{HasTotal}
 use Rattle.cell_answers.proofs.Alternatives.{TokensKeepBound, alternative_laid, score_low}
 use Rattle.cell_answers.proofs.Bounding.{best_within}
-use Rattle.cell_answers.proofs.FirstEnds.{AreLaid, AreSound}
+use Rattle.cell_answers.proofs.FirstEnds.{AreLaid, AreSound, total_low}
 use Rattle.cell_answers.proofs.LaidEnds.{four_read}
 use Rattle.cell_answers.proofs.LaidSplits.{total_greatest, best_gives, answer_by_ends}
 use Rattle.cell_answers.proofs.Scoring.{one_score, turned_low}
-use Rattle.cell_answers.proofs.Totalling.{values_kept, sum_low}
 use Rattle.cell_answers.proofs.answer_cuts.first_cuts.Goals as goal
 use Rattle.cell_answers.proofs.answer_cuts.first_cuts.Goals.{After-turned_factors-factors}
 
@@ -113,14 +111,8 @@ told c = parts (turned (the_goal c) c.args.best.score) (turned (the_goal c) (the
 is_greatest : (c : After-turned_factors-factors) → IsGreatestOf (HasTotal c.args.lines.now (HasBestScore c.args.lines.now) (the_arguments c) (the_factors c) c.args.cell.from c.args.cell.to) (Some (the_total c))
 is_greatest c = total_greatest c.args.lines.now (bellman c) c.args.cell c.requires.in_word (some c) (few c) c.args.best.alt (in_range c) (each c) c.args.best.score c.requires.best (the_total c) (told c)
 
-total_low : (c : After-turned_factors-factors) → nat_abs (the_total c) ≤ greatest_score
-total_low c =
-    let p = c.args.lines.now in
-    let has = (is_greatest c).0 in
-    let low = (laid c).low has.0 (values_kept p (HasBestScore p) (IsWithinBound p) (sound c).within (the_arguments c) c.args.cell.from c.args.cell.to has.0 has.1) in
-    let sum = sum_low (the_factors c) has.0 in
-    let is = ap nat_abs has.2 in
-    omega arith
+total_is_low : (c : After-turned_factors-factors) → nat_abs (the_total c) ≤ greatest_score
+total_is_low c = total_low c.args.lines.now (sound c) (the_arguments c) (the_factors c) c.args.cell.from c.args.cell.to (laid c).low (the_total c) (is_greatest c).0
 
 score_is_low : (c : After-turned_factors-factors) → nat_abs c.args.best.score ≤ greatest_score
 score_is_low c =
@@ -166,14 +158,14 @@ overflow_sub-total c =
     let fits_second : FitsSigned w64 c.turned-2.result = search rules in
     let first : c.turned.result ≡ turned c.goal-goal.result c.args.best.score = simp to_z-of_z at c.turned.ensures in
     let second : c.turned-2.result ≡ turned c.goal-goal.result c.term-term.result.now.constant = simp to_z-of_z at c.turned-2.ensures in
-    simp to_z-of_z (subst (FitsSigned w64) (sym (difference_is at c.turned.result c.turned-2.result first second)) (fits_below (the_total at) (total_low at)))
+    simp to_z-of_z (subst (FitsSigned w64) (sym (difference_is at c.turned.result c.turned-2.result first second)) (fits_below (the_total at) (total_is_low at)))
 
 -- the total, as its bits are read
 read_total : (c : After-turned_factors-factors) (a b : ℤ) → FitsSigned w64 a → FitsSigned w64 b → a ≡ turned c.goal-goal.result c.args.best.score → b ≡ turned c.goal-goal.result c.term-term.result.now.constant
     → to_z w64 (of_z w64 (to_z w64 (of_z w64 a) -ℤ to_z w64 (of_z w64 b))) ≡ the_total c
 read_total c a b fits_a fits_b a_is b_is =
     let difference = difference_is c a b a_is b_is in
-    let fits : FitsSigned w64 (a -ℤ b) = subst (FitsSigned w64) (sym difference) (fits_below (the_total c) (total_low c)) in
+    let fits : FitsSigned w64 (a -ℤ b) = subst (FitsSigned w64) (sym difference) (fits_below (the_total c) (total_is_low c)) in
     ap (λ x. to_z w64 (of_z w64 (x -ℤ to_z w64 (of_z w64 b)))) (to_z-of_z w64 a fits_a) ∙ ap (λ x. to_z w64 (of_z w64 (a -ℤ x))) (to_z-of_z w64 b fits_b) ∙ to_z-of_z w64 (a -ℤ b) fits ∙ difference
 
 pub first_ends-requires-clause-weighted : goal.first_ends-requires-clause-weighted

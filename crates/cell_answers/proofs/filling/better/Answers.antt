@@ -1,7 +1,6 @@
-use Rattle.std.proofs.Common.{ℤ, ◌≤ℤ◌, ◌<ℤ◌, Option, Some, None, FitsSigned, w64, subst, arith, rules}
+use Rattle.std.proofs.Common.{◌≤ℤ◌, ◌<ℤ◌, FitsSigned, w64, subst, arith, rules}
 use Rattle.std.proofs.lemmas.Int.{ints, to_z-of_z}
 use Rattle.score_numbers.specs.Greatest.{IsGreatestOf}
-use Rattle.cell_answers.specs.declared.filling.Best as declared
 use Rattle.cell_answers.specs.CellBest.{IsBestOfFirst}
 use Rattle.cell_answers.specs.Totals.{HasTurnedScore}
 use Rattle.cell_answers.proofs.FirstGiving.{best_kept, first_one, kept, taken}

@@ -1,10 +1,9 @@
-use Rattle.std.proofs.Common.{◌≡◌, ◌<◌, ◌≤◌, ℕ, ℤ, Option, Some, None, length, FitsSigned, w64, nat_abs, sym, ap, subst, ◌∙◌, arith, rules}
+use Rattle.std.proofs.Common.{◌≡◌, ◌<◌, ◌≤◌, ℕ, length, FitsSigned, w64, sym, ap, subst, ◌∙◌, arith, rules}
 use Rattle.std.proofs.lemmas.Int.{to_z-of_z}
 use Rattle.adp_model.specs.PosedProblem.{PosedProblem}
-use Rattle.adp_model.specs.ProblemFields.{greatest_score, IsAdmissible}
+use Rattle.adp_model.specs.ProblemFields.{IsAdmissible}
 use Rattle.adp_model.specs.Parts.{algebra_of, alternatives_of, arguments_of}
 use Rattle.score_numbers.specs.Turned.{turned}
-use Rattle.cell_answers.specs.declared.filling.Best as declared
 use Rattle.cell_answers.specs.CellBest.{IsBestOfFirst, IsCellBest, GiveNone, IsFirstGiving}
 use Rattle.cell_answers.proofs.Bounding.{best_within}
 use Rattle.cell_answers.proofs.FirstGiving.{none_given, best_given}

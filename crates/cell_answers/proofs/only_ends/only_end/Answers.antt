@@ -1,4 +1,4 @@
-use Rattle.std.proofs.Common.{◌≡◌, ℕ, ◌+◌, ◌≤◌, arith}
+use Rattle.std.proofs.Common.{◌≡◌, ◌+◌, arith}
 use Rattle.split_lines.specs.Matching.{fixed_length}
 use Rattle.cell_answers.proofs.Dividing.{cover_forward}
 use Rattle.cell_answers.proofs.Tokens.{fixed_span}
