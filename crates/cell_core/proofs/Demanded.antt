@@ -1,13 +1,12 @@
 -- What an alternative's splits ask for is what its arguments demand between the ends of the cell.
-use Rattle.std.proofs.Common.{◌≡◌, ℕ, zero, suc, ◌+◌, ◌-◌, ◌≤◌, ◌<◌, ◌⊎◌, inl, inr, Option, Some, None, List, [], ◌∷◌, ◌++◌, length, drop, get_or, slice_get, refl, sym, ap, subst, ◌∙◌, arith}
+use Rattle.std.proofs.Common.{◌≡◌, ℕ, zero, suc, ◌+◌, ◌-◌, ◌≤◌, ◌<◌, inl, inr, Option, Some, None, List, [], ◌∷◌, ◌++◌, length, drop, get_or, slice_get, refl, sym, ap, subst, arith}
 use Rattle.std.specs.List.{AllByRecursion, Contains}
 use Rattle.adp_model.specs.declared.grammar.Arg.{Arg}
 use Rattle.adp_model.specs.declared.grammar.Arg.TheVariants.{Rule, Literal, Letter, Run}
 use Rattle.adp_model.specs.declared.cell.Cell.{Cell}
 use Rattle.adp_model.specs.PosedProblem.{PosedProblem}
 use Rattle.adp_model.specs.Parts.{arguments_of}
-use Rattle.adp_model.specs.Splits.{place, ends_by, FitsSpan, IsViable}
-use Rattle.adp_model.specs.SplitArguments.{AsksFor}
+use Rattle.adp_model.specs.Splits.{place, ends_by, FitsSpan}
 use Rattle.yield_sizes.specs.Placing.{on_span, Cover}
 use Rattle.split_lines.specs.Ends.{IsFrontTold}
 use Rattle.split_lines.specs.Laid.{IsFixed, IsCellOf, Demands, LineParts, AreBoundaries}
@@ -74,14 +73,14 @@ module _ (p : PosedProblem) where
 
   -- ---- tokens of fixed length
 
-  cover_of_demands : (arguments : List Arg) (from to : ℕ) (child : Cell) → Demands p arguments from to child
+  pub cover_of_demands : (arguments : List Arg) (from to : ℕ) (child : Cell) → Demands p arguments from to child
       → Cover p arguments from to
   cover_of_demands [] from to child none = absurd none
   cover_of_demands (argument ∷ arguments) from to child (end, fits, inl (is, cover)) = (end, fits, cover)
   cover_of_demands (argument ∷ arguments) from to child (end, fits, inr later) =
       (end, fits, cover_of_demands arguments end to child later)
 
-  no_cell : (token : Arg) (from to : ℕ) (child : Cell) → IsFixed token → IsCellOf token from to child → ⊥
+  pub no_cell : (token : Arg) (from to : ℕ) (child : Cell) → IsFixed token → IsCellOf token from to child → ⊥
   no_cell (Rule rule) from to child fixed is = fixed
   no_cell (Literal text) from to child fixed is = let e = is.rule in absurd cc
   no_cell (Letter class) from to child fixed is = let e = is.rule in absurd cc
@@ -154,13 +153,8 @@ module _ (p : PosedProblem) where
 
   -- ---- a line
 
-  module _ (Noted : Cell → Type 0) (parts : LineParts) (from to letters last : ℕ) (places : List ℕ)
-      (middle_fixed : AllByRecursion IsFixed parts.middle) (tail_fixed : AllByRecursion IsFixed parts.tail)
-      (boundaries : AreBoundaries p parts from to letters last places)
-      (first_noted : (place : ℕ) → Contains places place → (child : Cell) → IsCellOf parts.first from place child
-      → Noted child)
-      (second_noted : (place : ℕ) → Contains places place → (child : Cell)
-      → IsCellOf parts.second (place + letters) last child → Noted child) where
+  module _ (parts : LineParts) (from to letters last : ℕ) (places : List ℕ)
+      (boundaries : AreBoundaries p parts from to letters last places) where
     place_found : (at : ℕ) → FitsSpan p (on_span parts.first from at) → (middle end : ℕ)
         → Cover p parts.middle at middle → FitsSpan p (on_span parts.second middle end) → Cover p parts.tail end to
         → Contains places at × (middle ≡ at + letters) × (end ≡ last)
@@ -180,10 +174,32 @@ module _ (p : PosedProblem) where
           closed,
         )
 
+    place_of_cover : Cover p (parts.first ∷ parts.middle ++ parts.second ∷ parts.tail) from to
+        → (place : ℕ) × Contains places place
+    place_of_cover (at, first, cover) =
+        let behind = cover_behind parts.middle (parts.second ∷ parts.tail) at to cover in
+        (at, (place_found at first behind.0 behind.2.0 behind.1 behind.2.1 behind.2.2).0)
+
+  -- where its arguments are laid, its boundary has a place
+  pub line_stands : (arguments : List Arg) (between from to letters last : ℕ) (places : List ℕ)
+      → HasLine arguments between
+      → AreBoundaries p (parts_by arguments between) from to letters last places → Cover p arguments from to
+      → (place : ℕ) × Contains places place
+  line_stands arguments between from to letters last places has boundaries cover =
+      place_of_cover (parts_by arguments between) from to letters last places boundaries
+      (subst (λ (xs : List Arg). Cover p xs from to) has.parts.are cover)
+
+  module _ (Noted : Cell → Type 0) (parts : LineParts) (from to letters last : ℕ) (places : List ℕ)
+      (middle_fixed : AllByRecursion IsFixed parts.middle) (tail_fixed : AllByRecursion IsFixed parts.tail)
+      (boundaries : AreBoundaries p parts from to letters last places)
+      (first_noted : (place : ℕ) → Contains places place → (child : Cell) → IsCellOf parts.first from place child
+      → Noted child)
+      (second_noted : (place : ℕ) → Contains places place → (child : Cell)
+      → IsCellOf parts.second (place + letters) last child → Noted child) where
     pub noted_along : AreNotedOn p Noted (parts.first ∷ parts.middle ++ parts.second ∷ parts.tail) from to
     noted_along child (at, first, inl (is, cover)) =
         let behind = cover_behind parts.middle (parts.second ∷ parts.tail) at to cover in
-        let found = place_found at first behind.0 behind.2.0 behind.1 behind.2.1 behind.2.2 in
+        let found = place_found parts from to letters last places boundaries at first behind.0 behind.2.0 behind.1 behind.2.1 behind.2.2 in
         first_noted at found.0 child is
     noted_along child (at, first, inr later) =
         let behind = demands_behind parts.middle (parts.second ∷ parts.tail) at to child middle_fixed later in
@@ -192,7 +208,7 @@ module _ (p : PosedProblem) where
         go : (middle : ℕ) → Cover p parts.middle at middle → Demands p (parts.second ∷ parts.tail) middle to child
             → Noted child
         go middle tokens (end, second, inl (is, tail)) =
-            let found = place_found at first middle end tokens second tail in
+            let found = place_found parts from to letters last places boundaries at first middle end tokens second tail in
             second_noted at found.0 child
             (subst (λ x. IsCellOf parts.second x last child) found.1
             (subst (λ x. IsCellOf parts.second middle x child) found.2 is))

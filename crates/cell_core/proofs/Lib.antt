@@ -18,7 +18,8 @@ pub mod Closing
 pub mod PlainRecords
 pub mod LineOrder
 pub mod LineSplits
-pub mod Skipped
+pub mod SameCuts
+pub mod Reached
 pub mod NotedPlaces
 pub mod ViableCuts
 pub mod LineHere
@@ -27,3 +28,4 @@ pub mod FreshMachines
 pub mod PassingNone
 pub mod Stepped
 pub mod Demanded
+pub mod NotedArguments

@@ -11,7 +11,7 @@ use Rattle.adp_model.specs.Walk.{rank_of}
 use Rattle.cell_tables.specs.Bits.{IsBitOf}
 use Rattle.split_lines.specs.Flags.{AreBitsAmong}
 use Rattle.split_lines.specs.Laid.{IsCellOf}
-use Rattle.cell_core.specs.Skipping.{AreNotedBetween, EndsByAPlace, IsLastNoted, IsNotedAt}
+use Rattle.cell_core.specs.Skipping.{AreNotedBetween, EndsByAPlace, IsNotedUpTo, IsNotedAt}
 use Rattle.cell_core.specs.declared.skipping.OpenPair.{OpenPair}
 
 abbrev pub AreRising : List ℕ → Type 0
@@ -100,8 +100,7 @@ module _ (cell : Cell) (turn : ℕ) (pair : OpenPair) (turned : turn ≤ cell.to
     → rank_of cell turn x ≡ x - (cell.from + turn))
     (before : (cell : Cell) (turn x : ℕ) → turn ≤ cell.to - cell.from → cell.from ≤ x → x < cell.from + turn
     → rank_of cell turn x ≡ x - cell.from + (cell.to + 1 - (cell.from + turn)))
-    (Noted : Cell → Type 0) (from to stop : ℕ) (begins : cell.from ≤ from)
-    (there : Contains pair.places.now to) (stops : to < stop) where
+    (Noted : Cell → Type 0) (from to : ℕ) (begins : cell.from ≤ from) (there : Contains pair.places.now to) where
   abbrev rank : ℕ → ℕ
   rank x = rank_of cell turn x
 
@@ -115,7 +114,7 @@ module _ (cell : Cell) (turn : ℕ) (pair : OpenPair) (turned : turn ≤ cell.to
   down x low less = before cell turn x turned low less
 
   -- both places on one side of the pivot
-  pub noted_up : from < to → pivot ≤ from → AreNotedBetween Noted pair from stop → IsLastNoted Noted cell turn pair from to
+  pub noted_up : from ≤ to → pivot ≤ from → AreNotedBetween Noted pair from to → IsNotedUpTo Noted cell turn pair from to
   noted_up less side noted = record {
     stands = there;
     behind = omega (arith, less, a, b);
@@ -128,15 +127,15 @@ module _ (cell : Cell) (turn : ℕ) (pair : OpenPair) (turned : turn ≤ cell.to
       b : rank to ≡ to - pivot
       b = up to (within to there).1 (omega (arith, less, side))
 
-      go : (place : ℕ) → Contains pair.places.now place → rank from ≤ rank place → rank place ≤ rank to
+      go : (place : ℕ) → Contains pair.places.now place → rank from ≤ rank place → rank place < rank to
           → (place < pivot) ⊎ (pivot ≤ place) → IsNotedAt Noted pair place
       go place in_place low high (inl left) =
           absurd (omega (arith, high, b, less, side, (within to there).1, down place (within place in_place).0 left))
       go place in_place low high (inr right) =
           let c = up place (within place in_place).1 right in
-          noted place in_place (omega (arith, low, a, c, side, right)) (omega (arith, high, b, c, stops, less, side, right))
+          noted place in_place (omega (arith, low, a, c, side, right)) (omega (arith, high, b, c, less, side, right))
 
-  pub noted_down : from < to → to < pivot → AreNotedBetween Noted pair from stop → IsLastNoted Noted cell turn pair from to
+  pub noted_down : from ≤ to → to < pivot → AreNotedBetween Noted pair from to → IsNotedUpTo Noted cell turn pair from to
   noted_down less side noted = record {
     stands = there;
     behind = omega (arith, less, a, b, begins);
@@ -149,20 +148,20 @@ module _ (cell : Cell) (turn : ℕ) (pair : OpenPair) (turned : turn ≤ cell.to
       b : rank to ≡ to - cell.from + (cell.to + 1 - pivot)
       b = down to (within to there).0 side
 
-      go : (place : ℕ) → Contains pair.places.now place → rank from ≤ rank place → rank place ≤ rank to
+      go : (place : ℕ) → Contains pair.places.now place → rank from ≤ rank place → rank place < rank to
           → (place < pivot) ⊎ (pivot ≤ place) → IsNotedAt Noted pair place
       go place in_place low high (inl left) =
           let c = down place (within place in_place).0 left in
           noted place in_place (omega (arith, low, a, c, begins, (within place in_place).0))
-          (omega (arith, high, b, c, stops, (within to there).0, (within place in_place).0))
+          (omega (arith, high, b, c, (within to there).0, (within place in_place).0))
       go place in_place low high (inr right) =
           absurd (omega (arith, low, a, turned, ordered, (within place in_place).1, up place (within place in_place).1 right))
 
   -- from one side of the pivot round to the other
   pub noted_round : (first : ℕ) → ((place : ℕ) → Contains pair.places.now place → first ≤ place) → from ≤ cell.to
-      → pivot ≤ from → stop ≤ pivot
+      → pivot ≤ from → to < pivot
       → ((place : ℕ) → Contains pair.places.now place → from ≤ place → IsNotedAt Noted pair place)
-      → AreNotedBetween Noted pair first stop → IsLastNoted Noted cell turn pair from to
+      → AreNotedBetween Noted pair first to → IsNotedUpTo Noted cell turn pair from to
   noted_round first least ends side other all noted = record {
     stands = there;
     behind = omega (arith, a, b, side, ends, turned, ordered);
@@ -173,14 +172,34 @@ module _ (cell : Cell) (turn : ℕ) (pair : OpenPair) (turned : turn ≤ cell.to
       a = up from ends side
 
       b : rank to ≡ to - cell.from + (cell.to + 1 - pivot)
-      b = down to (within to there).0 (omega (arith, stops, other))
+      b = down to (within to there).0 other
 
-      go : (place : ℕ) → Contains pair.places.now place → rank from ≤ rank place → rank place ≤ rank to
+      go : (place : ℕ) → Contains pair.places.now place → rank from ≤ rank place → rank place < rank to
           → (place < pivot) ⊎ (pivot ≤ place) → IsNotedAt Noted pair place
       go place in_place low high (inl left) =
           let c = down place (within place in_place).0 left in
           noted place in_place (least place in_place)
-          (omega (arith, high, b, c, stops, (within to there).0, (within place in_place).0))
+          (omega (arith, high, b, c, (within to there).0, (within place in_place).0))
       go place in_place low high (inr right) =
           let c = up place (within place in_place).1 right in
           all place in_place (omega (arith, low, a, c, side, right))
+
+-- ---- the first place from a place on
+
+pub never_falls : (places : List ℕ) → AreRising places → (i j : ℕ) → i ≤ j → j < length places
+    → slice_index places i ≤ slice_index places j
+never_falls places rising i j le l =
+    elim (cases_lt i j) [
+      | inl less ↦ let up = rises places rising i j less l in omega (arith, up)
+      | inr not ↦ let same : i ≡ j = omega arith in omega (arith, ap (slice_index places) same)
+    ]
+
+pub from_index : (places : List ℕ) → AreRising places → (begin index : ℕ)
+    → ((k : ℕ) → k < index → slice_index places k < begin) → (other : ℕ) → Contains places other → begin ≤ other
+    → (index < length places) × (slice_index places index ≤ other)
+from_index places rising begin index below other (j, inside, e) low =
+    let here : slice_index places j ≡ other = get_or_default places j 0 other inside ∙ e in
+    elim (cases_lt j index) [
+      | inl less ↦ absurd (omega (arith, below j less, here, low))
+      | inr not ↦ (omega (arith, not, inside), omega (arith, here, never_falls places rising index j not inside))
+    ]

@@ -11,7 +11,7 @@ use Rattle.adp_model.specs.Splits.{Placed, place, ends_by}
 use Rattle.adp_model.specs.declared.visit.Position.{Position}
 use Rattle.adp_model.specs.declared.visit.Visit.{Visit}
 use Rattle.adp_model.specs.SplitArguments.{SplitArgument, AsksFor, IsSplitArgument}
-use Rattle.adp_model.specs.Visits.{visited_at, is_before, is_behind, is_behind_position, argument_at}
+use Rattle.adp_model.specs.Visits.{visited_at, is_before, is_behind, is_behind_position, argument_at, IsWalk}
 use Rattle.cell_core.specs.Seeking.{moved_to, IsNextLeft, IsNextSought, IsNoneSought}
 use Rattle.cell_core.proofs.VisitOrder.{behind_moved, less_transitive, less_irreflexive}
 
@@ -47,6 +47,16 @@ asks_one p argument a b asks asks' =
   where
     rules_same : (m n : ℕ) → Rule m ≡ Rule n → m ≡ n
     rules_same m n e = cc
+
+-- a walk that has come to an argument
+pub walk_to : (p : PosedProblem) (visit : Visit) → IsWalk p visit → (position : Position)
+    → IsSplitArgument p (argument_at visit.cell position) → IsWalk p (moved_to visit position)
+walk_to p visit walk position is = record {
+  first = walk.first;
+  three = walk.three;
+  turns = walk.turns;
+  at = λ q e. subst (λ (x : Position). IsSplitArgument p (argument_at visit.cell x)) (some_same position q e) is;
+}
 
 module _ (p : PosedProblem) (Noted : Cell → Type 0) (visit : Visit) (at : Option Position) where
   abbrev now : Visit

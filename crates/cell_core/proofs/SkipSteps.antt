@@ -1,75 +1,70 @@
--- What a search has passed where it goes on along a line.
-use Rattle.std.proofs.Common.{◌≡◌, ℕ, ◌-◌, ◌≤◌, ◌⊎◌, inl, inr, Bool, true, false, Option, Some, length, refl, sym, subst, ap, ◌∙◌, arith}
+-- A search that has gone on along a line, with its next argument behind that.
+use Rattle.std.proofs.Common.{◌≡◌, ℕ, ◌⊎◌, inl, inr, Bool, true, false, Option, Some, None, refl, sym, subst, ap, ◌∙◌}
+use Rattle.std.specs.Prelude.{MatchOption}
 use Rattle.adp_model.specs.declared.cell.Cell.{Cell}
 use Rattle.adp_model.specs.declared.visit.Position.{Position}
 use Rattle.adp_model.specs.declared.visit.Visit.{Visit}
 use Rattle.adp_model.specs.PosedProblem.{PosedProblem}
-use Rattle.adp_model.specs.Parts.{alternatives_of, arguments_of}
-use Rattle.adp_model.specs.SplitArguments.{SplitArgument, AsksFor, IsSplitArgument}
-use Rattle.adp_model.specs.Visits.{visited_at, is_before, is_behind, is_behind_position, argument_at, IsWalk}
+use Rattle.adp_model.specs.SplitArguments.{SplitArgument, AsksFor}
+use Rattle.adp_model.specs.Visits.{visited_at, is_before, is_behind, is_behind_position, argument_at}
+use Rattle.cell_core.specs.Seeking.{moved_to, IsFirstLeft, IsNextLeft, IsNoneLeft, IsNoneSought}
 use Rattle.cell_core.specs.Skipping.{IsSkipped}
 use Rattle.cell_core.proofs.VisitOrder.{less_transitive}
-use Rattle.cell_core.proofs.WalkEnds.{places_left, places_fall}
-use Rattle.cell_core.proofs.SeekSteps.{some_same}
 
-module _ (p : PosedProblem) (Noted : Cell → Type 0) (visit : Visit) (at to : Position)
+module _ (p : PosedProblem) (Noted : Cell → Type 0) (visit : Visit) (at to : Position) (is : visit.at ≡ Some at)
     (skipped : IsSkipped p Noted visit at to) where
-  abbrev Passed : Option Position → Type 0
-  Passed so_far = (argument : SplitArgument) (child : Cell) → argument.cell ≡ visit.cell → AsksFor p argument child
-      → is_behind p visit argument ≡ true → is_behind_position p visit so_far argument ≡ false → Noted child
+  behind_is : (argument : SplitArgument)
+      → is_behind p visit argument ≡ is_before p visit (argument_at visit.cell at) argument
+  behind_is argument = ap (λ (o : Option Position). is_behind_position p visit o argument) is
 
-  abbrev On : Option Position → Type 0
-  On so_far = (argument : SplitArgument) → is_behind_position p visit so_far argument ≡ true
+  behind_from : (argument : SplitArgument) → is_before p visit (argument_at visit.cell to) argument ≡ true
       → is_behind p visit argument ≡ true
-
-  pub on_skipped : On (Some at) → On (Some to)
-  on_skipped on argument e = go skipped.on
+  behind_from argument e = go skipped.on
     where
       go : (to ≡ at) ⊎ (is_before p visit (argument_at visit.cell at) (argument_at visit.cell to) ≡ true)
           → is_behind p visit argument ≡ true
       go (inl same) =
-          on argument (subst (λ (q : Position). is_before p visit (argument_at visit.cell q) argument ≡ true) same e)
+          behind_is argument
+          ∙ subst (λ (q : Position). is_before p visit (argument_at visit.cell q) argument ≡ true) same e
       go (inr less) =
-          on argument
-          (less_transitive (visited_at p visit (argument_at visit.cell at))
-          (visited_at p visit (argument_at visit.cell to))
-          (visited_at p visit argument) less e)
+          behind_is argument
+          ∙ less_transitive (visited_at p visit (argument_at visit.cell at))
+          (visited_at p visit (argument_at visit.cell to)) (visited_at p visit argument) less e
 
-  pub passed_skipped : Passed (Some at) → Passed (Some to)
-  passed_skipped passed argument child here asks behind e =
-      go (is_before p visit (argument_at visit.cell at) argument) refl
+  none_on : IsNoneSought p Noted (moved_to visit to) → IsNoneSought p Noted visit
+  none_on none argument child here asks behind = go (is_before p visit (argument_at visit.cell to) argument) refl
     where
-      go : (b : Bool) → is_before p visit (argument_at visit.cell at) argument ≡ b → Noted child
-      go true f = skipped.passed argument child here asks f e
-      go false f = passed argument child here asks behind f
+      go : (b : Bool) → is_before p visit (argument_at visit.cell to) argument ≡ b → Noted child
+      go true e = none argument child here asks e
+      go false e = skipped.passed argument child here asks (sym (behind_is argument) ∙ behind) e
 
-  pub walk_skipped : IsWalk p visit
-      → IsWalk p (record { cell = visit.cell; first = visit.first; turns = visit.turns; at = Some to })
-  walk_skipped walk = record {
-    first = walk.first;
-    three = walk.three;
-    turns = walk.turns;
-    at = λ q e. subst (λ (x : Position). IsSplitArgument p (argument_at visit.cell x))
-        (some_same to q e) skipped.is_argument;
+  pub next_on : (position : Position) → IsNextLeft p Noted (moved_to visit to) position
+      → IsNextLeft p Noted visit position
+  next_on position found = record {
+    is_argument = found.is_argument;
+    behind = behind_from (argument_at visit.cell position) found.behind;
+    next = λ argument child here asks behind. go argument child here asks behind
+        (is_before p visit (argument_at visit.cell to) argument) refl;
   }
-
-  pub left_skipped : IsWalk p visit → IsSplitArgument p (argument_at visit.cell at)
-      → length (alternatives_of p.grammar visit.cell.rule) ≤ 64 → visit.cell.to - visit.cell.from ≤ 4000
-      → ((alternative : ℕ) → length (arguments_of p.grammar visit.cell.rule alternative) ≤ 4)
-      → places_left p visit (Some to) ≤ places_left p visit (Some at)
-  left_skipped walk is few short arguments = go skipped.on
     where
-      go : (to ≡ at) ⊎ (is_before p visit (argument_at visit.cell at) (argument_at visit.cell to) ≡ true)
-          → places_left p visit (Some to) ≤ places_left p visit (Some at)
-      go (inl same) = let e = ap (λ (q : Position). places_left p visit (Some q)) same in omega (arith, e)
-      go (inr less) =
-          let number = skipped.is_argument.within in
-          let most = arguments to.alternative in
-          let fall = places_fall p visit walk.three walk.first few short (Some at) to skipped.is_argument.viable.three
-          (omega (arith, number, most))
-          (λ q e. (
-            ap (λ (x : Position). length x.cuts) (sym (some_same at q e)) ∙ is.viable.three,
-            subst (λ (x : Position). is_before p visit (argument_at visit.cell x) (argument_at visit.cell to) ≡ true)
-                (some_same at q e) less,
-          )) in
-          omega (arith, fall)
+      go : (argument : SplitArgument) (child : Cell) → argument.cell ≡ visit.cell → AsksFor p argument child
+          → is_behind p visit argument ≡ true → (b : Bool)
+          → is_before p visit (argument_at visit.cell to) argument ≡ b
+          → Noted child ⊎ ((argument ≡ argument_at visit.cell position)
+          ⊎ (is_before p visit (argument_at visit.cell position) argument ≡ true))
+      go argument child here asks behind true e = found.next argument child here asks e
+      go argument child here asks behind false e =
+          inl (skipped.passed argument child here asks (sym (behind_is argument) ∙ behind) e)
+
+  pub option_on : (found : Option Position)
+      → MatchOption found (IsNoneSought p Noted (moved_to visit to)) (IsNextLeft p Noted (moved_to visit to))
+      → MatchOption found (IsNoneSought p Noted visit) (IsNextLeft p Noted visit)
+  option_on None it = none_on it
+  option_on (Some position) it = next_on position it
+
+  pub option_first : (from : ℕ) (found : Option Position)
+      → MatchOption found (IsNoneLeft p Noted visit from) (IsFirstLeft p Noted visit from)
+      → MatchOption found (IsNoneLeft p Noted (moved_to visit to) from) (IsFirstLeft p Noted (moved_to visit to) from)
+  option_first from None it = it
+  option_first from (Some position) it =
+      record { is_argument = it.is_argument; behind = it.behind; first = it.first }

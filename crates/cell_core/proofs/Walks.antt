@@ -17,6 +17,7 @@ use Rattle.adp_model.specs.SplitArguments.{SplitArgument, AsksFor, IsSplitArgume
 use Rattle.adp_model.specs.Visits.{turned_number, visited_at, is_before, is_behind, is_behind_position, argument_at}
 use Rattle.adp_model.specs.Visits.{IsWalk}
 use Rattle.cell_core.specs.Seeking.{AreAllNoted, AreNotedBehind, IsFirstLeft, IsNextLeft, IsNoneLeft, IsNoneSought}
+use Rattle.cell_core.specs.Skipping.{IsReached}
 use Rattle.cell_core.proofs.SeekSteps.{split_of}
 use Rattle.cell_core.proofs.VisitOrder.{lex_from, less_from, lex_total}
 
@@ -55,7 +56,7 @@ lex_front (x ∷ xs) [] us vs l = absurd l
 lex_front (x ∷ xs) (y ∷ ys) us vs (inl l) = inl l
 lex_front (x ∷ xs) (y ∷ ys) us vs (inr (e, l)) = inr (e, lex_front xs ys us vs l)
 
-lex_end : (xs us vs : List ℕ) → LexicographicallyLess us vs → LexicographicallyLess (xs ++ us) (xs ++ vs)
+pub lex_end : (xs us vs : List ℕ) → LexicographicallyLess us vs → LexicographicallyLess (xs ++ us) (xs ++ vs)
 lex_end [] us vs l = l
 lex_end (x ∷ xs) us vs l = inr (refl, lex_end xs us vs l)
 
@@ -301,6 +302,15 @@ module _ (p : PosedProblem) (Noted : Cell → Type 0) (visit : Visit) (walk : Is
             let l = later at.alternative at.cuts at.number a.alternative a.cuts a.number here_viable viable
             (subst (λ x. is_before p visit (argument_at visit.cell at) x ≡ true) e before) in
             subst (Found cuts) (sym e) (decide a.alternative a.cuts a.number viable within l)
+
+    -- ---- along a line
+
+    pub next_reached : (position : Position) → IsReached p Noted visit at position → IsNextLeft p Noted visit position
+    next_reached position reached = record {
+      is_argument = reached.is_argument;
+      behind = behind_is (argument_at visit.cell position) ∙ reached.on;
+      next = λ a child here asks behind. reached.next a child here asks (sym (behind_is a) ∙ behind);
+    }
 
     -- ---- a later alternative
 

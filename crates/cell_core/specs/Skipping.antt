@@ -1,5 +1,6 @@
--- How far a visit can go on along a line of splits whose cells are all noted.
-use Rattle.std.specs.Prelude.{◌≡◌, ◌⊎◌, ℕ, ◌+◌, ◌<◌, ◌≤◌, true, false, List}
+-- What a visit passes over along a line of splits whose cells are noted.
+use Rattle.std.specs.Prelude.{◌≡◌, ◌⊎◌, ℕ, ◌+◌, ◌<◌, ◌≤◌, Bool, true, false, IsTrue, List}
+use Rattle.std.specs.Bool.{OnTrue}
 use Rattle.std.specs.List.{Contains}
 use Rattle.adp_model.specs.declared.cell.Cell.{Cell}
 use Rattle.adp_model.specs.PosedProblem.{PosedProblem}
@@ -9,7 +10,9 @@ use Rattle.adp_model.specs.SplitArguments.{SplitArgument, AsksFor, IsSplitArgume
 use Rattle.adp_model.specs.Visits.{argument_at, is_before}
 use Rattle.adp_model.specs.Walk.{rank_of}
 use Rattle.adp_model.specs.declared.grammar.Arg.{Arg}
+use Rattle.yield_sizes.specs.Placing.{Cover}
 use Rattle.split_lines.specs.Laid.{IsCellOf, Demands}
+use Rattle.cell_core.specs.declared.skipping.Ahead.{Ahead}
 use Rattle.cell_core.specs.declared.skipping.OpenPair.{OpenPair}
 
 -- from the first position on to the second, which is the same or visited later, all cells that are asked for are noted
@@ -19,6 +22,15 @@ pub record IsSkipped (p : PosedProblem) (Noted : Cell → Type 0) (visit : Visit
   pub passed : (argument : SplitArgument) (child : Cell) → argument.cell ≡ visit.cell → AsksFor p argument child
       → is_before p visit (argument_at visit.cell at) argument ≡ true
       → is_before p visit (argument_at visit.cell to) argument ≡ false → Noted child
+
+-- behind the first position the argument at the second one is the next, but for some whose cells are noted
+pub record IsReached (p : PosedProblem) (Noted : Cell → Type 0) (visit : Visit) (at to : Position) : Type 0 where
+  pub is_argument : IsSplitArgument p (argument_at visit.cell to)
+  pub on : is_before p visit (argument_at visit.cell at) (argument_at visit.cell to) ≡ true
+  pub next : (argument : SplitArgument) (child : Cell) → argument.cell ≡ visit.cell → AsksFor p argument child
+      → is_before p visit (argument_at visit.cell at) argument ≡ true
+      → Noted child ⊎ ((argument ≡ argument_at visit.cell to)
+      ⊎ (is_before p visit (argument_at visit.cell to) argument ≡ true))
 
 -- the cells of the first arguments of a split, so many of them, are noted
 abbrev pub AreNotedBefore : PosedProblem → (Cell → Type 0) → Cell → Position → ℕ → Type 0
@@ -41,14 +53,35 @@ AreNotedBetween Noted pair begin past =
 abbrev pub EndsByAPlace : List ℕ → ℕ → Type 0
 EndsByAPlace places past = (last : ℕ) × Contains places last × (past ≤ last + 1)
 
--- the place is one of the boundary's and comes behind this one, and from this one up to it the cells of both arguments
--- are noted
-pub record IsLastNoted (Noted : Cell → Type 0) (cell : Cell) (turn : ℕ) (pair : OpenPair) (from to : ℕ) : Type 0 where
+-- the place is the first of these from `begin` on, and before `past`
+pub record IsFirstBetween (places : List ℕ) (begin past place : ℕ) : Type 0 where
+  pub stands : Contains places place
+  pub low : begin ≤ place
+  pub high : place < past
+  pub first : (other : ℕ) → Contains places other → begin ≤ other → place ≤ other
+
+-- the place is one of the boundary's from `begin` on and before `past`; the cells of both arguments of a line are noted
+-- before it, from `begin` on, and up to `past` where the place's own are
+pub record IsLeftBetween (Noted : Cell → Type 0) (pair : OpenPair) (begin past : ℕ) (ahead : Ahead) : Type 0 where
+  pub stands : Contains pair.places.now ahead.place
+  pub low : begin ≤ ahead.place
+  pub high : ahead.place < past
+  pub noted : AreNotedBetween Noted pair begin ahead.place
+  pub whole : OnTrue ahead.is_noted (AreNotedBetween Noted pair begin past)
+
+-- the place is one of the boundary's, this one or one behind it, and from this one on, before it, the cells of both
+-- arguments are noted
+pub record IsNotedUpTo (Noted : Cell → Type 0) (cell : Cell) (turn : ℕ) (pair : OpenPair) (from to : ℕ) : Type 0 where
   pub stands : Contains pair.places.now to
-  pub behind : rank_of cell turn from < rank_of cell turn to
+  pub behind : rank_of cell turn from ≤ rank_of cell turn to
   pub noted : (place : ℕ) → Contains pair.places.now place → rank_of cell turn from ≤ rank_of cell turn place
-      → rank_of cell turn place ≤ rank_of cell turn to → IsNotedAt Noted pair place
+      → rank_of cell turn place < rank_of cell turn to → IsNotedAt Noted pair place
 
 -- each cell that the arguments may demand between two places is noted
 abbrev pub AreNotedOn : PosedProblem → (Cell → Type 0) → List Arg → ℕ → ℕ → Type 0
 AreNotedOn p Noted arguments from to = (child : Cell) → Demands p arguments from to child → Noted child
+
+-- where the arguments may have the letters between two places, this is so, and each cell that they may demand is noted
+abbrev pub AreNotedIfLaid : PosedProblem → (Cell → Type 0) → List Arg → Bool → ℕ → ℕ → Type 0
+AreNotedIfLaid p Noted arguments so from to =
+    Cover p arguments from to → IsTrue so × AreNotedOn p Noted arguments from to

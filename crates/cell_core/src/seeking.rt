@@ -5,39 +5,16 @@ ghost use Rattle.adp_model.specs.PosedProblem.{IsSpan};
 ghost use Rattle.adp_model.specs.SplitArguments.{IsSplitArgument};
 ghost use Rattle.adp_model.specs.Visits.{argument_at, IsWalk};
 ghost use Rattle.cell_core.specs.Seeking.{IsNextSought, IsNoneSought};
-ghost use Rattle.cell_core.specs.Skipping.{IsSkipped};
 
 use crate::noted_cells::NotedCells;
-use crate::skipping::skipped;
 use crate::walk::{asked, next_position};
 use adp_model::laws::well_formed::{alternatives_fit, arguments_are_few_and_known};
 use adp_model::{Cell, Position, Problem, Visit};
 use split_lines::Lines;
 
-/// Where the visit comes to from an argument while the cells that are asked for are noted: along the line of its split,
-/// where it is the first or the last of the split.
-fn gone_on<N: NotedCells>(
-    lines: &Lines<'_>,
-    problem: &Problem<'_>,
-    noted: &N,
-    visit: Visit,
-    at: Position,
-) -> Position
-    requires same { lines.now ≡ problem.now }
-    requires span { IsSpan problem.now.word visit.cell.from visit.cell.to }
-    requires walk { IsWalk problem.now visit }
-    requires argument { IsSplitArgument problem.now (argument_at visit.cell at) }
-    ensures { IsSkipped problem.now (N.is_noted noted.now) visit at result }
-{
-    let count = problem.arguments(visit.cell.rule, at.alternative).len();
-    if at.number > 0 && at.number as usize + 1 < count {
-        return at;
-    }
-    skipped(lines, problem, noted, visit, at)
-}
-
 /// The next argument of a visit whose cell isn't noted, with its cell; `None` where all are. Along a line of splits
-/// the notes of 64 places of its boundary are tested at a time. Takes no memory.
+/// the notes of 64 places of its boundary are tested at a time. Whether all cells of an alternative are noted is looked
+/// for when the search enters it, and once where it goes on in one. Takes no memory.
 pub fn seek<N: NotedCells>(
     lines: &Lines<'_>,
     problem: &Problem<'_>,
@@ -55,6 +32,7 @@ pub fn seek<N: NotedCells>(
     alternatives_fit();
     arguments_are_few_and_known();
     let mut at = visit.at;
+    let mut whole = true;
     loop {
         let turns = visit.turns;
         let now = Visit {
@@ -63,14 +41,15 @@ pub fn seek<N: NotedCells>(
             turns,
             at,
         };
-        let Some(position) = next_position(lines, problem, noted, now) else {
+        let Some(position) = next_position(lines, problem, noted, now, whole) else {
             return None;
         };
+        whole &= position.number > 0;
         if let Some(cell) = asked(problem, visit.cell, position) {
             if !noted.has(cell) {
                 return Some((position, cell));
             }
         }
-        at = Some(gone_on(lines, problem, noted, visit, position));
+        at = Some(position);
     }
 }

@@ -1,7 +1,7 @@
-//! How far a visit can go on along a line of splits whose cells are all noted.
+//! Where a visit comes to along a line of splits whose cells are noted.
 
-ghost use Rattle.std.specs.Prelude.{◌≡◌, ◌+◌, ◌-◌, ◌<◌, ◌≤◌, ℕ, ◌∷◌, IfSome, length, slice_index, slice_index_or, take};
-ghost use Rattle.std.specs.Bool.{OnTrue};
+ghost use Rattle.std.specs.Prelude.{◌≡◌, ◌+◌, ◌-◌, ◌<◌, ◌≤◌, ℕ, ◌∷◌, IfSome, MatchOption, length, slice_index, slice_index_or, take};
+ghost use Rattle.std.specs.Bool.{OnTrue, OnFalse};
 ghost use Rattle.std.specs.List.{AllAdjacentBelow, Contains};
 ghost use Rattle.adp_model.specs.declared.cell.Cell.{Cell as AnyCell};
 ghost use Rattle.adp_model.specs.PosedProblem.{IsSpan};
@@ -13,7 +13,7 @@ ghost use Rattle.adp_model.specs.Visits.{argument_at, IsWalk};
 ghost use Rattle.yield_sizes.specs.Placing.{on_span};
 ghost use Rattle.split_lines.specs.Laid.{IsCellOf};
 ghost use Rattle.split_lines.specs.Flags.{AreBitsAmong};
-ghost use Rattle.cell_core.specs.Skipping.{IsSkipped, AreNotedBefore, AreNotedBetween, EndsByAPlace, IsLastNoted};
+ghost use Rattle.cell_core.specs.Skipping.{AreNotedBefore, AreNotedBetween, EndsByAPlace, IsFirstBetween, IsLeftBetween, IsNotedAt, IsNotedUpTo, IsReached, IsSkipped};
 
 use crate::noted_cells::NotedCells;
 use crate::walk::{asked, end_of, start_of};
@@ -35,6 +35,13 @@ pub struct OpenPair<'s> {
     pub behind: &'s [u64],
     pub letters: u16,
     pub last: u16,
+}
+
+/// A place of a line that a visit comes to, and whether the cells of both arguments are noted there too.
+#[derive(Clone, Copy)]
+pub struct Ahead {
+    pub place: u16,
+    pub is_noted: bool,
 }
 
 /// A place from `begin` up to `past` before which, from `begin` on, the cells of the first argument are noted.
@@ -122,8 +129,15 @@ pub(crate) fn both_noted<N: NotedCells>(noted: &N, pair: OpenPair<'_>, begin: u1
 fn last_between(places: &[u16], begin: u16, past: u16) -> Option<u16>
     ensures { IfSome result (λ last. Contains places.now last × (begin ≤ last) × (last < past)) }
 {
-    if past <= begin {
+    if past <= begin || places.is_empty() {
         return None;
+    }
+    let last = places[places.len() - 1];
+    if last < begin {
+        return None;
+    }
+    if last < past {
+        return Some(last);
     }
     let behind = match places.binary_search(&past) {
         Ok(index) => index,
@@ -139,15 +153,66 @@ fn last_between(places: &[u16], begin: u16, past: u16) -> Option<u16>
     Some(last)
 }
 
-/// The last place up to which, from this one on, the cells of both arguments of a line are noted; `None` where there is
-/// none behind it.
-fn last_noted<N: NotedCells>(
+/// The first of the places from `begin` on, where it is before `past`.
+fn first_between(places: &[u16], begin: u16, past: u16) -> Option<u16>
+    requires rising { AllAdjacentBelow (λ (a b : ℕ). a < b) places.now (length places.now) }
+    ensures { MatchOption result
+        ((place : ℕ) → Contains places.now place → begin ≤ place → place < past → ⊥)
+        (IsFirstBetween places.now begin past) }
+{
+    if past <= begin {
+        return None;
+    }
+    let index = match places.binary_search(&begin) {
+        Ok(_) => return Some(begin),
+        Err(index) => index,
+    };
+    if index == places.len() {
+        return None;
+    }
+    let place = places[index];
+    if place >= past {
+        return None;
+    }
+    Some(place)
+}
+
+/// A place from `begin` on and before `past` such that from `begin` up to it the cells of both arguments are noted: the
+/// first one where they aren't, or the last one where all are.
+fn first_left<N: NotedCells>(noted: &N, pair: OpenPair<'_>, begin: u16, past: u16) -> Option<Ahead>
+    requires rising { AllAdjacentBelow (λ (a b : ℕ). a < b) pair.places.now (length pair.places.now) }
+    requires order { begin ≤ past }
+    requires up_to { EndsByAPlace pair.places.now past }
+    requires short { past + pair.letters ≤ 4001 }
+    requires here { AreBitsAmong pair.places.now 0 pair.here.now }
+    requires behind { AreBitsAmong pair.places.now pair.letters pair.behind.now }
+    ensures { IfSome result (IsLeftBetween (N.is_noted noted.now) pair.entry begin past) }
+{
+    let stop = both_noted(noted, pair, begin, past);
+    match first_between(pair.places, stop, past) {
+        Some(place) => Some(Ahead {
+            place,
+            is_noted: false,
+        }),
+        None => match last_between(pair.places, begin, past) {
+            Some(place) => Some(Ahead {
+                place,
+                is_noted: true,
+            }),
+            None => None,
+        },
+    }
+}
+
+/// The place of a line that the visit comes to first, from this one on, where the cells of one of its arguments aren't
+/// noted, or its last place where all are.
+fn next_place<N: NotedCells>(
     noted: &N,
     cell: Cell,
     turn: u32,
     pair: OpenPair<'_>,
     place: u16,
-) -> Option<u16>
+) -> Option<Ahead>
     requires rising { AllAdjacentBelow (λ (a b : ℕ). a < b) pair.places.now (length pair.places.now) }
     requires within { (other : ℕ) → Contains pair.places.now other → (cell.from ≤ other) × (other ≤ cell.to) }
     requires short { (other : ℕ) → Contains pair.places.now other → other + pair.letters ≤ 4000 }
@@ -156,7 +221,9 @@ fn last_noted<N: NotedCells>(
     requires turn { turn ≤ cell.to - cell.from }
     requires order { cell.from ≤ cell.to }
     requires place { (cell.from ≤ place) × (place ≤ cell.to) }
-    ensures { IfSome result (IsLastNoted (N.is_noted noted.now) cell turn pair.entry place) }
+    ensures up_to { IfSome result (λ ahead. IsNotedUpTo (N.is_noted noted.now) cell turn pair.entry place ahead.place) }
+    ensures noted { IfSome result
+        (λ ahead. OnTrue ahead.is_noted (IsNotedAt (N.is_noted noted.now) pair.entry ahead.place)) }
 {
     ranks_begin_at_the_turn();
     let places = pair.places;
@@ -164,23 +231,20 @@ fn last_noted<N: NotedCells>(
         return None;
     }
     let (first, last) = (places[0], places[places.len() - 1]);
-    if last <= place {
+    if last < place {
         return None;
     }
     let pivot = cell.from + turn as u16;
     if place < pivot {
-        let stop = both_noted(noted, pair, place, pivot.min(last + 1));
-        return last_between(places, place + 1, stop);
+        return first_left(noted, pair, place, pivot.min(last + 1));
     }
-    let stop = both_noted(noted, pair, place, last + 1);
-    if stop <= last || pivot <= first {
-        return last_between(places, place + 1, stop);
+    let Some(ahead) = first_left(noted, pair, place, last + 1) else {
+        return None;
+    };
+    if !ahead.is_noted || pivot <= first {
+        return Some(ahead);
     }
-    let stop = both_noted(noted, pair, first, pivot);
-    match last_between(places, first, stop) {
-        Some(place) => Some(place),
-        None => Some(last),
-    }
+    first_left(noted, pair, first, pivot)
 }
 
 /// The cuts with the boundary of a line, and the tokens behind it, moved to a place.
@@ -252,35 +316,45 @@ fn is_viable(
     true
 }
 
-/// Where the visit comes to along the line of the split at `at` while the cells that are asked for are noted: to the
-/// last argument of a later split.
-pub fn skipped<N: NotedCells>(
+/// Whether the search goes along a line from this argument: from the last one of a split, and from the first one where
+/// others stand before the line. A line that begins an alternative has just been seen to have a cell that isn't noted
+/// when a visit comes to its first argument.
+fn goes_along(at: Position, line: Line<'_>, count: usize) -> bool {
+    at.number as usize + 1 == count || at.number == 0 && line.first > 0
+}
+
+/// Goes on from an argument along the line of its split while the cells that are asked for are noted: where one isn't,
+/// to the first argument of the line there, and then that is the next one; where all are, to the last argument of the
+/// last split. Whether it is the next one; where that isn't told the position stays.
+pub(crate) fn reached<N: NotedCells>(
     lines: &Lines<'_>,
     problem: &Problem<'_>,
     noted: &N,
     visit: Visit,
-    at: Position,
-) -> Position
+    position: &mut Position,
+) -> bool
     requires same { lines.now ≡ problem.now }
     requires span { IsSpan problem.now.word visit.cell.from visit.cell.to }
     requires walk { IsWalk problem.now visit }
-    requires argument { IsSplitArgument problem.now (argument_at visit.cell at) }
-    ensures { IsSkipped problem.now (N.is_noted noted.now) visit at result }
+    requires argument { IsSplitArgument problem.now (argument_at visit.cell position.old) }
+    ensures next { OnTrue result (IsReached problem.now (N.is_noted noted.now) visit position.old position.new) }
+    ensures past { OnFalse result (IsSkipped problem.now (N.is_noted noted.now) visit position.old position.new) }
 {
     problem.admissible();
     arguments_are_few_and_known();
     viable_cuts_lie_within_the_cell();
     ranks_begin_at_the_turn();
+    let at = *position;
     let cell = visit.cell;
+    let all = problem.arguments(cell.rule, at.alternative);
     let Some(line) = lines.line(cell.rule, at.alternative) else {
-        return at;
+        return false;
     };
-    if !are_noted_before(problem, noted, cell, at, line.first) {
-        return at;
+    if !goes_along(at, line, all.len()) || !are_noted_before(problem, noted, cell, at, line.first) {
+        return false;
     }
     let first = line.first as usize;
     let between = line.between as usize;
-    let all = problem.arguments(cell.rule, at.alternative);
     let arguments = &all[first..];
     let cuts = at.cuts;
     let begin = Position {
@@ -300,16 +374,25 @@ pub fn skipped<N: NotedCells>(
         letters: boundary.letters,
         last: boundary.last,
     };
-    let Some(place) = last_noted(noted, cell, visit.turns[first], pair, cuts[first]) else {
-        return at;
+    let Some(ahead) = next_place(noted, cell, visit.turns[first], pair, cuts[first]) else {
+        return false;
     };
-    let cuts = moved(cuts, first, between, place);
-    if !is_viable(lines, problem, cell, at, line, pair, cuts) {
-        return at;
+    let number = if ahead.is_noted {
+        (all.len() - 1) as u8
+    } else {
+        line.first
+    };
+    if ahead.place == cuts[first] && number <= at.number {
+        return false;
     }
-    Position {
+    let cuts = moved(cuts, first, between, ahead.place);
+    if !is_viable(lines, problem, cell, at, line, pair, cuts) {
+        return false;
+    }
+    *position = Position {
         alternative: at.alternative,
         cuts,
-        number: (all.len() - 1) as u8,
-    }
+        number,
+    };
+    !ahead.is_noted
 }

@@ -1,19 +1,20 @@
 //! The walk over the arguments of a cell's splits, in the order of a visit.
 
-ghost use Rattle.std.specs.Prelude.{◌≡◌, ◌-◌, ◌<◌, ◌≤◌, MatchOption, ◌∷◌, length, slice_index};
+ghost use Rattle.std.specs.Prelude.{◌≡◌, ◌+◌, ◌-◌, ◌<◌, ◌≤◌, MatchOption, ◌∷◌, length, slice_index};
 ghost use Rattle.std.specs.Bool.{OnTrue, OnFalse};
 ghost use Rattle.std.specs.List.{AllByRecursion};
 ghost use Rattle.adp_model.specs.declared.cell.Cell.{Cell as AnyCell};
 ghost use Rattle.adp_model.specs.PosedProblem.{IsSpan};
 ghost use Rattle.adp_model.specs.Parts.{alternatives_of};
-ghost use Rattle.adp_model.specs.Splits.{ends_by, IsViable};
+ghost use Rattle.adp_model.specs.Splits.{ends_by};
 ghost use Rattle.adp_model.specs.SplitArguments.{IsSplitArgument, AsksFor};
 ghost use Rattle.adp_model.specs.Visits.{argument_at, turned_number, IsWalk};
-ghost use Rattle.adp_model.specs.Walk.{IsFirstVisited, IsNextVisited, IsLastVisited};
-ghost use Rattle.cell_core.specs.Seeking.{AreAllNoted, AreNotedBehind, IsFirstLeft, IsNextLeft, IsNoneLeft, IsNoneSought};
+ghost use Rattle.adp_model.specs.Walk.{IsFirstVisited};
+ghost use Rattle.cell_core.specs.Seeking.{AreAllNoted, IsFirstLeft, IsNextLeft, IsNoneLeft, IsNoneSought, turned_of};
 
 use crate::noted_cells::NotedCells;
 use crate::passing::are_all_noted;
+use crate::skipping::reached;
 use adp_model::laws::splits::ranks_tell_splits_apart;
 use adp_model::laws::well_formed::alternatives_fit;
 use adp_model::{Arg, Cell, Position, Problem, Visit};
@@ -50,34 +51,10 @@ fn first_left<N: NotedCells>(
     ensures first { OnTrue result (IsFirstVisited problem.now cell alt turns cuts.new.at) }
     ensures none { OnFalse result (AreAllNoted problem.now (N.is_noted noted.now) cell alt) }
 {
-    if are_all_noted(lines, noted, cell, alt) {
+    if are_all_noted(lines, noted, cell, alt, true) {
         return false;
     }
     lines.first_viable(cell, alt, turns, cuts)
-}
-
-/// Whether a viable split is visited behind `cuts`, unless all cells that the alternative's splits ask for are seen to
-/// be noted; if so, they are then the next one.
-fn next_left<N: NotedCells>(
-    lines: &Lines<'_>,
-    problem: &Problem<'_>,
-    noted: &N,
-    cell: Cell,
-    alt: u8,
-    cuts: &mut Cuts,
-) -> bool
-    requires same { lines.now ≡ problem.now }
-    requires span { IsSpan problem.now.word cell.from cell.to }
-    requires turns { AllByRecursion (λ turn. turn ≤ cell.to - cell.from) cuts.old.turns }
-    requires viable { IsViable problem.now cell alt cuts.old.at }
-    ensures next { OnTrue result (IsNextVisited problem.now cell alt cuts.old.turns cuts.old.at cuts.new.at) }
-    ensures last { OnFalse result
-        (AreNotedBehind problem.now (N.is_noted noted.now) cell alt cuts.old.turns cuts.old.at) }
-{
-    if are_all_noted(lines, noted, cell, alt) {
-        return false;
-    }
-    lines.next_viable(cell, alt, cuts)
 }
 
 /// The first argument of the alternatives that the visit comes to from this turned number on, but for alternatives
@@ -123,12 +100,36 @@ fn first_from<N: NotedCells>(
     None
 }
 
-/// The argument that the visit comes to next, but for alternatives whose cells are all noted. Takes no memory.
+/// The same of the alternatives that it comes to behind this one.
+fn first_behind<N: NotedCells>(
+    lines: &Lines<'_>,
+    problem: &Problem<'_>,
+    noted: &N,
+    visit: Visit,
+    alternative: u8,
+) -> Option<Position>
+    requires same { lines.now ≡ problem.now }
+    requires span { IsSpan problem.now.word visit.cell.from visit.cell.to }
+    requires walk { IsWalk problem.now visit }
+    requires alternative { alternative < length (alternatives_of problem.now.grammar visit.cell.rule) }
+    ensures { MatchOption result
+        (IsNoneLeft problem.now (N.is_noted noted.now) visit (turned_of problem.now visit alternative + 1))
+        (IsFirstLeft problem.now (N.is_noted noted.now) visit (turned_of problem.now visit alternative + 1)) }
+{
+    let count = problem.alternatives(visit.cell.rule).len() as u32;
+    let turned = (u32::from(alternative) + count - visit.first) % count;
+    first_from(lines, problem, noted, visit, turned + 1)
+}
+
+/// The argument that the visit comes to next, but for some whose cells are noted: those of whole alternatives, and those
+/// along a line of splits. Unless `whole`, the rest of the alternative at hand is passed over only where it takes the time
+/// of one line to see that its cells are noted. Takes no memory.
 pub(crate) fn next_position<N: NotedCells>(
     lines: &Lines<'_>,
     problem: &Problem<'_>,
     noted: &N,
     visit: Visit,
+    whole: bool,
 ) -> Option<Position>
     requires same { lines.now ≡ problem.now }
     requires span { IsSpan problem.now.word visit.cell.from visit.cell.to }
@@ -136,13 +137,21 @@ pub(crate) fn next_position<N: NotedCells>(
     ensures { MatchOption result (IsNoneSought problem.now (N.is_noted noted.now) visit)
         (IsNextLeft problem.now (N.is_noted noted.now) visit) }
 {
-    let Some(at) = visit.at else {
+    let Some(mut at) = visit.at else {
         return first_from(lines, problem, noted, visit, 0);
     };
     problem.admissible();
     alternatives_fit();
     ranks_tell_splits_apart();
-    let count = problem.alternatives(visit.cell.rule).len() as u32;
+    let count = problem.arguments(visit.cell.rule, at.alternative).len();
+    if at.number as usize + 1 == count
+        && are_all_noted(lines, noted, visit.cell, at.alternative, whole)
+    {
+        return first_behind(lines, problem, noted, visit, at.alternative);
+    }
+    if reached(lines, problem, noted, visit, &mut at) {
+        return Some(at);
+    }
     if at.number as usize + 1 < problem.arguments(visit.cell.rule, at.alternative).len() {
         let cuts = at.cuts;
         return Some(Position {
@@ -154,7 +163,7 @@ pub(crate) fn next_position<N: NotedCells>(
     let here = at.cuts;
     let turns = visit.turns;
     let mut cuts = Cuts { at: here, turns };
-    if next_left(lines, problem, noted, visit.cell, at.alternative, &mut cuts) {
+    if lines.next_viable(visit.cell, at.alternative, &mut cuts) {
         let cuts = cuts.at;
         return Some(Position {
             alternative: at.alternative,
@@ -162,8 +171,7 @@ pub(crate) fn next_position<N: NotedCells>(
             number: 0,
         });
     }
-    let turned = (u32::from(at.alternative) + count - visit.first) % count;
-    first_from(lines, problem, noted, visit, turned + 1)
+    first_behind(lines, problem, noted, visit, at.alternative)
 }
 
 /// Where an argument of a split begins, as a position in the word.

@@ -1,7 +1,5 @@
-use Rattle.std.proofs.Common.{◌≡◌, Bool, true, false, ℕ, ◌<◌, ◌≤◌, Option, Some, None, ◌++◌, length, ap, subst, sym, arith}
-use Rattle.std.specs.Bool.{OnTrue}
-use Rattle.std.proofs.lemmas.Bool.{eqb-true}
-use Rattle.adp_model.specs.declared.cell.Cell.{Cell}
+use Rattle.std.proofs.Common.{Some, ◌++◌, length, ap, subst, sym, arith}
+use Rattle.std.proofs.lemmas.Bool.{OnTrue_at, OnTrue_from, eqb-true}
 use Rattle.adp_model.specs.PosedProblem.{PosedProblem}
 use Rattle.adp_model.specs.ProblemFields.{IsAdmissible}
 use Rattle.split_lines.specs.declared.kept.KeptAlternative.{KeptAlternative}
@@ -10,7 +8,37 @@ use Rattle.split_lines.specs.Kept.{IsAlternative}
 use Rattle.cell_core.specs.Seeking.{AreAllNoted}
 use Rattle.cell_core.specs.Skipping.{AreNotedOn}
 use Rattle.cell_core.proofs.Demanded.{all_noted, noted_behind, noted_nowhere, noted_alone, empty_without}
+use Rattle.cell_core.proofs.passing.are_all_noted.Given.{Over}
 use Rattle.cell_core.proofs.passing.are_all_noted.Goals as goal
+use Rattle.cell_core.proofs.passing.are_all_noted.Goals.{After-index-alternatives-alt}
+
+kept_is : (g : Over) (c : After-index-alternatives-alt g)
+    → IsAlternative c.args.lines.now c.args.cell.rule c.args.alt c.index-alternatives-alt.result
+kept_is g c =
+    subst (λ (k : KeptAlternative). IsAlternative c.args.lines.now c.args.cell.rule c.args.alt k)
+    (sym c.index-alternatives-alt.is)
+    (c.alternatives.ensures.are c.args.alt c.index-alternatives-alt.result
+    (omega (arith, c.alternatives.ensures.each, c.requires.alternative)))
+
+-- what its arguments may demand is all that its splits ask for
+all_of : (g : Over) (c : After-index-alternatives-alt g)
+    → AreNotedOn c.args.lines.now (g.N.NotedCells.is_noted c.args.noted.now)
+    (c.index-alternatives-alt.result.front.now ++ c.index-alternatives-alt.result.others.now) c.args.cell.from
+    c.args.cell.to
+    → AreAllNoted c.args.lines.now (g.N.NotedCells.is_noted c.args.noted.now) c.args.cell c.args.alt
+all_of g c =
+    let p = c.args.lines.now in
+    let cell = c.args.cell in
+    let kept = c.index-alternatives-alt.result in
+    let admissible : IsAdmissible p = subst (λ (q : PosedProblem). IsAdmissible q) c.problem.ensures
+    c.admissible.ensures in
+    let formed = admissible.checked.well_formed in
+    let is = kept_is g c in
+    let count = ap length is.arguments in
+    let some = c.alternatives_fit.ensures.arguments p.grammar formed cell.rule c.args.alt c.requires.alternative in
+    let few = c.arguments_are_few_and_known.ensures.few p.grammar formed cell.rule c.args.alt in
+    all_noted p (g.N.NotedCells.is_noted c.args.noted.now) cell c.args.alt (kept.front.now ++ kept.others.now)
+    is.arguments (omega (arith, count, some)) (omega (arith, count, few))
 
 pub are_others_noted-requires-clause-span : goal.are_others_noted-requires-clause-span
 are_others_noted-requires-clause-span g c =
@@ -24,74 +52,34 @@ are_others_noted-requires-clause-span g c =
 
 pub returns-then-is_empty : goal.returns-then-is_empty
 returns-then-is_empty g c =
-    let p = c.args.lines.now in
-    let Noted = g.N.NotedCells.is_noted c.args.noted.now in
-    let cell = c.args.cell in
+    let at = (goal.at.returns-then-is_empty g c).After-index-alternatives-alt in
     let kept = c.index-alternatives-alt.result in
-    let admissible : IsAdmissible p = subst (λ (q : PosedProblem). IsAdmissible q) c.problem.ensures
-    c.admissible.ensures in
-    let formed = admissible.checked.well_formed in
-    let is : IsAlternative p cell.rule c.args.alt kept =
-    subst (λ (k : KeptAlternative). IsAlternative p cell.rule c.args.alt k) (sym c.index-alternatives-alt.is)
-    (c.alternatives.ensures.are c.args.alt kept (omega (arith, c.alternatives.ensures.each, c.requires.alternative))) in
-    let count = ap length is.arguments in
-    let some = c.alternatives_fit.ensures.arguments p.grammar formed cell.rule c.args.alt c.requires.alternative in
-    let few = c.arguments_are_few_and_known.ensures.few p.grammar formed cell.rule c.args.alt in
-    all_noted p Noted cell c.args.alt (kept.front.now ++ kept.others.now) is.arguments (omega (arith, count, some))
-    (omega (arith, count, few))
-    (noted_alone p Noted kept.front.now kept.others.now cell.from cell.to is.in_front.fixed
+    all_of g at
+    (noted_alone c.args.lines.now (g.N.NotedCells.is_noted c.args.noted.now) kept.front.now kept.others.now
+    c.args.cell.from c.args.cell.to (kept_is g at).in_front.fixed
     (empty_without kept.others.now (eqb-true _ _ (sym c.if-is_empty.ensures))))
 
 pub returns-in-None : goal.returns-in-None
 returns-in-None g c =
+    let at = (goal.at.returns-in-None g c).After-index-alternatives-alt in
     let p = c.args.lines.now in
-    let Noted = g.N.NotedCells.is_noted c.args.noted.now in
     let cell = c.args.cell in
     let kept = c.index-alternatives-alt.result in
-    let admissible : IsAdmissible p = subst (λ (q : PosedProblem). IsAdmissible q) c.problem.ensures
-    c.admissible.ensures in
-    let formed = admissible.checked.well_formed in
-    let is : IsAlternative p cell.rule c.args.alt kept =
-    subst (λ (k : KeptAlternative). IsAlternative p cell.rule c.args.alt k) (sym c.index-alternatives-alt.is)
-    (c.alternatives.ensures.are c.args.alt kept (omega (arith, c.alternatives.ensures.each, c.requires.alternative))) in
-    let count = ap length is.arguments in
-    let some = c.alternatives_fit.ensures.arguments p.grammar formed cell.rule c.args.alt c.requires.alternative in
-    let few = c.arguments_are_few_and_known.ensures.few p.grammar formed cell.rule c.args.alt in
-    all_noted p Noted cell c.args.alt (kept.front.now ++ kept.others.now) is.arguments (omega (arith, count, some))
-    (omega (arith, count, few))
-    (noted_nowhere p Noted kept.front.now kept.others.now cell.from cell.to is.in_front.fixed
+    all_of g at
+    (noted_nowhere p (g.N.NotedCells.is_noted c.args.noted.now) kept.front.now kept.others.now cell.from cell.to
+    (kept_is g at).in_front.fixed
     (subst (IsFrontTold p kept.front.now cell.from cell.to) c.in-None.is c.front_end.ensures))
 
 pub returns-in-Some : goal.returns-in-Some
 returns-in-Some g c =
+    OnTrue_from _ _
+    (λ e.
+    let at = (goal.at.returns-in-Some g c).After-index-alternatives-alt in
     let p = c.args.lines.now in
-    let Noted = g.N.NotedCells.is_noted c.args.noted.now in
     let cell = c.args.cell in
     let kept = c.index-alternatives-alt.result in
-    let admissible : IsAdmissible p = subst (λ (q : PosedProblem). IsAdmissible q) c.problem.ensures
-    c.admissible.ensures in
-    let formed = admissible.checked.well_formed in
-    let is : IsAlternative p cell.rule c.args.alt kept =
-    subst (λ (k : KeptAlternative). IsAlternative p cell.rule c.args.alt k) (sym c.index-alternatives-alt.is)
-    (c.alternatives.ensures.are c.args.alt kept (omega (arith, c.alternatives.ensures.each, c.requires.alternative))) in
-    let count = ap length is.arguments in
-    let some = c.alternatives_fit.ensures.arguments p.grammar formed cell.rule c.args.alt c.requires.alternative in
-    let few = c.arguments_are_few_and_known.ensures.few p.grammar formed cell.rule c.args.alt in
-    let all : AreNotedOn p Noted (kept.front.now ++ kept.others.now) cell.from cell.to
-    → AreAllNoted p Noted cell c.args.alt =
-    all_noted p Noted cell c.args.alt (kept.front.now ++ kept.others.now) is.arguments (omega (arith, count, some))
-    (omega (arith, count, few)) in
-    let told = subst (IsFrontTold p kept.front.now cell.from cell.to) c.in-Some.is c.front_end.ensures in
-    go p Noted cell c.args.alt kept c.in-Some.end all
-    (noted_behind p Noted kept.front.now kept.others.now cell.from cell.to is.in_front.fixed c.in-Some.end told)
-    c.are_others_noted.result c.are_others_noted.ensures
-  where
-    go : (p : PosedProblem) (Noted : Cell → Type 0) (cell : Cell) (alternative : ℕ) (kept : KeptAlternative) (end : ℕ)
-        → (AreNotedOn p Noted (kept.front.now ++ kept.others.now) cell.from cell.to
-        → AreAllNoted p Noted cell alternative)
-        → (AreNotedOn p Noted kept.others.now end cell.to
-        → AreNotedOn p Noted (kept.front.now ++ kept.others.now) cell.from cell.to)
-        → (found : Bool) → OnTrue found (AreNotedOn p Noted kept.others.now end cell.to)
-        → OnTrue found (AreAllNoted p Noted cell alternative)
-    go p Noted cell alternative kept end all behind true noted = all (behind noted)
-    go p Noted cell alternative kept end all behind false noted = tt
+    all_of g at
+    (noted_behind p (g.N.NotedCells.is_noted c.args.noted.now) kept.front.now kept.others.now cell.from cell.to
+    (kept_is g at).in_front.fixed c.in-Some.end
+    (subst (IsFrontTold p kept.front.now cell.from cell.to) c.in-Some.is c.front_end.ensures)
+    (OnTrue_at e c.are_others_noted.ensures)))

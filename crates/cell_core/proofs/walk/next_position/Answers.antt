@@ -1,21 +1,41 @@
-use Rattle.std.proofs.Common.{◌≡◌, ◌+◌, ◌-◌, ◌%◌, length, subst, ap, arith}
-use Rattle.std.specs.Prelude.{MatchOption}
-use Rattle.std.proofs.lemmas.Nat.{mod_below}
-use Rattle.cell_core.specs.Seeking.{turned_of, IsNoneLeft, IsFirstLeft}
-use Rattle.cell_core.proofs.Walks.{next_in_split, next_in_alternative, later_from}
+use Rattle.std.proofs.Common.{◌+◌, length, refl, sym, subst, ap, arith}
+use Rattle.adp_model.specs.PosedProblem.{PosedProblem}
+use Rattle.adp_model.specs.Splits.{IsViable}
+use Rattle.adp_model.specs.Walk.{IsNextVisited}
+use Rattle.cell_core.specs.Seeking.{moved_to, turned_of, AreAllNoted}
+use Rattle.cell_core.proofs.SeekSteps.{walk_to}
+use Rattle.cell_core.proofs.SkipSteps.{next_on, option_on, option_first}
+use Rattle.cell_core.proofs.Walks.{next_in_split, next_in_alternative, next_reached, later_from}
 use Rattle.cell_core.proofs.walk.next_position.Goals as goal
 
-pub overflow_cast-count : goal.overflow_cast-count
-overflow_cast-count g c =
-    let e = ap length c.alternatives.ensures.alternatives in
-    let few = c.alternatives.ensures.few in
-    omega arith
+pub returns-then-are_all_noted : goal.returns-then-are_all_noted
+returns-then-are_all_noted g c =
+    let p = c.args.problem.now in
+    let v = c.args.visit in
+    let Noted = g.N.NotedCells.is_noted c.args.noted.now in
+    let formed = c.admissible.ensures.checked.well_formed in
+    let at = c.in-Some.at in
+    let e = ap length c.arguments-count.ensures.arguments in
+    let all = subst (λ (q : PosedProblem). AreAllNoted q Noted v.cell at.alternative) c.requires.same
+    c.if-are_all_noted.ensures in
+    later_from p Noted v c.requires.walk c.requires.walk.three
+    (c.ranks_tell_splits_apart.ensures p formed v.cell v.turns c.requires.span.in_order c.requires.walk.three
+    c.requires.walk.turns)
+    at c.in-Some.is (λ cuts number child behind asks. all cuts number child asks) (omega (arith, e, c.if-at-count.true)) c.first_behind.result
+    c.first_behind.ensures
 
-pub overflow_add-result : goal.overflow_add-result
-overflow_add-result g c =
+pub returns-then-reached : goal.returns-then-reached
+returns-then-reached g c =
     let p = c.args.problem.now in
     let v = c.args.visit in
     let formed = c.admissible.ensures.checked.well_formed in
+    next_reached p (g.N.NotedCells.is_noted c.args.noted.now) v c.requires.walk c.requires.walk.three
+    (c.ranks_tell_splits_apart.ensures p formed v.cell v.turns c.requires.span.in_order c.requires.walk.three
+    c.requires.walk.turns)
+    c.in-Some.at c.in-Some.is c.reached.new.position c.if-reached.ensures.next
+
+pub overflow_add-result : goal.overflow_add-result
+overflow_add-result g c =
     let e = ap length c.arguments.ensures.arguments in
     let few = c.arguments.ensures.few in
     let l = c.if-at-arguments.true in
@@ -25,67 +45,60 @@ pub returns-then-at-arguments : goal.returns-then-at-arguments
 returns-then-at-arguments g c =
     let p = c.args.problem.now in
     let v = c.args.visit in
+    let Noted = g.N.NotedCells.is_noted c.args.noted.now in
+    let at = c.reached.new.position in
+    let on = c.if-reached.ensures.past in
+    let walk = walk_to p v c.requires.walk at on.is_argument in
     let formed = c.admissible.ensures.checked.well_formed in
     let e = ap length c.arguments.ensures.arguments in
     let l = c.if-at-arguments.true in
-    next_in_split p (g.N.NotedCells.is_noted c.args.noted.now) v c.requires.walk c.requires.walk.three
+    next_on p Noted v c.in-Some.at at c.in-Some.is on _
+    (next_in_split p Noted (moved_to v at) walk walk.three
     (c.ranks_tell_splits_apart.ensures p formed v.cell v.turns c.requires.span.in_order c.requires.walk.three
     c.requires.walk.turns)
-    c.in-Some.at c.in-Some.is (omega arith)
+    at refl (omega arith))
 
-pub returns-then-next_left : goal.returns-then-next_left
-returns-then-next_left g c =
+pub returns-then-next_viable : goal.returns-then-next_viable
+returns-then-next_viable g c =
     let p = c.args.problem.now in
     let v = c.args.visit in
+    let Noted = g.N.NotedCells.is_noted c.args.noted.now in
+    let at = c.reached.new.position in
+    let on = c.if-reached.ensures.past in
+    let walk = walk_to p v c.requires.walk at on.is_argument in
     let formed = c.admissible.ensures.checked.well_formed in
     let e = ap length c.arguments.ensures.arguments in
     let l = c.if-at-arguments.false in
-    let first = c.if-next_left.ensures.next in
-    next_in_alternative p (g.N.NotedCells.is_noted c.args.noted.now) v c.requires.walk c.requires.walk.three
+    let first = subst
+    (λ (q : PosedProblem). IsNextVisited q v.cell at.alternative v.turns at.cuts c.next_viable.new.cuts.at)
+    c.requires.same c.if-next_viable.ensures.next in
+    next_on p Noted v c.in-Some.at at c.in-Some.is on _
+    (next_in_alternative p Noted (moved_to v at) walk walk.three
     (c.ranks_tell_splits_apart.ensures p formed v.cell v.turns c.requires.span.in_order c.requires.walk.three
     c.requires.walk.turns)
-    c.in-Some.at c.in-Some.is c.next_left.new.cuts.at first
-    (c.alternatives_fit.ensures.arguments p.grammar formed v.cell.rule c.in-Some.at.alternative
-    first.viable.in_range) (omega arith)
-
-pub overflow_add-turned : goal.overflow_add-turned
-overflow_add-turned g c =
-    let p = c.args.problem.now in
-    let v = c.args.visit in
-    let formed = c.admissible.ensures.checked.well_formed in
-    let e = ap length c.alternatives.ensures.alternatives in
-    let few = c.alternatives.ensures.few in
-    let known = (c.requires.walk.at c.in-Some.at c.in-Some.is).viable.in_range in
-    let f = c.from.ensures in
-    omega arith
-
-pub overflow_add-turned-2 : goal.overflow_add-turned-2
-overflow_add-turned-2 g c =
-    let p = c.args.problem.now in
-    let v = c.args.visit in
-    let formed = c.admissible.ensures.checked.well_formed in
-    let e = ap length c.alternatives.ensures.alternatives in
-    let few = c.alternatives.ensures.few in
-    let first = c.requires.walk.first in
-    let below = mod_below (c.from.result + length c.alternatives.result.now - c.args.visit.first)
-    (length c.alternatives.result.now) (omega arith) in
-    omega arith
+    at refl c.next_viable.new.cuts.at first
+    (c.alternatives_fit.ensures.arguments p.grammar formed v.cell.rule at.alternative first.viable.in_range)
+    (omega arith))
 
 pub returns : goal.returns
 returns g c =
     let p = c.args.problem.now in
     let v = c.args.visit in
+    let Noted = g.N.NotedCells.is_noted c.args.noted.now in
+    let at = c.reached.new.position in
+    let on = c.if-reached.ensures.past in
+    let walk = walk_to p v c.requires.walk at on.is_argument in
     let formed = c.admissible.ensures.checked.well_formed in
     let e = ap length c.arguments.ensures.arguments in
-    let n = ap length c.alternatives.ensures.alternatives in
     let l = c.if-at-arguments.false in
-    let f = c.from.ensures in
-    let same : (c.from.result + length c.alternatives.result.now - v.first) % length c.alternatives.result.now + 1 ≡
-    turned_of p v c.in-Some.at.alternative + 1 =
-    λ i. (f i + n i - v.first) % n i + 1 in
-    later_from p (g.N.NotedCells.is_noted c.args.noted.now) v c.requires.walk c.requires.walk.three
+    option_on p Noted v c.in-Some.at at c.in-Some.is on _
+    (later_from p Noted (moved_to v at) walk walk.three
     (c.ranks_tell_splits_apart.ensures p formed v.cell v.turns c.requires.span.in_order c.requires.walk.three
     c.requires.walk.turns)
-    c.in-Some.at c.in-Some.is c.if-next_left.ensures.last (omega arith) c.first_from-2.result
-    (subst (λ x. MatchOption c.first_from-2.result (IsNoneLeft p (g.N.NotedCells.is_noted c.args.noted.now) v x)
-    (IsFirstLeft p (g.N.NotedCells.is_noted c.args.noted.now) v x)) same c.first_from-2.ensures)
+    at refl
+    (λ cuts number child behind asks. absurd
+    (c.if-next_viable.ensures.last cuts
+    (subst (λ (q : PosedProblem). IsViable q v.cell at.alternative cuts) (sym c.requires.same) asks.viable) behind))
+    (omega arith) c.first_behind-2.result
+    (option_first p Noted v c.in-Some.at at c.in-Some.is on (turned_of p v at.alternative + 1) c.first_behind-2.result
+    c.first_behind-2.ensures))

@@ -1,4 +1,5 @@
-use Rattle.std.proofs.Common.{◌≡◌, ℕ, List, ◌+◌, ◌-◌, ◌<◌, ◌≤◌, ◌∷◌, take, drop, length, slice_index, ap, sym, subst, ◌∙◌, arith}
+use Rattle.std.proofs.Common.{◌≡◌, ℕ, false, List, ◌+◌, ◌-◌, ◌<◌, ◌≤◌, ◌∷◌, take, drop, length, slice_index, ap, sym, subst, ◌∙◌, arith}
+use Rattle.std.proofs.lemmas.Bool.{true≢false}
 use Rattle.std.proofs.lemmas.List.{take_all}
 use Rattle.adp_model.specs.declared.grammar.Arg.{Arg}
 use Rattle.adp_model.specs.PosedProblem.{PosedProblem, IsSpan}
@@ -6,8 +7,9 @@ use Rattle.adp_model.specs.Parts.{arguments_of}
 use Rattle.adp_model.specs.Splits.{ends_by}
 use Rattle.split_lines.specs.Lines.{parts_by, HasLine}
 use Rattle.cell_core.proofs.LineHere.{cut_within, start_within, boundaries_here, place_within, read_at, spans_there}
-use Rattle.cell_core.proofs.Skipped.{is_skipped, length_drop}
-use Rattle.cell_core.proofs.skipping.skipped.Goals as goal
+use Rattle.cell_core.proofs.Reached.{is_told, length_drop}
+use Rattle.cell_core.proofs.skipping.reached.Goals as goal
+use Rattle.cell_core.proofs.skipping.reached.Goals.{then-ahead, else-ahead, else-ahead-cuts-via-then-ahead-cuts+else-number-at, else-ahead-cuts-via-else-ahead-cuts}
 
 -- the arguments from a number on, as a slice and as a list
 sliced : (given arguments : List Arg) (n : ℕ) → given ≡ arguments
@@ -30,27 +32,27 @@ boundary-boundary-requires-clause-span g c =
     let n = c.in-Some.line.first in
     let viable = c.requires.argument.viable in
     let within =
-    c.viable_cuts_lie_within_the_cell.ensures p c.admissible.ensures.checked.well_formed cell c.args.at.alternative
-    c.args.at.cuts c.requires.span.in_order viable in
-    let has : HasLine (drop n (arguments_of p.grammar cell.rule c.args.at.alternative)) c.in-Some.line.between =
+    c.viable_cuts_lie_within_the_cell.ensures p c.admissible.ensures.checked.well_formed cell c.args.position.now.alternative
+    c.args.position.now.cuts c.requires.span.in_order viable in
+    let has : HasLine (drop n (arguments_of p.grammar cell.rule c.args.position.now.alternative)) c.in-Some.line.between =
     subst
     (λ (q : PosedProblem). HasLine
-    (drop n (arguments_of q.grammar cell.rule c.args.at.alternative)) c.in-Some.line.between) c.requires.same
+    (drop n (arguments_of q.grammar cell.rule c.args.position.now.alternative)) c.in-Some.line.between) c.requires.same
     c.in-Some.ensures.has_line in
-    let few = few_before (arguments_of p.grammar cell.rule c.args.at.alternative) n c.in-Some.line.between has
+    let few = few_before (arguments_of p.grammar cell.rule c.args.position.now.alternative) n c.in-Some.line.between has
     (c.arguments_are_few_and_known.ensures.few p.grammar c.admissible.ensures.checked.well_formed cell.rule
-    c.args.at.alternative) in
-    let it = start_within cell c.args.at.cuts within c.requires.span.in_order n (omega (arith, few.0, viable.three)) in
+    c.args.position.now.alternative) in
+    let it = start_within cell c.args.position.now.cuts within c.requires.span.in_order n (omega (arith, few.0, viable.three)) in
     let begins = c.start_of-from.ensures in
     subst (λ (q : PosedProblem). IsSpan q.word c.start_of-from.result cell.to) (sym c.requires.same)
     (record { in_order = omega (arith, it.1, begins); in_word = c.requires.span.in_word })
 
-pub last_noted-requires-clause-within : goal.last_noted-requires-clause-within
-last_noted-requires-clause-within g c =
+pub next_place-requires-clause-within : goal.next_place-requires-clause-within
+next_place-requires-clause-within g c =
     let p = c.args.problem.now in
     let cell = c.args.visit.cell in
     let n = c.in-Some.line.first in
-    let arguments : List Arg = arguments_of p.grammar cell.rule c.args.at.alternative in
+    let arguments : List Arg = arguments_of p.grammar cell.rule c.args.position.now.alternative in
     let given : List Arg = take (length c.arguments-all.result.now - n) (drop n c.arguments-all.result.now) in
     let alike : given ≡ drop n arguments = sliced c.arguments-all.result.now arguments n c.arguments-all.ensures.arguments in
     let boundaries = boundaries_here p c.args.lines.now given
@@ -60,17 +62,17 @@ last_noted-requires-clause-within g c =
     c.boundary-boundary.ensures.boundaries in
     let viable = c.requires.argument.viable in
     let within =
-    c.viable_cuts_lie_within_the_cell.ensures p c.admissible.ensures.checked.well_formed cell c.args.at.alternative
-    c.args.at.cuts c.requires.span.in_order viable in
+    c.viable_cuts_lie_within_the_cell.ensures p c.admissible.ensures.checked.well_formed cell c.args.position.now.alternative
+    c.args.position.now.cuts c.requires.span.in_order viable in
     let has : HasLine (drop n arguments) c.in-Some.line.between =
     subst
     (λ (q : PosedProblem). HasLine
-    (drop n (arguments_of q.grammar cell.rule c.args.at.alternative)) c.in-Some.line.between) c.requires.same
+    (drop n (arguments_of q.grammar cell.rule c.args.position.now.alternative)) c.in-Some.line.between) c.requires.same
     c.in-Some.ensures.has_line in
     let few = few_before arguments n c.in-Some.line.between has
     (c.arguments_are_few_and_known.ensures.few p.grammar c.admissible.ensures.checked.well_formed cell.rule
-    c.args.at.alternative) in
-    let start = start_within cell c.args.at.cuts within c.requires.span.in_order n
+    c.args.position.now.alternative) in
+    let start = start_within cell c.args.position.now.cuts within c.requires.span.in_order n
     (omega (arith, few.0, viable.three)) in
     let begins = c.start_of-from.ensures in
     λ other contains.
@@ -79,12 +81,12 @@ last_noted-requires-clause-within g c =
     other contains in
     (omega (arith, it.0, start.0, begins), omega (arith, it.1))
 
-pub last_noted-requires-clause-short : goal.last_noted-requires-clause-short
-last_noted-requires-clause-short g c =
+pub next_place-requires-clause-short : goal.next_place-requires-clause-short
+next_place-requires-clause-short g c =
     let p = c.args.problem.now in
     let cell = c.args.visit.cell in
     let n = c.in-Some.line.first in
-    let arguments : List Arg = arguments_of p.grammar cell.rule c.args.at.alternative in
+    let arguments : List Arg = arguments_of p.grammar cell.rule c.args.position.now.alternative in
     let given : List Arg = take (length c.arguments-all.result.now - n) (drop n c.arguments-all.result.now) in
     let alike : given ≡ drop n arguments = sliced c.arguments-all.result.now arguments n c.arguments-all.ensures.arguments in
     let boundaries = boundaries_here p c.args.lines.now given
@@ -98,31 +100,31 @@ last_noted-requires-clause-short g c =
     other contains in
     omega (arith, it.1, c.requires.span.in_word, c.admissible.ensures.limits.letters)
 
-pub last_noted-requires-clause-place : goal.last_noted-requires-clause-place
-last_noted-requires-clause-place g c =
+pub next_place-requires-clause-place : goal.next_place-requires-clause-place
+next_place-requires-clause-place g c =
     let p = c.args.problem.now in
     let cell = c.args.visit.cell in
     let n = c.in-Some.line.first in
     let viable = c.requires.argument.viable in
     let within =
-    c.viable_cuts_lie_within_the_cell.ensures p c.admissible.ensures.checked.well_formed cell c.args.at.alternative
-    c.args.at.cuts c.requires.span.in_order viable in
-    let has : HasLine (drop n (arguments_of p.grammar cell.rule c.args.at.alternative)) c.in-Some.line.between =
+    c.viable_cuts_lie_within_the_cell.ensures p c.admissible.ensures.checked.well_formed cell c.args.position.now.alternative
+    c.args.position.now.cuts c.requires.span.in_order viable in
+    let has : HasLine (drop n (arguments_of p.grammar cell.rule c.args.position.now.alternative)) c.in-Some.line.between =
     subst
     (λ (q : PosedProblem). HasLine
-    (drop n (arguments_of q.grammar cell.rule c.args.at.alternative)) c.in-Some.line.between) c.requires.same
+    (drop n (arguments_of q.grammar cell.rule c.args.position.now.alternative)) c.in-Some.line.between) c.requires.same
     c.in-Some.ensures.has_line in
-    let few = few_before (arguments_of p.grammar cell.rule c.args.at.alternative) n c.in-Some.line.between has
+    let few = few_before (arguments_of p.grammar cell.rule c.args.position.now.alternative) n c.in-Some.line.between has
     (c.arguments_are_few_and_known.ensures.few p.grammar c.admissible.ensures.checked.well_formed cell.rule
-    c.args.at.alternative) in
-    cut_within cell c.args.at.cuts within n (omega (arith, few.0, viable.three))
+    c.args.position.now.alternative) in
+    cut_within cell c.args.position.now.cuts within n (omega (arith, few.0, viable.three))
 
 pub is_viable-requires-clause-short : goal.is_viable-requires-clause-short
 is_viable-requires-clause-short g c =
     let p = c.args.problem.now in
     let cell = c.args.visit.cell in
     let n = c.in-Some.line.first in
-    let arguments : List Arg = arguments_of p.grammar cell.rule c.args.at.alternative in
+    let arguments : List Arg = arguments_of p.grammar cell.rule c.args.position.now.alternative in
     let given : List Arg = take (length c.arguments-all.result.now - n) (drop n c.arguments-all.result.now) in
     let alike : given ≡ drop n arguments =
     sliced c.arguments-all.result.now arguments n c.arguments-all.ensures.arguments in
@@ -133,7 +135,7 @@ is_viable-requires-clause-short g c =
     c.boundary-boundary.ensures.boundaries in
     let it = place_within p (parts_by (drop n arguments) c.in-Some.line.between) c.start_of-from.result cell.to
     c.boundary-boundary.result.letters c.boundary-boundary.result.last c.boundary-boundary.result.places.now boundaries
-    c.in-Some-last_noted.place c.in-Some-last_noted.ensures.stands in
+    c.in-Some-next_place.ahead.place c.in-Some-next_place.ensures.up_to.stands in
     omega (arith, it.1, c.moved-cuts.ensures.there, c.requires.span.in_word, c.admissible.ensures.limits.letters)
 
 pub is_viable-requires-clause-first : goal.is_viable-requires-clause-first
@@ -141,7 +143,7 @@ is_viable-requires-clause-first g c =
     let p = c.args.problem.now in
     let cell = c.args.visit.cell in
     let n = c.in-Some.line.first in
-    let arguments : List Arg = arguments_of p.grammar cell.rule c.args.at.alternative in
+    let arguments : List Arg = arguments_of p.grammar cell.rule c.args.position.now.alternative in
     let given : List Arg = take (length c.arguments-all.result.now - n) (drop n c.arguments-all.result.now) in
     let alike : given ≡ drop n arguments =
     sliced c.arguments-all.result.now arguments n c.arguments-all.ensures.arguments in
@@ -152,8 +154,8 @@ is_viable-requires-clause-first g c =
     c.boundary-boundary.ensures.boundaries in
     (spans_there p arguments n c.in-Some.line.between c.start_of-from.result cell.to
     c.boundary-boundary.result.letters c.boundary-boundary.result.last c.boundary-boundary.result.places.now boundaries
-    c.in-Some-last_noted.place c.in-Some-last_noted.ensures.stands
-    (slice_index (cell.from ∷ ends_by cell c.args.at.cuts) n) (slice_index c.moved-cuts.result n)
+    c.in-Some-next_place.ahead.place c.in-Some-next_place.ensures.up_to.stands
+    (slice_index (cell.from ∷ ends_by cell c.args.position.now.cuts) n) (slice_index c.moved-cuts.result n)
     c.start_of-from.ensures c.moved-cuts.ensures.there).0
 
 pub is_viable-requires-clause-second : goal.is_viable-requires-clause-second
@@ -161,7 +163,7 @@ is_viable-requires-clause-second g c =
     let p = c.args.problem.now in
     let cell = c.args.visit.cell in
     let n = c.in-Some.line.first in
-    let arguments : List Arg = arguments_of p.grammar cell.rule c.args.at.alternative in
+    let arguments : List Arg = arguments_of p.grammar cell.rule c.args.position.now.alternative in
     let given : List Arg = take (length c.arguments-all.result.now - n) (drop n c.arguments-all.result.now) in
     let alike : given ≡ drop n arguments =
     sliced c.arguments-all.result.now arguments n c.arguments-all.ensures.arguments in
@@ -172,8 +174,8 @@ is_viable-requires-clause-second g c =
     c.boundary-boundary.ensures.boundaries in
     (spans_there p arguments n c.in-Some.line.between c.start_of-from.result cell.to
     c.boundary-boundary.result.letters c.boundary-boundary.result.last c.boundary-boundary.result.places.now boundaries
-    c.in-Some-last_noted.place c.in-Some-last_noted.ensures.stands
-    (slice_index (cell.from ∷ ends_by cell c.args.at.cuts) n) (slice_index c.moved-cuts.result n)
+    c.in-Some-next_place.ahead.place c.in-Some-next_place.ensures.up_to.stands
+    (slice_index (cell.from ∷ ends_by cell c.args.position.now.cuts) n) (slice_index c.moved-cuts.result n)
     c.start_of-from.ensures c.moved-cuts.ensures.there).1
 
 pub returns : goal.returns
@@ -182,7 +184,7 @@ returns g c =
     let cell = c.args.visit.cell in
     let n = c.in-Some.line.first in
     let formed = c.admissible.ensures.checked.well_formed in
-    let arguments : List Arg = arguments_of p.grammar cell.rule c.args.at.alternative in
+    let arguments : List Arg = arguments_of p.grammar cell.rule c.args.position.now.alternative in
     let given : List Arg = take (length c.arguments-all.result.now - n) (drop n c.arguments-all.result.now) in
     let alike : given ≡ drop n arguments = sliced c.arguments-all.result.now arguments n c.arguments-all.ensures.arguments in
     let boundaries = boundaries_here p c.args.lines.now given
@@ -193,26 +195,44 @@ returns g c =
     let has : HasLine (drop n arguments) c.in-Some.line.between =
     subst
     (λ (q : PosedProblem). HasLine
-    (drop n (arguments_of q.grammar cell.rule c.args.at.alternative)) c.in-Some.line.between) c.requires.same
+    (drop n (arguments_of q.grammar cell.rule c.args.position.now.alternative)) c.in-Some.line.between) c.requires.same
     c.in-Some.ensures.has_line in
     let few = few_before arguments n c.in-Some.line.between has
-    (c.arguments_are_few_and_known.ensures.few p.grammar formed cell.rule c.args.at.alternative) in
+    (c.arguments_are_few_and_known.ensures.few p.grammar formed cell.rule c.args.position.now.alternative) in
     let several = has.several in
-    is_skipped p (g.N.NotedCells.is_noted c.args.noted.now) c.args.visit c.requires.walk c.args.at c.moved-cuts.result n
-    c.in-Some-last_noted.place (length c.arguments-all.result.now - 1)
+    let number = c.if-ahead.number in
+    let counted = ap length c.arguments-all.ensures.arguments in
+    let later : slice_index c.args.position.now.cuts n ≡ c.in-Some-next_place.ahead.place
+    → c.args.position.now.number < number =
+    λ same. elim c.else-ahead-cuts.branch [
+      | else-ahead-cuts-via-then-ahead-cuts+else-number-at w ↦ omega (arith, w.if-number-at.false)
+      | else-ahead-cuts-via-else-ahead-cuts w ↦ absurd (w.if-ahead-cuts.false (sym same))
+    ] in
+    let at_first : c.in-Some-next_place.ahead.is_noted ≡ false → number ≡ n =
+    λ e. elim c.if-ahead.branch [
+      | then-ahead w ↦ absurd (true≢false (sym w.if-ahead.true ∙ e))
+      | else-ahead w ↦ w.number-is
+    ] in
+    let numbered : number < length arguments = elim c.if-ahead.branch [
+      | then-ahead w ↦ omega (arith, w.number-is, counted, few.1)
+      | else-ahead w ↦ omega (arith, w.number-is, few.1)
+    ] in
+    let it = is_told p (g.N.NotedCells.is_noted c.args.noted.now) c.args.visit c.requires.walk c.args.position.now
+    c.moved-cuts.result n c.in-Some-next_place.ahead.place number
     c.ranks_begin_at_the_turn.ensures.apart
     (λ alternative cuts viable. c.viable_cuts_lie_within_the_cell.ensures p formed cell alternative cuts
     c.requires.span.in_order viable)
     (λ alternative. c.arguments_are_few_and_known.ensures.few p.grammar formed cell.rule alternative)
     c.requires.argument c.if-not-is_viable.ensures
-    (let counted = ap length c.arguments-all.ensures.arguments in omega (arith, counted, few.1))
     (omega (arith, few.0)) c.moved-cuts.ensures.front c.moved-cuts.ensures.there
     c.if-not-are_noted_before.ensures
     _
-    c.in-Some-last_noted.ensures
+    c.in-Some-next_place.ensures.up_to later
     (parts_by (drop n arguments) c.in-Some.line.between) has.parts boundaries c.start_of-from.ensures
     (read_at given (drop n arguments) 0 c.index-arguments-0.result alike
     (omega (arith, several)) c.index-arguments-0.is)
     (read_at given (drop n arguments)
     (c.in-Some.line.between + 1) c.index-arguments-between.result alike several c.index-arguments-between.is)
-    few.1
+    few.1 numbered
+    c.in-Some-next_place.ahead.is_noted at_first c.in-Some-next_place.ensures.noted in
+    record { next = it.0; past = it.1 }
