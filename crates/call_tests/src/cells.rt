@@ -5,13 +5,13 @@ ghost use Rattle.adp_model.specs.Verdict.{greatest_length};
 use crate::grammars::checked;
 use crate::jobs::{FEWEST, PAIRS, TWO_LETTERS, WALKS, job};
 use adp_model::{Cell, Problem, Text};
+use cell_layouts::{Places, places};
 use cell_tables::{Layout, Noted};
 use grammar_check::{Checked, admit};
 use memo_words::Words;
 use std::alloc::{AllocError, Global};
 use std::process::Abort;
 use std::test::Fail;
-use yield_sizes::{Places, places};
 
 // Some cells, by rule, start and end, each with its place where it is counted.
 type Placed = [((u32, u16, u16), Option<u32>); 6];

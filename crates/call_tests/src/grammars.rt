@@ -1,10 +1,10 @@
 use crate::jobs::{DOUBLING, FEWEST, LENGTH, LINE, PAIRS, PIECES, TWO_LETTERS, job};
 use adp_model::{Job, LimitFault, Text};
+use cell_layouts::cell_bound;
 use grammar_check::{AdmitError, Checked, admit, check, node_bound, score_bound};
 use std::alloc::Global;
 use std::process::Abort;
 use std::test::Fail;
-use yield_sizes::cell_bound;
 
 /// The job's grammar, checked under its first algebra, and the words.
 pub(crate) fn checked(

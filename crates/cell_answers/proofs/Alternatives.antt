@@ -19,7 +19,7 @@ use Rattle.adp_model.specs.Bounds.{IsScoreBound}
 use Rattle.adp_model.specs.Splits.{FitsSpan}
 use Rattle.adp_model.specs.Demand.{IsDemandedChild}
 use Rattle.adp_model.specs.Bellman.{HasBestScore}
-use Rattle.yield_sizes.specs.Placing.{on_span}
+use Rattle.viable_splits.specs.Placing.{on_span}
 use Rattle.cell_tables.specs.Tables.{Table}
 use Rattle.cell_answers.specs.Entries.{HasEntry}
 use Rattle.cell_answers.specs.Totals.{HasTotal, IsWithinBound, AreWeighted}

@@ -24,7 +24,7 @@ use Rattle.adp_model.specs.Bellman.{HasBestScore}
 use Rattle.adp_model.specs.Checks.{IsChecked}
 use Rattle.adp_model.specs.ProblemFields.{most_letters, greatest_score, IsAdmissible}
 use Rattle.adp_model.specs.Bounds.{IsInRange, AreInRange, greatest_weight, argument_bounds, IsGreatest, IsMagnitude, AreScoreBounds, IsRuleBound, IsTokenBound}
-use Rattle.yield_sizes.specs.Placing.{on_span}
+use Rattle.viable_splits.specs.Placing.{on_span}
 use Rattle.cell_answers.specs.Totals.{HaveValues, IsWithinBound, AreLow}
 
 -- ---- the weights of letters

@@ -7,7 +7,7 @@ use Rattle.adp_model.specs.Terms.{weighted_sum}
 use Rattle.adp_model.specs.Splits.{FitsSpan}
 use Rattle.adp_model.specs.FirstSplit.{IsValue}
 use Rattle.adp_model.specs.Bellman.{HasBestScore}
-use Rattle.yield_sizes.specs.Placing.{on_span, Cover}
+use Rattle.viable_splits.specs.Placing.{on_span, Cover}
 use Rattle.cell_tables.specs.Tables.{Table}
 use Rattle.split_lines.specs.declared.lines.Boundary.{Boundary}
 use Rattle.cell_answers.specs.declared.opened.LineArguments.{LineArguments}

@@ -9,7 +9,7 @@ use Rattle.adp_model.specs.Tokens.{letters_between, token_value}
 use Rattle.adp_model.specs.ProblemFields.{greatest_score}
 use Rattle.adp_model.specs.Splits.{FitsSpan}
 use Rattle.adp_model.specs.FirstSplit.{IsValue}
-use Rattle.yield_sizes.specs.Placing.{on_span, Cover}
+use Rattle.viable_splits.specs.Placing.{on_span, Cover}
 use Rattle.split_lines.specs.Laid.{IsFixed}
 use Rattle.split_lines.specs.Matching.{fixed_length}
 use Rattle.cell_answers.specs.Totals.{HaveValues, HasTotal, IsWithinBound, AreLow, AreWeighted}

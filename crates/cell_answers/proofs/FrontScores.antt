@@ -6,7 +6,7 @@ use Rattle.adp_model.specs.PosedProblem.{PosedProblem, IsSpan}
 use Rattle.adp_model.specs.Parts.{algebra_of, alternatives_of, arguments_of, term_of}
 use Rattle.adp_model.specs.ProblemFields.{greatest_score, IsAdmissible}
 use Rattle.adp_model.specs.Bellman.{HasBestScore}
-use Rattle.yield_sizes.specs.Placing.{Cover}
+use Rattle.viable_splits.specs.Placing.{Cover}
 use Rattle.split_lines.specs.declared.kept.KeptAlternative.{KeptAlternative}
 use Rattle.cell_tables.specs.Tables.{Table}
 use Rattle.split_lines.specs.Kept.{IsAlternative}

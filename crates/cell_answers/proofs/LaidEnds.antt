@@ -11,7 +11,7 @@ use Rattle.adp_model.specs.Terms.{weighted_sum}
 use Rattle.adp_model.specs.Splits.{AtRule, FitsSpan}
 use Rattle.adp_model.specs.FirstSplit.{IsValue}
 use Rattle.adp_model.specs.Bellman.{HasBestScore}
-use Rattle.yield_sizes.specs.Placing.{on_span, ArePlaces, Cover}
+use Rattle.viable_splits.specs.Placing.{on_span, ArePlaces, Cover}
 use Rattle.cell_tables.specs.Tables.{Table}
 use Rattle.score_numbers.specs.Greatest.{IsGreatestOf}
 use Rattle.cell_answers.specs.Entries.{HasEntry}

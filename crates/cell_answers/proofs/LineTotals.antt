@@ -11,7 +11,7 @@ use Rattle.adp_model.specs.Terms.{weighted_sum, weighted_total}
 use Rattle.adp_model.specs.ProblemFields.{greatest_score}
 use Rattle.adp_model.specs.Splits.{FitsSpan}
 use Rattle.adp_model.specs.FirstSplit.{IsValue}
-use Rattle.yield_sizes.specs.Placing.{on_span, Cover}
+use Rattle.viable_splits.specs.Placing.{on_span, Cover}
 use Rattle.split_lines.specs.Laid.{IsFixed, Demands, LineParts, AreBoundaries}
 use Rattle.cell_answers.specs.Through.{HasTotalThrough}
 use Rattle.cell_answers.specs.Totals.{HaveValues, HasTotal, IsWithinBound, AreLow}

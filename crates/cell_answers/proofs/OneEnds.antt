@@ -9,7 +9,7 @@ use Rattle.adp_model.specs.PosedProblem.{PosedProblem}
 use Rattle.adp_model.specs.Tokens.{letters_between, token_value}
 use Rattle.adp_model.specs.Splits.{FitsSpan}
 use Rattle.adp_model.specs.FirstSplit.{IsValue}
-use Rattle.yield_sizes.specs.Placing.{on_span, Cover}
+use Rattle.viable_splits.specs.Placing.{on_span, Cover}
 use Rattle.split_lines.specs.Laid.{IsFixed}
 use Rattle.cell_answers.specs.Through.{HasTotalAt}
 use Rattle.cell_answers.specs.Totals.{HasTotal}

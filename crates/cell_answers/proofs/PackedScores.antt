@@ -16,8 +16,8 @@ use Rattle.adp_model.specs.Scores.{score_of}
 use Rattle.adp_model.specs.Checks.{IsChecked}
 use Rattle.adp_model.specs.Bounds.{IsScoreBound}
 use Rattle.adp_model.specs.ProblemFields.{IsAdmissible, most_letters}
-use Rattle.yield_sizes.specs.declared.layout.Side.{Side}
-use Rattle.yield_sizes.specs.declared.layout.Side.TheVariants.{Rows, Columns}
+use Rattle.cell_layouts.specs.declared.layout.Side.{Side}
+use Rattle.cell_layouts.specs.declared.layout.Side.TheVariants.{Rows, Columns}
 use Rattle.cell_tables.specs.Spans.{Spans, IsWritten, value_at}
 use Rattle.cell_tables.specs.Tables.{Table, AreCells, in_row, in_column, spans_of}
 use Rattle.cell_answers.specs.Entries.{HasEntry, IsEntry}

@@ -10,7 +10,7 @@ use Rattle.adp_model.specs.Parts.{alternatives_of, arguments_of}
 use Rattle.adp_model.specs.Splits.{Placed, place, placed, FitsSpan, IsViable}
 use Rattle.adp_model.specs.Demand.{IsDemandedChild}
 use Rattle.adp_model.specs.FirstSplit.{IsValue, AreArgumentValues}
-use Rattle.yield_sizes.specs.Placing.{on_span, Cover}
+use Rattle.viable_splits.specs.Placing.{on_span, Cover}
 use Rattle.split_lines.specs.Laid.{IsCellOf, Demands}
 use Rattle.cell_answers.specs.Totals.{HaveValues}
 

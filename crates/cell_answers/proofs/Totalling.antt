@@ -10,7 +10,7 @@ use Rattle.adp_model.specs.Terms.{weighted_sum, weighted_total}
 use Rattle.adp_model.specs.Splits.{FitsSpan}
 use Rattle.adp_model.specs.FirstSplit.{IsValue}
 use Rattle.adp_model.specs.ProblemFields.{greatest_score}
-use Rattle.yield_sizes.specs.Placing.{on_span, Cover}
+use Rattle.viable_splits.specs.Placing.{on_span, Cover}
 use Rattle.cell_answers.specs.Through.{HasTotalAt}
 use Rattle.cell_answers.specs.Totals.{HaveValues, HasTotal, IsWithinBound, AreLow}
 use Rattle.score_numbers.specs.Greatest.{IsGreatestOf}

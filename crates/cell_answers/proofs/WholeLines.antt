@@ -13,7 +13,7 @@ use Rattle.adp_model.specs.PosedProblem.{PosedProblem}
 use Rattle.adp_model.specs.ProblemFields.{greatest_score}
 use Rattle.adp_model.specs.Splits.{FitsSpan}
 use Rattle.adp_model.specs.Bellman.{HasBestScore}
-use Rattle.yield_sizes.specs.Placing.{on_span, Cover}
+use Rattle.viable_splits.specs.Placing.{on_span, Cover}
 use Rattle.split_lines.specs.declared.lines.Boundary.{Boundary}
 use Rattle.cell_answers.specs.declared.opened.LineArguments.{LineArguments}
 use Rattle.cell_answers.specs.Opened.{parts_with}

@@ -8,7 +8,7 @@ use Rattle.adp_model.specs.Preference.{LexicographicallyLess}
 use Rattle.adp_model.specs.Splits.{FitsSpan}
 use Rattle.adp_model.specs.FirstSplit.{IsValue}
 use Rattle.adp_model.specs.Bellman.{HasBestScore}
-use Rattle.yield_sizes.specs.Placing.{on_span}
+use Rattle.viable_splits.specs.Placing.{on_span}
 use Rattle.cell_answers.specs.Through.{HasTotalAt}
 
 -- the arguments may have the letters from `from` to `to`, each up to its own of the ends, so that each factor times its

@@ -4,7 +4,7 @@ use Rattle.std.specs.List.{AllByRecursion, Contains}
 use Rattle.adp_model.specs.declared.grammar.Arg.{Arg}
 use Rattle.adp_model.specs.PosedProblem.{PosedProblem}
 use Rattle.adp_model.specs.Splits.{AtRule}
-use Rattle.yield_sizes.specs.Placing.{on_span}
+use Rattle.viable_splits.specs.Placing.{on_span}
 use Rattle.cell_answers.specs.declared.opened.LineArguments.{LineArguments}
 use Rattle.cell_answers.specs.declared.opened.OpenedLine.{OpenedLine}
 use Rattle.cell_answers.specs.ArgumentEntries.{AreProperNumbers, entries_of}

@@ -5,7 +5,7 @@ ghost use Rattle.std.specs.List.{AllByRecursion, Contains};
 ghost use Rattle.adp_model.specs.declared.cell.Cell.{Cell};
 ghost use Rattle.adp_model.specs.PosedProblem.{IsSpan};
 ghost use Rattle.adp_model.specs.Bellman.{HasBestScore};
-ghost use Rattle.yield_sizes.specs.Placing.{Cover};
+ghost use Rattle.viable_splits.specs.Placing.{Cover};
 ghost use Rattle.split_lines.specs.Laid.{IsFixed, Demands};
 ghost use Rattle.split_lines.specs.Lines.{IsLine};
 ghost use Rattle.score_numbers.specs.Worthless.{AreWorthless};

@@ -6,7 +6,7 @@ ghost use Rattle.adp_model.specs.WellFormed.{IsKnown};
 ghost use Rattle.adp_model.specs.ProblemFields.{greatest_score};
 ghost use Rattle.adp_model.specs.Bellman.{HasBestScore};
 ghost use Rattle.adp_model.specs.FirstSplit.{IsValue};
-ghost use Rattle.yield_sizes.specs.Placing.{on_span};
+ghost use Rattle.viable_splits.specs.Placing.{on_span};
 ghost use Rattle.cell_answers.specs.Entries.{HasEntry};
 ghost use Rattle.cell_answers.specs.ArgumentEntries.{AreProperNumbers, entries_of};
 ghost use Rattle.cell_answers.specs.Rows.{HasEntryAt};

@@ -8,7 +8,7 @@ ghost use Rattle.adp_model.specs.Parts.{alternatives_of};
 ghost use Rattle.adp_model.specs.Answers.{IsAnswer};
 ghost use Rattle.adp_model.specs.Bellman.{HasBestScore};
 ghost use Rattle.adp_model.specs.Demand.{IsDemandedChild};
-ghost use Rattle.yield_sizes.specs.Placing.{Cover};
+ghost use Rattle.viable_splits.specs.Placing.{Cover};
 ghost use Rattle.split_lines.specs.Kept.{IsAlternative, factors_behind};
 ghost use Rattle.split_lines.specs.Laid.{Demands};
 ghost use Rattle.split_lines.specs.Lines.{IsLine};

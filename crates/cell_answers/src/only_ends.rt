@@ -3,7 +3,7 @@
 ghost use Rattle.std.specs.Prelude.{◌≡◌, ◌+◌, ◌<◌, ◌^◌, ℕ, IfSome};
 ghost use Rattle.adp_model.specs.PosedProblem.{PosedProblem};
 ghost use Rattle.adp_model.specs.Splits.{FitsSpan};
-ghost use Rattle.yield_sizes.specs.Placing.{on_span, Cover};
+ghost use Rattle.viable_splits.specs.Placing.{on_span, Cover};
 
 use adp_model::Arg;
 use split_lines::{fixed_length, is_fixed};

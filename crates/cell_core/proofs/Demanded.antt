@@ -7,7 +7,7 @@ use Rattle.adp_model.specs.declared.cell.Cell.{Cell}
 use Rattle.adp_model.specs.PosedProblem.{PosedProblem}
 use Rattle.adp_model.specs.Parts.{arguments_of}
 use Rattle.adp_model.specs.Splits.{place, ends_by, FitsSpan}
-use Rattle.yield_sizes.specs.Placing.{on_span, Cover}
+use Rattle.viable_splits.specs.Placing.{on_span, Cover}
 use Rattle.split_lines.specs.Ends.{IsFrontTold}
 use Rattle.split_lines.specs.Laid.{IsFixed, IsCellOf, Demands, LineParts, AreBoundaries}
 use Rattle.split_lines.specs.Lines.{HasLine, parts_by}

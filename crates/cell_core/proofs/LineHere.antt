@@ -7,7 +7,7 @@ use Rattle.adp_model.specs.declared.grammar.Arg.TheVariants.{Rule}
 use Rattle.adp_model.specs.declared.cell.Cell.{Cell}
 use Rattle.adp_model.specs.PosedProblem.{PosedProblem}
 use Rattle.adp_model.specs.Splits.{ends_by, FitsSpan, Placed}
-use Rattle.yield_sizes.specs.Placing.{on_span, Cover}
+use Rattle.viable_splits.specs.Placing.{on_span, Cover}
 use Rattle.split_lines.specs.Laid.{LineParts, AreBoundaries}
 use Rattle.split_lines.specs.Lines.{parts_by}
 use Rattle.cell_core.proofs.LineOrder.{AreWithin}

@@ -7,7 +7,7 @@ use Rattle.adp_model.specs.declared.grammar.Arg.TheVariants.{Rule, Literal, Lett
 use Rattle.adp_model.specs.declared.cell.Cell.{Cell}
 use Rattle.adp_model.specs.PosedProblem.{PosedProblem}
 use Rattle.adp_model.specs.Splits.{Placed, place, FitsSpan}
-use Rattle.yield_sizes.specs.Placing.{on_span, Cover}
+use Rattle.viable_splits.specs.Placing.{on_span, Cover}
 use Rattle.split_lines.specs.Laid.{IsFixed, IsCellOf, LineParts, AreBoundaries}
 
 abbrev pub AreAt : ℕ → List ℕ → Type 0

@@ -6,7 +6,7 @@ use Rattle.adp_model.specs.declared.grammar.Arg.{Arg}
 use Rattle.adp_model.specs.declared.cell.Cell.{Cell}
 use Rattle.adp_model.specs.PosedProblem.{PosedProblem}
 use Rattle.adp_model.specs.Splits.{FitsSpan}
-use Rattle.yield_sizes.specs.Placing.{on_span, ArePlaces, Cover}
+use Rattle.viable_splits.specs.Placing.{on_span, ArePlaces, Cover}
 use Rattle.split_lines.specs.Ends.{IsEndTold}
 use Rattle.split_lines.specs.Laid.{IsFixed, IsCellOf, Demands}
 use Rattle.cell_core.specs.Skipping.{AreNotedIfLaid, AreNotedOn}

@@ -10,7 +10,7 @@ use Rattle.adp_model.specs.SplitArguments.{SplitArgument, AsksFor, IsSplitArgume
 use Rattle.adp_model.specs.Visits.{argument_at, is_before}
 use Rattle.adp_model.specs.Walk.{rank_of}
 use Rattle.adp_model.specs.declared.grammar.Arg.{Arg}
-use Rattle.yield_sizes.specs.Placing.{Cover}
+use Rattle.viable_splits.specs.Placing.{Cover}
 use Rattle.split_lines.specs.Laid.{IsCellOf, Demands}
 use Rattle.cell_core.specs.declared.skipping.Ahead.{Ahead}
 use Rattle.cell_core.specs.declared.skipping.OpenPair.{OpenPair}

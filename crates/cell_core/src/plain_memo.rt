@@ -6,10 +6,10 @@ ghost use Rattle.cell_core.specs.PlainScores.{score_in};
 use adp_model::laws::cells::{places_are_unique, places_tell_cells_apart};
 use adp_model::laws::demand::demanded_cells_are_counted;
 use adp_model::{Answer, Cell, Look, Memo, Problem, Publish, Stage, Steps};
+use cell_layouts::{Places, places};
 use std::alloc::{AllocError, Global};
 use std::marker::Model;
 use std::sync::ledger::Ledger;
-use yield_sizes::{Places, places};
 
 /// The answer of a cell.
 #[derive(Clone, Copy)]

@@ -10,7 +10,7 @@ ghost use Rattle.adp_model.specs.declared.grammar.Arg.TheVariants.{Rule};
 ghost use Rattle.adp_model.specs.Splits.{ends_by, FitsSpan, IsViable};
 ghost use Rattle.adp_model.specs.SplitArguments.{IsSplitArgument};
 ghost use Rattle.adp_model.specs.Visits.{argument_at, IsWalk};
-ghost use Rattle.yield_sizes.specs.Placing.{on_span};
+ghost use Rattle.viable_splits.specs.Placing.{on_span};
 ghost use Rattle.split_lines.specs.Laid.{IsCellOf};
 ghost use Rattle.split_lines.specs.Flags.{AreBitsAmong};
 ghost use Rattle.cell_core.specs.Skipping.{AreNotedBefore, AreNotedBetween, EndsByAPlace, IsFirstBetween, IsLeftBetween, IsNotedAt, IsNotedUpTo, IsReached, IsSkipped};

@@ -20,7 +20,7 @@ use adp_model::laws::well_formed::alternatives_fit;
 use adp_model::{Arg, Cell, Position, Problem, Visit};
 use random_orders::rotated;
 use split_lines::Lines;
-use yield_sizes::Cuts;
+use viable_splits::Cuts;
 
 /// The alternative that is visited behind so many others where the visit begins with `first`.
 fn alternative_behind(first: u32, count: u32, turned: u32) -> u32

@@ -12,7 +12,7 @@ use Rattle.adp_model.specs.PosedProblem.{PosedProblem}
 use Rattle.adp_model.specs.Parts.{alternatives_of, arguments_of}
 use Rattle.adp_model.specs.Splits.{Placed, FitsSpan, place, ends_by}
 use Rattle.adp_model.specs.Demand.{IsDemandedChild}
-use Rattle.yield_sizes.specs.Placing.{on_span, Cover, ArePlaces}
+use Rattle.viable_splits.specs.Placing.{on_span, Cover, ArePlaces}
 use Rattle.split_lines.specs.Laid.{IsCellOf, Demands, IsFixed, LineParts, AreBoundaries}
 use Rattle.split_lines.specs.declared.lines.Line.{Line}
 use Rattle.split_lines.specs.Lines.{HasLine, IsLine, parts_by}

@@ -9,7 +9,7 @@ use Rattle.adp_model.specs.PosedProblem.{PosedProblem}
 use Rattle.adp_model.specs.Parts.{alternatives_of, arguments_of}
 use Rattle.adp_model.specs.Splits.{Placed, place, placed, FitsSpan, IsViable}
 use Rattle.adp_model.specs.Demand.{IsDemandedChild}
-use Rattle.yield_sizes.specs.Placing.{on_span, Cover}
+use Rattle.viable_splits.specs.Placing.{on_span, Cover}
 use Rattle.split_lines.specs.Laid.{IsCellOf, Demands}
 
 -- cuts lay the arguments from `from` to `to`, so that it holds of what is laid

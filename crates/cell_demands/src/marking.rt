@@ -9,7 +9,7 @@ ghost use Rattle.adp_model.specs.Parts.{alternatives_of, arguments_of};
 ghost use Rattle.adp_model.specs.Cells.{IsCounted};
 ghost use Rattle.adp_model.specs.Demand.{IsDemandedChild};
 ghost use Rattle.adp_model.specs.WellFormed.{IsKnown};
-ghost use Rattle.yield_sizes.specs.Placing.{Cover};
+ghost use Rattle.viable_splits.specs.Placing.{Cover};
 ghost use Rattle.split_lines.specs.Flags.{AreBitsAmong};
 ghost use Rattle.split_lines.specs.Kept.{IsAlternative};
 ghost use Rattle.split_lines.specs.Laid.{Demands, IsCellOf};

@@ -4,8 +4,8 @@ use Rattle.std.specs.Prelude.{sum_by}
 use Rattle.std.proofs.lemmas.Bool.{cases_lt}
 use Rattle.std.proofs.lemmas.List.{take-take}
 use Rattle.std.proofs.lemmas.List.Sums.{sum_by_more, sum_by-take-le}
-use Rattle.yield_sizes.specs.declared.layout.Block.{Block}
-use Rattle.yield_sizes.specs.Layout.{size_of, AreLaid}
+use Rattle.cell_layouts.specs.declared.layout.Block.{Block}
+use Rattle.cell_layouts.specs.Layout.{size_of, AreLaid}
 
 -- the blocks before one have at most so many values as those before a later one
 sums_rise : (blocks : List Block) (number later : ℕ) → number ≤ later → sum_by size_of (take number blocks) ≤ sum_by size_of (take later blocks)

@@ -4,10 +4,10 @@ use Rattle.std.specs.Prelude.{IsSome}
 use Rattle.std.proofs.lemmas.Nat.{mul-add-lt}
 use Rattle.adp_model.specs.declared.grammar.Grammar.{Grammar}
 use Rattle.adp_model.specs.Cells.{IsCounted}
-use Rattle.yield_sizes.specs.declared.layout.Block.{Block}
-use Rattle.yield_sizes.specs.declared.layout.Side.{Side}
-use Rattle.yield_sizes.specs.declared.layout.Side.TheVariants.{Rows, Columns}
-use Rattle.yield_sizes.specs.Layout.{cell_at, block_in, IsCountedBlock, AreCountedBlocks}
+use Rattle.cell_layouts.specs.declared.layout.Block.{Block}
+use Rattle.cell_layouts.specs.declared.layout.Side.{Side}
+use Rattle.cell_layouts.specs.declared.layout.Side.TheVariants.{Rows, Columns}
+use Rattle.cell_layouts.specs.Layout.{cell_at, block_in, IsCountedBlock, AreCountedBlocks}
 use Rattle.cell_tables.specs.Spans.{Spans, Stands, block_at, place_of, value_at}
 use Rattle.cell_tables.proofs.Values.{nothing, number_in, place_within, value_standing, standing_has, stands_where_some}
 

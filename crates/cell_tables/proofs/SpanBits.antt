@@ -4,9 +4,9 @@ use Rattle.std.specs.Int.{bit_at}
 use Rattle.std.specs.Prelude.{bit_or}
 use Rattle.std.proofs.lemmas.Bool.{cases_eq}
 use Rattle.std.proofs.lemmas.Option.{same_Some, slice_get-get_or, get_or_from_slice_get}
-use Rattle.yield_sizes.specs.declared.layout.Block.{Block}
+use Rattle.cell_layouts.specs.declared.layout.Block.{Block}
 use Rattle.cell_tables.specs.Spans.{Spans, Stands, AreBlocks, IsWritten, block_at, place_of, value_at}
-use Rattle.yield_sizes.specs.Layout.{AreLaid}
+use Rattle.cell_layouts.specs.Layout.{AreLaid}
 use Rattle.cell_tables.specs.Bits.{AreSetToo, IsBitIn, IsSet}
 use Rattle.cell_tables.specs.WordBits.{AreBitsSet, IsBitOfFar}
 use Rattle.cell_tables.proofs.NumberBits.{or_bit, bits_like}

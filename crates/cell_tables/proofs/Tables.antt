@@ -6,10 +6,10 @@ use Rattle.adp_model.specs.declared.grammar.Grammar.{Grammar}
 use Rattle.adp_model.specs.declared.cell.Cell.{Cell}
 use Rattle.adp_model.specs.PosedProblem.{PosedProblem}
 use Rattle.adp_model.specs.Cells.{IsCounted, IsCellBound, IsPlaceOf, AreCountedEnds}
-use Rattle.yield_sizes.specs.declared.layout.Block.{Block}
-use Rattle.yield_sizes.specs.declared.layout.Side.TheVariants.{Rows, Columns}
+use Rattle.cell_layouts.specs.declared.layout.Block.{Block}
+use Rattle.cell_layouts.specs.declared.layout.Side.TheVariants.{Rows, Columns}
 use Rattle.cell_tables.specs.Spans.{Spans, Stands, HasSameBlocks, block_at, place_of, value_at}
-use Rattle.yield_sizes.specs.Layout.{block_in, AreCountedBlocks, ArePlaced}
+use Rattle.cell_layouts.specs.Layout.{block_in, AreCountedBlocks, ArePlaced}
 use Rattle.cell_tables.specs.Tables.{Table, AreCells}
 use Rattle.cell_tables.proofs.Values.{nothing, stands_where_some, value_standing, is_some_at}
 use Rattle.cell_tables.proofs.CountedSpans.{some_counted, counted_some}

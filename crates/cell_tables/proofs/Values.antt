@@ -6,7 +6,7 @@ use Rattle.std.proofs.lemmas.Bool.Decides.{Decides-and, Decides-ltb}
 use Rattle.std.proofs.lemmas.Nat.{same_from_place}
 use Rattle.std.proofs.lemmas.List.{get_or_past, length-set}
 use Rattle.std.proofs.lemmas.Option.{slice_get_read}
-use Rattle.yield_sizes.specs.declared.layout.Block.{Block}
+use Rattle.cell_layouts.specs.declared.layout.Block.{Block}
 use Rattle.cell_tables.specs.Spans.{Spans, AreBlocks, IsWritten, AreWritten, AreSet, Stands, block_at, place_of, value_at}
 use Rattle.cell_tables.proofs.BlockPlaces.{value_within, other_place}
 

@@ -6,9 +6,9 @@ use Rattle.std.proofs.lemmas.Nat.Bits.{bit_at-zero}
 use Rattle.std.proofs.lemmas.Option.{same_Some}
 use Rattle.adp_model.specs.declared.grammar.Grammar.{Grammar}
 use Rattle.adp_model.specs.Cells.{IsCounted}
-use Rattle.yield_sizes.specs.declared.layout.Block.{Block}
-use Rattle.yield_sizes.specs.declared.layout.Side.{Side}
-use Rattle.yield_sizes.specs.Layout.{cell_at, block_in, AreCountedWords, AreLaid}
+use Rattle.cell_layouts.specs.declared.layout.Block.{Block}
+use Rattle.cell_layouts.specs.declared.layout.Side.{Side}
+use Rattle.cell_layouts.specs.Layout.{cell_at, block_in, AreCountedWords, AreLaid}
 use Rattle.cell_tables.specs.Spans.{Spans, Stands, AreBlocks, block_at, place_of, value_at}
 use Rattle.cell_tables.specs.Bits.{IsSet}
 use Rattle.cell_tables.proofs.Values.{nothing, value_standing, standing_has, place_within}

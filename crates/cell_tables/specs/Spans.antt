@@ -1,8 +1,8 @@
 -- Values for spans: by a rule, a near end and a far end of a span. Those of one rule and one near end stand side by
 -- side, in order of far ends.
 use Rattle.std.specs.Prelude.{◌≡◌, ℕ, ◌+◌, ◌-◌, ◌*◌, ◌<◌, ◌≤◌, ◌&&◌, nat_le, nat_lt, Option, Some, None, List, length, slice_get, slice_index_or, if◌then◌else◌}
-use Rattle.yield_sizes.specs.declared.layout.Block.{Block}
-use Rattle.yield_sizes.specs.Layout.{AreLaid}
+use Rattle.cell_layouts.specs.declared.layout.Block.{Block}
+use Rattle.cell_layouts.specs.Layout.{AreLaid}
 
 -- how many near ends a rule has, the block of each rule and near end, rule by rule, and the values of all blocks
 pub record Spans (V : Type 0) : Type 0 where

@@ -3,8 +3,8 @@ use Rattle.std.specs.Prelude.{◌≡◌, ◌↔◌, ℕ, Option, IsSome, length}
 use Rattle.adp_model.specs.declared.cell.Cell.{Cell}
 use Rattle.adp_model.specs.PosedProblem.{PosedProblem}
 use Rattle.adp_model.specs.Cells.{IsCounted, IsCellBound, IsPlaceOf}
-use Rattle.yield_sizes.specs.declared.layout.Side.{Side}
-use Rattle.yield_sizes.specs.declared.layout.Side.TheVariants.{Rows, Columns}
+use Rattle.cell_layouts.specs.declared.layout.Side.{Side}
+use Rattle.cell_layouts.specs.declared.layout.Side.TheVariants.{Rows, Columns}
 use Rattle.cell_tables.specs.Spans.{Spans, place_of, value_at}
 
 -- values of cells by rows and by columns

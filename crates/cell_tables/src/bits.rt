@@ -4,14 +4,14 @@ ghost use Rattle.std.specs.Prelude.{◌≡◌, ◌↔◌, ℕ, ◌+◌, ◌-◌,
 ghost use Rattle.std.specs.Int.{bit_at};
 ghost use Rattle.std.specs.List.{Contains};
 ghost use Rattle.adp_model.specs.Cells.{IsCounted};
-ghost use Rattle.yield_sizes.specs.Layout.{cell_at};
+ghost use Rattle.cell_layouts.specs.Layout.{cell_at};
 ghost use Rattle.cell_tables.specs.Spans.{value_at};
 ghost use Rattle.cell_tables.specs.Bits.{AreSetToo, IsBitIn, IsBitOf, IsFirstMissing, IsSet};
 ghost use Rattle.cell_tables.specs.WordBits.{AreBitsSet, IsBitOfFar};
 
 use crate::grid::Grid;
+use cell_layouts::{Layout, Side, WORD};
 use std::alloc::{AllocError, Global};
-use yield_sizes::{Layout, Side, WORD};
 
 /// The grid that has a number, 0, for each 64 far ends among which that of a counted cell lies. Fails for want of
 /// memory alone.

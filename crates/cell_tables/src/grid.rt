@@ -3,13 +3,13 @@
 ghost use Rattle.std.specs.Prelude.{◌≡◌, ℕ, ◌+◌, ◌-◌, ◌^◌, ◌<◌, ◌≤◌, IfOk, IsSome, Some, MatchOption, length, slice_get};
 ghost use Rattle.std.specs.List.{Contains};
 ghost use Rattle.std.specs.Arc.{arc_value};
-ghost use Rattle.yield_sizes.specs.Layout.{AreLaid};
+ghost use Rattle.cell_layouts.specs.Layout.{AreLaid};
 ghost use Rattle.cell_tables.specs.Spans.{AreSet, IsWritten, Stands, block_at, value_at};
 
+use cell_layouts::{Block, Laid};
 use std::alloc::{AllocError, Global};
 use std::marker::Model;
 use std::sync::Arc;
-use yield_sizes::{Block, Laid};
 
 /// A value for each of some spans, by a rule, a near end and a far end of the span: those of a rule and a near end
 /// stand side by side, from the place of their block on. The blocks are shared with others that are laid out alike.

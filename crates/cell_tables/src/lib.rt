@@ -11,8 +11,8 @@ mod noted;
 mod table;
 
 pub use bits::set_each;
+pub use cell_layouts::{Layout, Side, WORD};
 pub use grid::{Grid, set_places};
 pub use marks::Marks;
 pub use noted::Noted;
 pub use table::Table;
-pub use yield_sizes::{Layout, Side, WORD};

@@ -13,7 +13,7 @@ use crate::bits::{first_bit, last_bit};
 use crate::flags::raise;
 use crate::grid::Grid;
 use crate::marks::Marks;
-use yield_sizes::WORD;
+use cell_layouts::WORD;
 
 impl<'a> Marks<'a> {
     /// The last end before `below` of the spans that begin at `from` and are marked in a row of one of the rules. Takes

@@ -11,9 +11,9 @@ use crate::flags::{flag, raise};
 use crate::grid::Grid;
 use adp_model::Cell;
 use adp_model::laws::well_formed::numbers_fit_together;
+use cell_layouts::{Layout, Side};
 use std::alloc::{AllocError, Global};
 use std::marker::Model;
-use yield_sizes::{Layout, Side};
 
 /// Marks of a problem's counted cells, as bits: rows go by a rule and a start and have the ends side by side, columns
 /// go by a rule and an end and have the starts side by side. Takes two bits for each counted cell; the blocks of

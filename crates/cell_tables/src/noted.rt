@@ -9,9 +9,9 @@ ghost use Rattle.cell_tables.specs.Noted.{AreNotes, IsNoted, IsNotedAt};
 use crate::bits::word_grid;
 use crate::grid::Grid;
 use adp_model::{Cell, Problem};
+use cell_layouts::{Layout, Side};
 use std::alloc::{AllocError, Global};
 use std::marker::Model;
-use yield_sizes::{Layout, Side};
 
 /// Notes of a problem's counted cells: for each a bit in its row and one in its column, which are set together.
 /// Contracts see them as the problem and the bits of rows and columns.

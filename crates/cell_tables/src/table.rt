@@ -9,9 +9,9 @@ ghost use Rattle.cell_tables.specs.Tables.{AreCells, in_row, in_column, spans_of
 use crate::grid::Grid;
 use adp_model::laws::cells::{places_are_unique, places_go_on};
 use adp_model::{Cell, Problem};
+use cell_layouts::{Layout, Side};
 use std::alloc::{AllocError, Global};
 use std::marker::Model;
-use yield_sizes::{Layout, Side};
 
 /// A value for each counted cell of a problem, in its row and in its column: rows go by a rule and a start and have the
 /// ends side by side, columns go by a rule and an end and have the starts side by side. Takes two values for each

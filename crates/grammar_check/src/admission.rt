@@ -8,8 +8,8 @@ use crate::checked::Checked;
 use crate::cut::CUT;
 use crate::error::AdmitError;
 use adp_model::{LimitFault, MOST_LETTERS, Problem, Text};
+use cell_layouts::cell_bound;
 use std::alloc::Global;
-use yield_sizes::cell_bound;
 
 /// The greatest cell bound of a word.
 const MOST_CELLS: u64 = 2_097_152;

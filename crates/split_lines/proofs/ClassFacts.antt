@@ -8,7 +8,7 @@ use Rattle.std.proofs.lemmas.List.{take_more, get_or-drop, drop_more, take-take,
 use Rattle.adp_model.specs.PosedProblem.{PosedProblem, IsSpan}
 use Rattle.adp_model.specs.Parts.{letters_of}
 use Rattle.adp_model.specs.Tokens.{letters_between, IsIn, weight_of, total_weight}
-use Rattle.yield_sizes.specs.Placing.{IsClassEnd}
+use Rattle.viable_splits.specs.Placing.{IsClassEnd}
 use Rattle.split_lines.specs.Classes.{IsAhead}
 
 -- all letters of a span are in the class

@@ -3,7 +3,7 @@ use Rattle.std.proofs.Common.{◌≡◌, ℕ, suc, ◌-◌, ◌<◌, ◌≤◌, 
 use Rattle.std.proofs.lemmas.List.{take_all}
 use Rattle.adp_model.specs.declared.grammar.Arg.{Arg}
 use Rattle.adp_model.specs.PosedProblem.{PosedProblem}
-use Rattle.yield_sizes.specs.Placing.{Cover}
+use Rattle.viable_splits.specs.Placing.{Cover}
 
 -- a list that has an item is that item and the rest, as a slice is taken
 pub split_at_first : {X : Type 0} (all : List X) (first : X) → 0 < length all → first ≡ get_or all 0 first → all ≡ first ∷ take (length all - 1) (drop 1 all)

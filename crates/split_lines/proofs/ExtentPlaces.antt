@@ -5,7 +5,7 @@ use Rattle.adp_model.specs.declared.grammar.Arg.TheVariants.{Rule, Run}
 use Rattle.adp_model.specs.PosedProblem.{PosedProblem, IsSpan}
 use Rattle.adp_model.specs.ProblemFields.{most_letters}
 use Rattle.adp_model.specs.Sizes.{IsWithinSizes}
-use Rattle.yield_sizes.specs.Placing.{AreEnds}
+use Rattle.viable_splits.specs.Placing.{AreEnds}
 use Rattle.split_lines.specs.declared.extents.Extent.{Extent}
 use Rattle.split_lines.specs.Begins.{AreStarts}
 use Rattle.split_lines.specs.Extents.{AreOfClass, IsExtent}

@@ -4,7 +4,7 @@ use Rattle.std.specs.List.{AllByRecursion, AllAdjacentBelow, Contains}
 use Rattle.std.proofs.lemmas.List.Elements.{All-from_recursion, recursion_from_All, All-drop}
 use Rattle.adp_model.specs.PosedProblem.{PosedProblem}
 use Rattle.adp_model.specs.Splits.{FitsSpan}
-use Rattle.yield_sizes.specs.Placing.{on_span, Cover, AreEnds}
+use Rattle.viable_splits.specs.Placing.{on_span, Cover, AreEnds}
 use Rattle.split_lines.specs.Laid.{LineParts, AreBoundaries}
 use Rattle.split_lines.specs.Begins.{AreStarts}
 use Rattle.split_lines.specs.Matching.{HaveLetters, AreMatchPlaces}

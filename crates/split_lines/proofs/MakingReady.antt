@@ -8,7 +8,7 @@ use Rattle.adp_model.specs.declared.grammar.Arg.TheVariants.{Literal}
 use Rattle.adp_model.specs.PosedProblem.{PosedProblem}
 use Rattle.adp_model.specs.Parts.{algebra_of, arguments_of, term_of}
 use Rattle.adp_model.specs.WellFormed.{IsKnown}
-use Rattle.yield_sizes.specs.Placing.{Cover}
+use Rattle.viable_splits.specs.Placing.{Cover}
 use Rattle.split_lines.specs.declared.kept.KeptAlternative.{KeptAlternative}
 use Rattle.score_numbers.specs.Worthless.{AreWorthless}
 use Rattle.split_lines.specs.Kept.{AreOneLetter, AreOneOfClass, BeginWith, IsAlternative}

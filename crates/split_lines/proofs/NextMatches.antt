@@ -4,7 +4,7 @@ use Rattle.std.specs.List.{Contains}
 use Rattle.std.proofs.lemmas.List.{drop-drop, get_or_default}
 use Rattle.adp_model.specs.declared.grammar.Arg.{Arg}
 use Rattle.adp_model.specs.PosedProblem.{PosedProblem}
-use Rattle.yield_sizes.specs.Placing.{Cover, CoverNone, IsNextPlace}
+use Rattle.viable_splits.specs.Placing.{Cover, CoverNone, IsNextPlace}
 use Rattle.split_lines.specs.declared.matches.Matches.{Matches}
 use Rattle.split_lines.specs.Matching.{AreMatches}
 use Rattle.split_lines.specs.Lines.{HasLine, parts_by}

@@ -3,7 +3,7 @@ use Rattle.std.proofs.Common.{◌≡◌, ◌↔◌, ℕ, ◌<◌, ◌≤◌, Boo
 use Rattle.adp_model.specs.declared.grammar.Arg.{Arg}
 use Rattle.adp_model.specs.PosedProblem.{PosedProblem}
 use Rattle.adp_model.specs.Splits.{FitsSpan}
-use Rattle.yield_sizes.specs.Placing.{on_span, Cover, AreEnds}
+use Rattle.viable_splits.specs.Placing.{on_span, Cover, AreEnds}
 use Rattle.split_lines.specs.Laid.{IsFixed}
 use Rattle.split_lines.proofs.Dividing.{cover_forward}
 use Rattle.split_lines.proofs.TokenSpans.{fixed_span}

@@ -4,7 +4,7 @@ use Rattle.std.specs.declared.ops.Range.{Range}
 use Rattle.adp_model.specs.declared.grammar.Arg.{Arg}
 use Rattle.adp_model.specs.PosedProblem.{PosedProblem}
 use Rattle.adp_model.specs.Splits.{FitsSpan}
-use Rattle.yield_sizes.specs.Placing.{on_span}
+use Rattle.viable_splits.specs.Placing.{on_span}
 
 -- the range has the places, from `first` on, at which the argument may begin that ends at `to`
 pub record AreStarts (p : PosedProblem) (argument : Arg) (first to : ℕ) (starts : Range ℕ) : Type 0 where

@@ -3,7 +3,7 @@ use Rattle.std.specs.Prelude.{◌≡◌, ◌↔◌, ℕ, ◌≤◌, Option, Some
 use Rattle.adp_model.specs.declared.grammar.Arg.{Arg}
 use Rattle.adp_model.specs.PosedProblem.{PosedProblem}
 use Rattle.adp_model.specs.Splits.{FitsSpan}
-use Rattle.yield_sizes.specs.Placing.{on_span, Cover}
+use Rattle.viable_splits.specs.Placing.{on_span, Cover}
 
 -- the end of a token, no later than the last place, is told
 abbrev pub IsEndTold : PosedProblem → Arg → ℕ → ℕ → Option ℕ → Type 0

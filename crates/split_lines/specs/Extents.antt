@@ -7,7 +7,7 @@ use Rattle.adp_model.specs.Parts.{letters_of}
 use Rattle.adp_model.specs.ProblemFields.{most_letters}
 use Rattle.adp_model.specs.Splits.{FitsSpan}
 use Rattle.adp_model.specs.Tokens.{letters_between, IsIn}
-use Rattle.yield_sizes.specs.Placing.{on_span}
+use Rattle.viable_splits.specs.Placing.{on_span}
 use Rattle.split_lines.specs.declared.extents.Extent.{Extent}
 
 -- the letters of the span are of the class, where there is one

@@ -4,7 +4,7 @@ use Rattle.std.specs.List.{AllAdjacentBelow, Contains}
 use Rattle.adp_model.specs.declared.grammar.Arg.{Arg}
 use Rattle.adp_model.specs.declared.grammar.Arg.TheVariants.{Rule, Literal, Letter, Run}
 use Rattle.adp_model.specs.PosedProblem.{PosedProblem}
-use Rattle.yield_sizes.specs.Placing.{Cover}
+use Rattle.viable_splits.specs.Placing.{Cover}
 use Rattle.split_lines.specs.Flags.{AreBits}
 use Rattle.score_numbers.specs.Limits.{no_limit, AreLimits}
 use Rattle.split_lines.specs.declared.matches.Matches.{Matches}

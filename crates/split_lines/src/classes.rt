@@ -8,7 +8,7 @@ ghost use Rattle.split_lines.specs.Classes.{IsAhead, IsBehind, AreSums, IsTable}
 use adp_model::Problem;
 use std::alloc::{AllocError, Global};
 use std::marker::Model;
-use yield_sizes::Matcher;
+use viable_splits::Matcher;
 
 /// For a class and a word: how far letters of the class go on from each place, from where they go on up to each place,
 /// and what the letters before each place weigh.

@@ -5,7 +5,7 @@ ghost use Rattle.adp_model.specs.declared.grammar.Arg.{Arg as Argument};
 ghost use Rattle.adp_model.specs.PosedProblem.{IsSpan};
 ghost use Rattle.adp_model.specs.ProblemFields.{most_letters};
 ghost use Rattle.adp_model.specs.WellFormed.{IsKnown};
-ghost use Rattle.yield_sizes.specs.Placing.{AreEnds};
+ghost use Rattle.viable_splits.specs.Placing.{AreEnds};
 ghost use Rattle.split_lines.specs.Begins.{AreStarts};
 ghost use Rattle.split_lines.specs.Extents.{AreOfClass, IsExtent};
 ghost use Rattle.split_lines.specs.Laid.{IsFixed};
@@ -13,7 +13,7 @@ ghost use Rattle.split_lines.specs.Laid.{IsFixed};
 use crate::classes::ClassTables;
 use adp_model::{Arg, MOST_LETTERS, Problem};
 use std::ops::Range;
-use yield_sizes::Matcher;
+use viable_splits::Matcher;
 
 /// How many letters a word may have.
 const MOST: u32 = MOST_LETTERS as u32;

@@ -6,7 +6,7 @@ ghost use Rattle.std.specs.List.{AllByRecursion};
 ghost use Rattle.adp_model.specs.declared.grammar.Arg.TheVariants.{Letter};
 ghost use Rattle.adp_model.specs.PosedProblem.{IsSpan};
 ghost use Rattle.adp_model.specs.Parts.{alternatives_of};
-ghost use Rattle.yield_sizes.specs.Placing.{Cover};
+ghost use Rattle.viable_splits.specs.Placing.{Cover};
 ghost use Rattle.split_lines.specs.Laid.{IsFixed};
 ghost use Rattle.split_lines.specs.Kept.{AreInFront, AreOneLetter, AreOneOfClass, BeginWith, IsAlternative, factors_behind};
 
@@ -17,7 +17,7 @@ use crate::tokens::is_fixed;
 use adp_model::laws::well_formed::terms_fit_their_alternatives;
 use adp_model::{Arg, Problem};
 use score_numbers::{are_worthless, turned, turned_factors};
-use yield_sizes::Matcher;
+use viable_splits::Matcher;
 
 /// An alternative as it is kept: most spans are refused by the tokens before its first argument of open length.
 #[derive(Drop)]

@@ -11,7 +11,7 @@ ghost use Rattle.adp_model.specs.Splits.{FitsSpan, IsViable};
 ghost use Rattle.adp_model.specs.Tokens.{letters_between, total_weight};
 ghost use Rattle.adp_model.specs.Walk.{IsFirstVisited, IsNextVisited, IsLastVisited};
 ghost use Rattle.adp_model.specs.WellFormed.{IsKnown};
-ghost use Rattle.yield_sizes.specs.Placing.{ArePlaces, Cover, on_span};
+ghost use Rattle.viable_splits.specs.Placing.{ArePlaces, Cover, on_span};
 ghost use Rattle.split_lines.specs.declared.kept.KeptAlternative.{KeptAlternative};
 ghost use Rattle.split_lines.specs.Kept.{AreInFront, IsAlternative};
 ghost use Rattle.split_lines.specs.Laid.{IsFixed, AreBoundaries};
@@ -32,7 +32,7 @@ use adp_model::{Arg, Cell, Problem};
 use std::alloc::{AllocError, Global};
 use std::marker::Model;
 use std::ops::Range;
-use yield_sizes::{Cuts, Matcher, first_ends, first_visited, next_visited};
+use viable_splits::{Cuts, Matcher, first_ends, first_visited, next_visited};
 
 /// How many of the kept lists are compared with tokens before these get a list of their own.
 const MOST_COMPARED: usize = 64;

@@ -4,12 +4,12 @@ ghost use Rattle.std.specs.Prelude.{◌≡◌, ℕ, ◌≤◌, ◌↔◌, IsTrue
 ghost use Rattle.adp_model.specs.PosedProblem.{IsSpan};
 ghost use Rattle.adp_model.specs.Splits.{FitsSpan};
 ghost use Rattle.adp_model.specs.WellFormed.{IsKnown};
-ghost use Rattle.yield_sizes.specs.Placing.{on_span};
+ghost use Rattle.viable_splits.specs.Placing.{on_span};
 ghost use Rattle.split_lines.specs.Laid.{IsFixed};
 
 use crate::classes::ClassTables;
 use adp_model::Arg;
-use yield_sizes::argument_ends;
+use viable_splits::argument_ends;
 
 /// Where a token of fixed length that begins at `from` ends, where it matches there and ends at `last` or before.
 pub fn token_end(tables: &ClassTables<'_>, token: &Arg, from: usize, last: usize) -> Option<usize>

@@ -1,16 +1,3 @@
-pub mod Counting
-pub mod CountedBlocks
-pub mod PlacedBlocks
-pub mod WordBlocks
-pub mod EndPlaces
-pub mod TurnedRanks
-pub mod Dividing
-pub mod LengthSums
-pub mod Closing
-pub mod FirstPlace
-pub mod NextPlace
-pub mod Passing
-pub mod WholeCell
 pub mod Searching
 pub mod GrammarReads
 pub mod LeastLengths

@@ -4,7 +4,3 @@ pub mod Relations
 pub mod ArgumentTests
 pub mod LoopAnswers
 pub mod AnchorTests
-pub mod CountedCells
-pub mod Placing
-pub mod Layout
-pub mod LayoutFields

@@ -4,7 +4,7 @@ use Rattle.std.proofs.lemmas.Int.{to_z-of_z, fits_signed_from_abs}
 use Rattle.adp_model.specs.ProblemFields.{greatest_score}
 use Rattle.adp_model.specs.Tokens.{letters_between, token_value}
 use Rattle.adp_model.specs.Bellman.{HasBestScore}
-use Rattle.yield_sizes.specs.Placing.{Cover}
+use Rattle.viable_splits.specs.Placing.{Cover}
 use Rattle.split_lines.specs.Laid.{IsFixed}
 use Rattle.split_lines.specs.Matching.{fixed_length}
 use Rattle.cell_answers.specs.Totals.{HasTotal, AreLow, AreWeighted}

@@ -8,7 +8,7 @@ use Rattle.adp_model.specs.ProblemFields.{greatest_score}
 use Rattle.adp_model.specs.Splits.{AtRule, FitsSpan}
 use Rattle.adp_model.specs.FirstSplit.{IsValue}
 use Rattle.adp_model.specs.Bellman.{HasBestScore}
-use Rattle.yield_sizes.specs.Placing.{on_span}
+use Rattle.viable_splits.specs.Placing.{on_span}
 use Rattle.cell_answers.specs.Entries.{HasEntry}
 use Rattle.cell_answers.specs.LaidBy.{AreFirstEnds, IsFirstEnd}
 use Rattle.cell_answers.specs.Totals.{HasTotal}

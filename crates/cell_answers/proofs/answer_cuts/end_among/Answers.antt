@@ -5,7 +5,7 @@ use Rattle.adp_model.specs.PosedProblem.{PosedProblem}
 use Rattle.adp_model.specs.ProblemFields.{greatest_score}
 use Rattle.adp_model.specs.Splits.{FitsSpan}
 use Rattle.adp_model.specs.Bellman.{HasBestScore}
-use Rattle.yield_sizes.specs.Placing.{on_span, ArePlaces}
+use Rattle.viable_splits.specs.Placing.{on_span, ArePlaces}
 use Rattle.cell_answers.specs.LaidBy.{IsFirstEnd}
 use Rattle.cell_answers.specs.Totals.{HasTotal}
 use Rattle.score_numbers.specs.Greatest.{IsGreatestOf}

@@ -10,7 +10,7 @@ use Rattle.adp_model.specs.ProblemFields.{greatest_score}
 use Rattle.adp_model.specs.Splits.{FitsSpan}
 use Rattle.adp_model.specs.FirstSplit.{IsValue}
 use Rattle.adp_model.specs.Bellman.{HasBestScore}
-use Rattle.yield_sizes.specs.Placing.{on_span, ArePlaces, Cover}
+use Rattle.viable_splits.specs.Placing.{on_span, ArePlaces, Cover}
 use Rattle.cell_answers.specs.Totals.{HasTotal}
 use Rattle.score_numbers.specs.Greatest.{IsGreatestOf}
 use Rattle.cell_answers.proofs.LineStarts.{line_now, line_later}

@@ -4,7 +4,7 @@ use Rattle.adp_model.specs.PosedProblem.{PosedProblem}
 use Rattle.adp_model.specs.ProblemFields.{greatest_score, IsAdmissible}
 use Rattle.adp_model.specs.Parts.{algebra_of}
 use Rattle.adp_model.specs.Bellman.{HasBestScore}
-use Rattle.yield_sizes.specs.Placing.{Cover}
+use Rattle.viable_splits.specs.Placing.{Cover}
 use Rattle.cell_answers.specs.Totals.{HasTotal, HasTurnedScore, AreLow, AreWeighted}
 use Rattle.score_numbers.specs.Greatest.{IsGreatestOf}
 use Rattle.cell_answers.proofs.Alternatives.{TokensKeepBound, alternative_laid}

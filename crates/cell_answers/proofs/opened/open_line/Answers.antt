@@ -8,7 +8,7 @@ use Rattle.adp_model.specs.declared.cell.Cell.{Cell}
 use Rattle.adp_model.specs.PosedProblem.{PosedProblem}
 use Rattle.adp_model.specs.Splits.{AtRule}
 use Rattle.adp_model.specs.Bellman.{HasBestScore}
-use Rattle.yield_sizes.specs.Placing.{on_span}
+use Rattle.viable_splits.specs.Placing.{on_span}
 use Rattle.split_lines.specs.Laid.{IsFixed, LineParts, AreBoundaries}
 use Rattle.split_lines.specs.Lines.{parts_by}
 use Rattle.cell_answers.specs.Entries.{HasEntry, IsEntry}

@@ -3,7 +3,7 @@ use Rattle.adp_model.specs.declared.grammar.Arg.{Arg}
 use Rattle.adp_model.specs.declared.grammar.Arg.TheVariants.{Rule}
 use Rattle.adp_model.specs.Parts.{arguments_of}
 use Rattle.adp_model.specs.Splits.{ends_by, FitsSpan}
-use Rattle.yield_sizes.specs.Placing.{on_span}
+use Rattle.viable_splits.specs.Placing.{on_span}
 use Rattle.cell_core.proofs.ViableCuts.{line_fits, line_closed}
 use Rattle.cell_core.proofs.skipping.is_viable.Goals as goal
 

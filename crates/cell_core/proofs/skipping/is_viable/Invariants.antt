@@ -1,7 +1,7 @@
 use Rattle.std.specs.Prelude.{ℕ, ◌<◌, ◌∷◌, slice_index, slice_index_or}
 use Rattle.adp_model.specs.declared.grammar.Arg.TheVariants.{Rule}
 use Rattle.adp_model.specs.Splits.{FitsSpan, ends_by}
-use Rattle.yield_sizes.specs.Placing.{on_span}
+use Rattle.viable_splits.specs.Placing.{on_span}
 use Rattle.cell_core.proofs.skipping.is_viable.Given as goal
 
 abbrev pub invariant-loop-number : goal.invariant-loop-number

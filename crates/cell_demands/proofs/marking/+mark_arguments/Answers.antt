@@ -8,7 +8,7 @@ use Rattle.adp_model.specs.declared.cell.Cell.{Cell}
 use Rattle.adp_model.specs.PosedProblem.{PosedProblem}
 use Rattle.adp_model.specs.Cells.{IsCounted}
 use Rattle.adp_model.specs.WellFormed.{IsKnown}
-use Rattle.yield_sizes.specs.Placing.{Cover}
+use Rattle.viable_splits.specs.Placing.{Cover}
 use Rattle.split_lines.specs.Laid.{Demands, IsCellOf}
 use Rattle.split_lines.specs.Lines.{IsLine}
 use Rattle.cell_tables.specs.Marks.{CellMarks, AreMarkedFrom}

@@ -3,7 +3,7 @@ use Rattle.std.proofs.lemmas.Bool.{false≢true}
 use Rattle.adp_model.specs.PosedProblem.{PosedProblem}
 use Rattle.adp_model.specs.Cells.{IsCounted}
 use Rattle.adp_model.specs.Splits.{FitsSpan}
-use Rattle.yield_sizes.specs.Placing.{on_span}
+use Rattle.viable_splits.specs.Placing.{on_span}
 use Rattle.split_lines.specs.Laid.{IsCellOf}
 use Rattle.cell_demands.proofs.MarkSteps.{marked_in_rows}
 use Rattle.cell_demands.proofs.OneEnds.{cover_nowhere, marked_nowhere, last_misses, last_marked}

@@ -4,7 +4,7 @@ use Rattle.adp_model.specs.declared.cell.Cell.{Cell}
 use Rattle.adp_model.specs.PosedProblem.{PosedProblem}
 use Rattle.adp_model.specs.Cells.{IsCounted}
 use Rattle.split_lines.specs.Laid.{IsCellOf, Demands}
-use Rattle.yield_sizes.specs.Placing.{Cover}
+use Rattle.viable_splits.specs.Placing.{Cover}
 use Rattle.cell_demands.proofs.LineDemands.{demands_first, demands_second, demanded_by_line, cover_told, cover_of_demands}
 use Rattle.cell_demands.proofs.MarkSteps.{marked_like, marked_more, marked_in_rows, none_marked}
 use Rattle.cell_demands.proofs.marking.mark_line.Goals as goal

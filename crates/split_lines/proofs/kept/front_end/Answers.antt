@@ -6,7 +6,7 @@ use Rattle.adp_model.specs.declared.grammar.Arg.{Arg}
 use Rattle.adp_model.specs.declared.grammar.Arg.TheVariants.{Letter}
 use Rattle.adp_model.specs.PosedProblem.{PosedProblem}
 use Rattle.adp_model.specs.WellFormed.{IsKnown}
-use Rattle.yield_sizes.specs.Placing.{Cover}
+use Rattle.viable_splits.specs.Placing.{Cover}
 use Rattle.split_lines.specs.Kept.{AreOneOfClass, BeginWith}
 use Rattle.split_lines.proofs.MakingReady.{letter_stands, letter_covers}
 use Rattle.split_lines.proofs.kept.front_end.Goals as goal

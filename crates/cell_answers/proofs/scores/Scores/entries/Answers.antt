@@ -1,6 +1,6 @@
 use Rattle.std.proofs.Common.{◌≡◌, ℕ, ℤ, ◌-◌, IsSome, slice_get, sym, ap, subst, ◌∙◌}
 use Rattle.cell_answers.specs.declared.argument_values.Numbers.{Numbers}
-use Rattle.yield_sizes.specs.declared.layout.Side.{Side}
+use Rattle.cell_layouts.specs.declared.layout.Side.{Side}
 use Rattle.cell_answers.specs.declared.scores.Packed.{Packed}
 use Rattle.cell_answers.specs.declared.scores.Packed.TheVariants.{Short, Medium, Long, Whole}
 use Rattle.cell_answers.specs.declared.scores.Scores.TheInside.{Inside}

@@ -1,9 +1,9 @@
 use Rattle.std.proofs.Common.{ℕ, List, length, sym, subst, ◌∙◌, arith}
 use Rattle.adp_model.specs.PosedProblem.{PosedProblem}
 use Rattle.adp_model.specs.Cells.{IsCellBound}
-use Rattle.yield_sizes.specs.declared.layout.Block.{Block}
-use Rattle.yield_sizes.specs.declared.layout.Side.TheVariants.{Rows, Columns}
-use Rattle.yield_sizes.specs.Layout.{ArePlaced}
+use Rattle.cell_layouts.specs.declared.layout.Block.{Block}
+use Rattle.cell_layouts.specs.declared.layout.Side.TheVariants.{Rows, Columns}
+use Rattle.cell_layouts.specs.Layout.{ArePlaced}
 use Rattle.cell_tables.specs.Tables.{AreCells}
 use Rattle.cell_tables.proofs.CountedSpans.{blocks_in_grid, counted_value}
 use Rattle.cell_tables.proofs.Tables.{new_cells}

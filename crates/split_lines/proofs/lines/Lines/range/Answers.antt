@@ -4,7 +4,7 @@ use Rattle.std.proofs.lemmas.List.{take_rest}
 use Rattle.adp_model.specs.declared.grammar.Arg.{Arg}
 use Rattle.adp_model.specs.PosedProblem.{PosedProblem}
 use Rattle.adp_model.specs.WellFormed.{IsKnown}
-use Rattle.yield_sizes.specs.Placing.{Cover, AreEnds}
+use Rattle.viable_splits.specs.Placing.{Cover, AreEnds}
 use Rattle.split_lines.specs.Begins.{AreStarts}
 use Rattle.split_lines.specs.Extents.{IsExtent}
 use Rattle.split_lines.specs.Lines.{parts_by, LeavesPlace}

@@ -4,7 +4,7 @@ use Rattle.std.proofs.lemmas.Bool.{false≢true}
 use Rattle.std.proofs.lemmas.List.{length_push}
 use Rattle.adp_model.specs.declared.grammar.Arg.{Arg}
 use Rattle.adp_model.specs.PosedProblem.{PosedProblem}
-use Rattle.yield_sizes.specs.Placing.{Cover}
+use Rattle.viable_splits.specs.Placing.{Cover}
 use Rattle.split_lines.specs.Flags.{AreBits}
 use Rattle.split_lines.specs.Matching.{HaveLetters, AreMatchPlaces, AreCounts, AreLimitsOf}
 use Rattle.split_lines.proofs.Matched.{no_counts, one_count_more, one_place_more, no_places, places_below, one_match_more, no_match_there}

@@ -1,0 +1,4 @@
+pub mod Counting
+pub mod CountedBlocks
+pub mod PlacedBlocks
+pub mod WordBlocks

@@ -1,0 +1,3 @@
+pub mod CountedCells
+pub mod Layout
+pub mod LayoutFields

@@ -1,0 +1,9 @@
+pub mod EndPlaces
+pub mod TurnedRanks
+pub mod Dividing
+pub mod LengthSums
+pub mod Closing
+pub mod FirstPlace
+pub mod NextPlace
+pub mod Passing
+pub mod WholeCell

@@ -1,5 +1,0 @@
-use Rattle.std.proofs.Common.{length}
-use Rattle.yield_sizes.proofs.end_places.+total_lengths.Given as goal
-
-abbrev pub decreases-total_lengths : goal.decreases-total_lengths
-decreases-total_lengths l = length l.arguments.now

@@ -1,5 +1,0 @@
-use Rattle.std.proofs.Common.{length}
-use Rattle.yield_sizes.proofs.placing.+next_cuts.Given as goal
-
-abbrev pub decreases-next_cuts : goal.decreases-next_cuts
-decreases-next_cuts g l = length l.arguments.now
