@@ -4,10 +4,11 @@ use Rattle.std.specs.List.{AllByRecursion}
 use Rattle.std.specs.declared.ops.Range.{Range}
 use Rattle.adp_model.specs.declared.grammar.Arg.{Arg}
 use Rattle.adp_model.specs.declared.cell.Cell.{Cell}
-use Rattle.adp_model.specs.PosedProblem.{PosedProblem}
+use Rattle.adp_model.specs.PosedProblem.{PosedProblem, IsSpan}
 use Rattle.adp_model.specs.Parts.{alternatives_of, arguments_of, letters_of}
 use Rattle.adp_model.specs.Tokens.{letters_between, IsIn}
 use Rattle.adp_model.specs.Splits.{Placed, FitsSpan}
+use Rattle.adp_model.specs.WellFormed.{IsKnown}
 use Rattle.adp_model.specs.Walk.{rank_of, IsVisitedBefore}
 use Rattle.viable_splits.specs.declared.cuts.Cuts.{Cuts}
 
@@ -65,6 +66,18 @@ pub record ArePlaces (p : PosedProblem) (argument : Arg) (later : List Arg) (fro
 pub record AreRest (p : PosedProblem) (cell : Cell) (alternative number : ℕ) (arguments : List Arg) : Type 0 where
   pub in_range : alternative < length (alternatives_of p.grammar cell.rule)
   pub are : arguments ≡ drop number (arguments_of p.grammar cell.rule alternative)
+
+-- a walk has these arguments of the alternative left, those from this number on, and for them the letters of the cell
+-- from `from` on; no boundary is turned by more places than the cell has letters
+pub record AreLeft (p : PosedProblem) (cell : Cell) (alternative : ℕ) (arguments : List Arg) (from number : ℕ)
+    (turns : List ℕ) : Type 0 where
+  pub span : IsSpan p.word from cell.to
+  pub after : cell.from ≤ from
+  pub known : AllByRecursion (IsKnown p.grammar) arguments
+  pub rest : AreRest p cell alternative number arguments
+  pub few : length arguments + number ≤ 4
+  pub boundary : number ≤ 3
+  pub turned : AllByRecursion (λ turn. turn ≤ cell.to - cell.from) turns
 
 -- these cuts divide the letters from `from` to `to` into spans that the arguments may have, in order; cuts that are
 -- left over stand at `to`

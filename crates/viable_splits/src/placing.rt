@@ -1,9 +1,8 @@
 ghost use Rattle.std.specs.Prelude.{◌≡◌, ℕ, ◌+◌, ◌-◌, ◌^◌, ◌<◌, ◌≤◌, MatchOption, length, take, drop, slice_index};
 ghost use Rattle.std.specs.List.{AllByRecursion};
-ghost use Rattle.adp_model.specs.PosedProblem.{IsSpan};
 ghost use Rattle.adp_model.specs.WellFormed.{IsKnown};
 ghost use Rattle.adp_model.specs.Walk.{rank_of};
-ghost use Rattle.viable_splits.specs.Placing.{AreRest, Divide, IsFirstBehind, HasNoneBehind, IsFirstWithin, HasNoneWithin, IsNextFrom, IsLastFrom};
+ghost use Rattle.viable_splits.specs.Placing.{AreLeft, AreRest, Divide, IsFirstBehind, HasNoneBehind, IsFirstWithin, HasNoneWithin, IsNextFrom, IsLastFrom};
 
 use crate::cuts::Cuts;
 use crate::end_places::first_ends;
@@ -58,13 +57,8 @@ pub fn first_cuts<M: Matcher>(
     number: usize,
     cuts: Cuts,
 ) -> Option<Cuts>
-    requires span { IsSpan (M.posed walk.now.matcher.now).word from walk.now.cell.to }
-    requires after { walk.now.cell.from ≤ from }
-    requires known { AllByRecursion (IsKnown (M.posed walk.now.matcher.now).grammar) arguments.now }
-    requires rest { AreRest (M.posed walk.now.matcher.now) walk.now.cell walk.now.alt number arguments.now }
-    requires few { length arguments.now + number ≤ 4 }
-    requires boundary { number ≤ 3 }
-    requires turns { AllByRecursion (λ turn. turn ≤ walk.now.cell.to - walk.now.cell.from) cuts.turns }
+    requires left { AreLeft (M.posed walk.now.matcher.now) walk.now.cell walk.now.alt
+        arguments.now from number cuts.turns }
     ensures { MatchOption result
         (HasNoneBehind (M.posed walk.now.matcher.now) walk.now.cell arguments.now from number 0 cuts.turns)
         (IsFirstBehind (M.posed walk.now.matcher.now) walk.now.cell arguments.now from number 0 cuts) }
@@ -93,13 +87,9 @@ fn first_behind<M: Matcher>(
     least_rank: usize,
     cuts: Cuts,
 ) -> Option<Cuts>
-    requires span { IsSpan (M.posed walk.now.matcher.now).word from walk.now.cell.to }
-    requires after { walk.now.cell.from ≤ from }
-    requires known { AllByRecursion (IsKnown (M.posed walk.now.matcher.now).grammar) arguments.now }
-    requires rest { AreRest (M.posed walk.now.matcher.now) walk.now.cell walk.now.alt number arguments.now }
+    requires left { AreLeft (M.posed walk.now.matcher.now) walk.now.cell walk.now.alt
+        arguments.now from number cuts.turns }
     requires several { 1 < length arguments.now }
-    requires few { length arguments.now + number ≤ 4 }
-    requires turns { AllByRecursion (λ turn. turn ≤ walk.now.cell.to - walk.now.cell.from) cuts.turns }
     requires rank { least_rank < 2 ^ 32 }
     ensures { MatchOption result
         (HasNoneBehind (M.posed walk.now.matcher.now) walk.now.cell arguments.now from number least_rank cuts.turns)
@@ -167,13 +157,8 @@ pub fn next_cuts<M: Matcher>(
     number: usize,
     cuts: Cuts,
 ) -> Option<Cuts>
-    requires span { IsSpan (M.posed walk.now.matcher.now).word from walk.now.cell.to }
-    requires after { walk.now.cell.from ≤ from }
-    requires known { AllByRecursion (IsKnown (M.posed walk.now.matcher.now).grammar) arguments.now }
-    requires rest { AreRest (M.posed walk.now.matcher.now) walk.now.cell walk.now.alt number arguments.now }
-    requires few { length arguments.now + number ≤ 4 }
-    requires boundary { number ≤ 3 }
-    requires turns { AllByRecursion (λ turn. turn ≤ walk.now.cell.to - walk.now.cell.from) cuts.turns }
+    requires left { AreLeft (M.posed walk.now.matcher.now) walk.now.cell walk.now.alt
+        arguments.now from number cuts.turns }
     requires divides { Divide (M.posed walk.now.matcher.now) arguments.now from walk.now.cell.to (drop number cuts.at) }
     ensures { MatchOption result
         (IsLastFrom (M.posed walk.now.matcher.now) walk.now.cell arguments.now from number cuts)

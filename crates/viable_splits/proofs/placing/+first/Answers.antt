@@ -22,13 +22,13 @@ first_behind-returns-in-Some g t c =
     let turns_three : length cuts.turns ≡ 3 = search rules in
     let split : all ≡ first ∷ later = parts.1 in
     let look : Looking p cell first later c.args.from number c.first_ends-places.result.start c.first_ends-places.result.end cuts = record {
-      after = c.requires.after;
+      after = c.requires.left.after;
       some = omega (arith, c.requires.several, ap length split);
-      boundary = omega (arith, c.requires.several, c.requires.few);
+      boundary = omega (arith, c.requires.several, c.requires.left.few);
       at_three = search rules;
       turns_three = turns_three;
-      turned = all_at (λ turn. turn ≤ cell.to - cell.from) cuts.turns number 0 (omega (arith, c.requires.several, c.requires.few)) c.requires.turns;
-      few = omega (arith, c.requires.several, c.requires.few, ap length split);
+      turned = all_at (λ turn. turn ≤ cell.to - cell.from) cuts.turns number 0 (omega (arith, c.requires.several, c.requires.left.few)) c.requires.left.turned;
+      few = omega (arith, c.requires.several, c.requires.left.few, ap length split);
       places = c.first_ends-places.ensures.places first later split;
     } in
     subst (λ xs. IsFirstBehind p cell xs c.args.from number c.args.least_rank cuts c.in-Some.found) (sym split)
@@ -47,13 +47,13 @@ first_behind-returns-in-None g t c =
     let turns_three : length cuts.turns ≡ 3 = search rules in
     let split : all ≡ first ∷ later = parts.1 in
     let look : Looking p cell first later c.args.from number c.first_ends-places.result.start c.first_ends-places.result.end cuts = record {
-      after = c.requires.after;
+      after = c.requires.left.after;
       some = omega (arith, c.requires.several, ap length split);
-      boundary = omega (arith, c.requires.several, c.requires.few);
+      boundary = omega (arith, c.requires.several, c.requires.left.few);
       at_three = search rules;
       turns_three = turns_three;
-      turned = all_at (λ turn. turn ≤ cell.to - cell.from) cuts.turns number 0 (omega (arith, c.requires.several, c.requires.few)) c.requires.turns;
-      few = omega (arith, c.requires.several, c.requires.few, ap length split);
+      turned = all_at (λ turn. turn ≤ cell.to - cell.from) cuts.turns number 0 (omega (arith, c.requires.several, c.requires.left.few)) c.requires.left.turned;
+      few = omega (arith, c.requires.several, c.requires.left.few, ap length split);
       places = c.first_ends-places.ensures.places first later split;
     } in
     let wrapped_is : c.max-wrapped.result ≡ max c.first_ends-places.result.start (cell.from + (c.args.least_rank - (cell.to + 1 - (cell.from + slice_index cuts.turns number)))) =
@@ -105,14 +105,14 @@ first_behind-first_within-requires g t c κs within =
     let parts = split_first all (omega (arith, c.requires.several)) in
     let later : List Arg = take (length all - 1) (drop 1 all) in
     let places = c.first_ends-places.ensures.places parts.0 later parts.1 in
-    let known : AllByRecursion (IsKnown p.grammar) (parts.0 ∷ later) = subst (AllByRecursion (IsKnown p.grammar)) parts.1 c.requires.known in
-    let rest = rest_later p cell c.args.walk.now.alt c.args.number all c.requires.rest in
+    let known : AllByRecursion (IsKnown p.grammar) (parts.0 ∷ later) = subst (AllByRecursion (IsKnown p.grammar)) parts.1 c.requires.left.known in
+    let rest = rest_later p cell c.args.walk.now.alt c.args.number all c.requires.left.rest in
     let long : length all ≡ length later + 1 = omega (arith, ap length parts.1) in
     let high = places.up_to_last in
     let low = places.behind in
-    let after = c.requires.after in
-    let word = c.requires.span.in_word in
-    (search rules, (within, (omega (arith, low), (omega (arith, high), (search rules, (word, (known.1, (rest, (omega (arith, c.requires.several), (omega (arith, c.requires.few), c.requires.turns))))))))))
+    let after = c.requires.left.after in
+    let word = c.requires.left.span.in_word in
+    (search rules, (within, (omega (arith, low), (omega (arith, high), (search rules, (word, (known.1, (rest, (omega (arith, c.requires.several), (omega (arith, c.requires.left.few), c.requires.left.turned))))))))))
 
 pub first_behind-first_within-requires-in-None : goal.first_behind-first_within-requires-in-None
 first_behind-first_within-requires-in-None g t c κs within =
@@ -122,14 +122,14 @@ first_behind-first_within-requires-in-None g t c κs within =
     let parts = split_first all (omega (arith, c.requires.several)) in
     let later : List Arg = take (length all - 1) (drop 1 all) in
     let places = c.first_ends-places.ensures.places parts.0 later parts.1 in
-    let known : AllByRecursion (IsKnown p.grammar) (parts.0 ∷ later) = subst (AllByRecursion (IsKnown p.grammar)) parts.1 c.requires.known in
-    let rest = rest_later p cell c.args.walk.now.alt c.args.number all c.requires.rest in
+    let known : AllByRecursion (IsKnown p.grammar) (parts.0 ∷ later) = subst (AllByRecursion (IsKnown p.grammar)) parts.1 c.requires.left.known in
+    let rest = rest_later p cell c.args.walk.now.alt c.args.number all c.requires.left.rest in
     let long : length all ≡ length later + 1 = omega (arith, ap length parts.1) in
     let high = places.up_to_last in
     let low = places.behind in
-    let after = c.requires.after in
-    let word = c.requires.span.in_word in
-    (search rules, (within, (omega (arith, low), (omega (arith, high), (search rules, (word, (known.1, (rest, (omega (arith, c.requires.several), (omega (arith, c.requires.few), c.requires.turns))))))))))
+    let after = c.requires.left.after in
+    let word = c.requires.left.span.in_word in
+    (search rules, (within, (omega (arith, low), (omega (arith, high), (search rules, (word, (known.1, (rest, (omega (arith, c.requires.several), (omega (arith, c.requires.left.few), c.requires.left.turned))))))))))
 
 pub first_within-overflow_cast-moved : goal.first_within-overflow_cast-moved
 first_within-overflow_cast-moved g t c = omega (arith, c.in-Some.ensures.high, c.requires.short)

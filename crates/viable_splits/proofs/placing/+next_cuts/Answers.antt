@@ -3,7 +3,7 @@ use Rattle.adp_model.specs.declared.grammar.Arg.{Arg}
 use Rattle.std.specs.List.{AllByRecursion}
 use Rattle.adp_model.specs.PosedProblem.{IsSpan}
 use Rattle.adp_model.specs.WellFormed.{IsKnown}
-use Rattle.viable_splits.specs.Placing.{rank_at, Divide, HasNoneBehind, IsFirstBehind, IsNextFrom, IsLastFrom}
+use Rattle.viable_splits.specs.Placing.{rank_at, AreLeft, Divide, HasNoneBehind, IsFirstBehind, IsNextFrom, IsLastFrom}
 use Rattle.viable_splits.proofs.Dividing.{split_first, rest_later}
 use Rattle.viable_splits.proofs.Closing.{all_at, closed_last, match_option}
 use Rattle.viable_splits.proofs.NextPlace.{Standing, place_after, place_before, later_divide, next_later, next_here, last_here}
@@ -25,12 +25,12 @@ returns-in-Some g t c =
     let later : List Arg = take (length all - 1) (drop 1 all) in
     let turns_three : length cuts.turns ≡ 3 = search rules in
     let stand : Standing p cell first later c.args.from number cuts = record {
-      after = c.requires.after;
+      after = c.requires.left.after;
       some = omega (arith, c.if-arguments-lt2.false, ap length split.1);
-      boundary = omega (arith, c.if-arguments-lt2.false, c.requires.few);
+      boundary = omega (arith, c.if-arguments-lt2.false, c.requires.left.few);
       at_three = search rules;
       turns_three = turns_three;
-      turned = all_at (λ turn. turn ≤ cell.to - cell.from) cuts.turns number 0 (omega (arith, c.if-arguments-lt2.false, c.requires.few)) c.requires.turns;
+      turned = all_at (λ turn. turn ≤ cell.to - cell.from) cuts.turns number 0 (omega (arith, c.if-arguments-lt2.false, c.requires.left.few)) c.requires.left.turned;
       divides = subst (λ xs. Divide p xs c.args.from cell.to (drop number cuts.at)) split.1 c.requires.divides;
     } in
     subst (λ xs. IsNextFrom p cell xs c.args.from number cuts c.in-Some.found) (sym split.1)
@@ -48,12 +48,12 @@ returns-in-None g t c =
     let later : List Arg = take (length all - 1) (drop 1 all) in
     let turns_three : length cuts.turns ≡ 3 = search rules in
     let stand : Standing p cell first later c.args.from number cuts = record {
-      after = c.requires.after;
+      after = c.requires.left.after;
       some = omega (arith, c.if-arguments-lt2.false, ap length split.1);
-      boundary = omega (arith, c.if-arguments-lt2.false, c.requires.few);
+      boundary = omega (arith, c.if-arguments-lt2.false, c.requires.left.few);
       at_three = search rules;
       turns_three = turns_three;
-      turned = all_at (λ turn. turn ≤ cell.to - cell.from) cuts.turns number 0 (omega (arith, c.if-arguments-lt2.false, c.requires.few)) c.requires.turns;
+      turned = all_at (λ turn. turn ≤ cell.to - cell.from) cuts.turns number 0 (omega (arith, c.if-arguments-lt2.false, c.requires.left.few)) c.requires.left.turned;
       divides = subst (λ xs. Divide p xs c.args.from cell.to (drop number cuts.at)) split.1 c.requires.divides;
     } in
     let place = slice_index cuts.at number in
@@ -83,19 +83,28 @@ next_cuts-requires g t c κs within =
     let later : List Arg = take (length all - 1) (drop 1 all) in
     let turns_three : length cuts.turns ≡ 3 = search rules in
     let stand : Standing p cell first later c.args.from number cuts = record {
-      after = c.requires.after;
+      after = c.requires.left.after;
       some = omega (arith, c.if-arguments-lt2.false, ap length split.1);
-      boundary = omega (arith, c.if-arguments-lt2.false, c.requires.few);
+      boundary = omega (arith, c.if-arguments-lt2.false, c.requires.left.few);
       at_three = search rules;
       turns_three = turns_three;
-      turned = all_at (λ turn. turn ≤ cell.to - cell.from) cuts.turns number 0 (omega (arith, c.if-arguments-lt2.false, c.requires.few)) c.requires.turns;
+      turned = all_at (λ turn. turn ≤ cell.to - cell.from) cuts.turns number 0 (omega (arith, c.if-arguments-lt2.false, c.requires.left.few)) c.requires.left.turned;
       divides = subst (λ xs. Divide p xs c.args.from cell.to (drop number cuts.at)) split.1 c.requires.divides;
     } in
-    let span : IsSpan p.word (slice_index cuts.at number) cell.to = record { in_order = place_before p cell first later c.args.from number cuts stand; in_word = c.requires.span.in_word } in
-    let rest = rest_later p cell c.args.walk.now.alt number all c.requires.rest in
-    let known : AllByRecursion (IsKnown p.grammar) (first ∷ later) = subst (AllByRecursion (IsKnown p.grammar)) split.1 c.requires.known in
+    let span : IsSpan p.word (slice_index cuts.at number) cell.to = record { in_order = place_before p cell first later c.args.from number cuts stand; in_word = c.requires.left.span.in_word } in
+    let rest = rest_later p cell c.args.walk.now.alt number all c.requires.left.rest in
+    let known : AllByRecursion (IsKnown p.grammar) (first ∷ later) = subst (AllByRecursion (IsKnown p.grammar)) split.1 c.requires.left.known in
     let long : length all ≡ length later + 1 = omega (arith, ap length split.1) in
-    (search rules, (within, (span, (place_after p cell first later c.args.from number cuts stand, (known.1, (rest, (omega (arith, c.requires.few), (omega (arith, c.requires.few, c.if-arguments-lt2.false), (c.requires.turns, later_divide p cell first later c.args.from number cuts stand)))))))))
+    let left : AreLeft p cell c.args.walk.now.alt later (slice_index cuts.at number) (number + 1) cuts.turns = record {
+      span = span;
+      after = place_after p cell first later c.args.from number cuts stand;
+      known = known.1;
+      rest = rest;
+      few = omega (arith, c.requires.left.few);
+      boundary = omega (arith, c.requires.left.few, c.if-arguments-lt2.false);
+      turned = c.requires.left.turned;
+    } in
+    (search rules, (within, (left, later_divide p cell first later c.args.from number cuts stand)))
 
 pub overflow_add-least_rank : goal.overflow_add-least_rank
 overflow_add-least_rank g t c = omega (arith, c.rank-least_rank.ensures.short)
