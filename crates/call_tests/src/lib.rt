@@ -12,8 +12,6 @@ mod grammars;
 #[cfg(test)]
 mod jobs;
 #[cfg(test)]
-mod machines;
-#[cfg(test)]
 mod made;
 #[cfg(test)]
 mod runs;
@@ -21,8 +19,6 @@ mod runs;
 mod schedules;
 #[cfg(test)]
 mod streams;
-#[cfg(test)]
-mod tables;
 #[cfg(test)]
 mod terms;
 #[cfg(test)]

@@ -1,7 +1,7 @@
 use Rattle.std.proofs.Common.{sym, ◌∙◌}
 use Rattle.memo_words.specs.Passes.{problem_of}
-use Rattle.call_tests.proofs.Ending.{whole_at_end, whole_when_joined}
-use Rattle.call_tests.proofs.tables.close_both.Goals as goal
+use Rattle.table_tests.proofs.Ending.{whole_at_end, whole_when_joined}
+use Rattle.table_tests.proofs.tables.close_both.Goals as goal
 
 pub close-requires-clause-axiom : goal.close-requires-clause-axiom
 close-requires-clause-axiom c =

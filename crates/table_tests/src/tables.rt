@@ -1,9 +1,8 @@
 ghost use Rattle.std.specs.Prelude.{◌≡◌, ◌<◌, IfOk};
 ghost use Rattle.memo_words.specs.Passes.{IsPassOf, plan_of, problem_of, view_of};
-ghost use Rattle.call_tests.specs.AtWork.{IsAtWork};
+ghost use Rattle.table_tests.specs.AtWork.{IsAtWork};
 
-use crate::grammars::checked;
-use crate::jobs::{PAIRS, job};
+use crate::pairs::{checked_pairs, one_pair};
 use adp_model::{Answer, Answers, Cell, Choice, Problem, Steps, Text};
 use cell_core::{Machine, Turn};
 use grammar_check::{Checked, admit};
@@ -328,14 +327,12 @@ fn expect_tables(
 #[test]
 fn the_empty_word_takes_seven_steps(rt: HostRuntime) -> Result<(), Fail> {
     let alloc = rt.alloc();
-    let (checked, _words) = checked(&rt, alloc, job(alloc, PAIRS)?)?;
-    expect_tables(&rt, alloc, &checked, &Text::new(Vec::new(alloc)))
+    let empty = Text::new(Vec::new(alloc));
+    expect_tables(&rt, alloc, &checked_pairs(alloc)?, &empty)
 }
 
 #[test]
 fn two_passes_lose_exchanges_by_turns(rt: HostRuntime) -> Result<(), Fail> {
     let alloc = rt.alloc();
-    let (checked, words) = checked(&rt, alloc, job(alloc, PAIRS)?)?;
-    assert!(rt; !words.is_empty());
-    expect_tables(&rt, alloc, &checked, &words[0])
+    expect_tables(&rt, alloc, &checked_pairs(alloc)?, &one_pair(alloc)?)
 }

@@ -12,7 +12,7 @@ use Rattle.memo_words.specs.Passes.{view_of, problem_of}
 use Rattle.memo_table.specs.declared.probe.Probe.{Probe}
 use Rattle.memo_table.specs.Meanings.{table_meaning, knows}
 use Rattle.cell_core.specs.MachineViews.{MachineView}
-use Rattle.call_tests.specs.AtWork.{IsAtWork}
+use Rattle.table_tests.specs.AtWork.{IsAtWork}
 
 none_from : (p : PosedProblem) → (IsDemanded p (axiom_cell p) → ⊥) → (cell : Cell) → IsDemanded p cell → ⊥
 none_from p none cell (Axiom within) = none (Axiom within)

@@ -3,7 +3,7 @@ use Rattle.adp_model.specs.Machines.{IsMachine}
 use Rattle.memo_table.specs.declared.probe.Probe.{Probe}
 use Rattle.memo_table.specs.Meanings.{table_meaning}
 use Rattle.cell_core.specs.MachineViews.{MachineView, IsNotedIn}
-use Rattle.call_tests.proofs.tables.Evaluator.new.Goals as goal
+use Rattle.table_tests.proofs.tables.Evaluator.new.Goals as goal
 
 pub returns : goal.returns
 returns c = record {

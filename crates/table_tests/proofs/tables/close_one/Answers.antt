@@ -1,6 +1,6 @@
 use Rattle.std.proofs.Common.{sym, ◌∙◌}
-use Rattle.call_tests.proofs.Ending.{whole_at_end}
-use Rattle.call_tests.proofs.tables.close_one.Goals as goal
+use Rattle.table_tests.proofs.Ending.{whole_at_end}
+use Rattle.table_tests.proofs.tables.close_one.Goals as goal
 
 pub close-requires-clause-axiom : goal.close-requires-clause-axiom
 close-requires-clause-axiom c =

@@ -2,8 +2,7 @@ ghost use Rattle.std.specs.Prelude.{◌≡◌, ◌<◌};
 ghost use Rattle.adp_model.specs.Machines.{IsMachine};
 ghost use Rattle.cell_core.specs.MachineViews.{IsNotedIn};
 
-use crate::grammars::checked;
-use crate::jobs::{PAIRS, job};
+use crate::pairs::{checked_pairs, one_pair};
 use adp_model::{Memo, Problem, Steps, Text};
 use cell_core::{Machine, PlainMemo, Turn};
 use grammar_check::{Checked, admit};
@@ -103,7 +102,5 @@ fn expect_pairs(
 #[test]
 fn one_machine_over_a_plain_memo(rt: HostRuntime) -> Result<(), Fail> {
     let alloc = rt.alloc();
-    let (checked, words) = checked(&rt, alloc, job(alloc, PAIRS)?)?;
-    assert!(rt; !words.is_empty());
-    expect_pairs(&rt, alloc, &checked, &words[0])
+    expect_pairs(&rt, alloc, &checked_pairs(alloc)?, &one_pair(alloc)?)
 }
