@@ -4,7 +4,7 @@ ghost use Rattle.std.specs.Prelude.{◌≡◌, ◌<◌, ◌≤◌, ◌^◌, map,
 ghost use Rattle.std.specs.List.{list_all, list_any};
 ghost use Rattle.std.specs.Option.{option_copied};
 ghost use Rattle.adp_model.specs.Declarations as forms;
-ghost use Rattle.adp_model.specs.DeclaredNames.{class_name_of, sign_name_of, algebra_name_of, rule_name_of, class_names, sign_names, rule_names, kinds_of_sign};
+ghost use Rattle.adp_model.specs.DeclaredNames.{class_names, sign_names, rule_names, kinds_of_sign};
 ghost use Rattle.adp_model.specs.TermText.{is_among};
 ghost use Rattle.adp_model.specs.TextFaults as faults;
 ghost use Rattle.adp_model.specs.JobText.{number_among};
@@ -118,46 +118,11 @@ pub(crate) enum Sort {
 pub(crate) fn name_as<'a>(sort: Sort, declaration: &Declaration<'a>) -> Option<&'a [u8]>
     ensures { option_copied result ≡ name_as sort (declaration_seen declaration.now) }
 {
-    match sort {
-        Sort::Class => class_name(declaration),
-        Sort::Sign => sign_name(declaration),
-        Sort::Algebra => algebra_name(declaration),
-        Sort::Rule => rule_name(declaration),
-    }
-}
-
-fn class_name<'a>(declaration: &Declaration<'a>) -> Option<&'a [u8]>
-    ensures { option_copied result ≡ class_name_of (declaration_seen declaration.now) }
-{
-    match declaration {
-        Declaration::Class { name, .. } => Some(name),
-        _ => None,
-    }
-}
-
-fn sign_name<'a>(declaration: &Declaration<'a>) -> Option<&'a [u8]>
-    ensures { option_copied result ≡ sign_name_of (declaration_seen declaration.now) }
-{
-    match declaration {
-        Declaration::Sign { name, .. } => Some(name),
-        _ => None,
-    }
-}
-
-fn algebra_name<'a>(declaration: &Declaration<'a>) -> Option<&'a [u8]>
-    ensures { option_copied result ≡ algebra_name_of (declaration_seen declaration.now) }
-{
-    match declaration {
-        Declaration::Algebra { name, .. } => Some(name),
-        _ => None,
-    }
-}
-
-fn rule_name<'a>(declaration: &Declaration<'a>) -> Option<&'a [u8]>
-    ensures { option_copied result ≡ rule_name_of (declaration_seen declaration.now) }
-{
-    match declaration {
-        Declaration::Rule { name, .. } => Some(name),
+    match (sort, declaration) {
+        (Sort::Class, Declaration::Class { name, .. })
+        | (Sort::Sign, Declaration::Sign { name, .. })
+        | (Sort::Algebra, Declaration::Algebra { name, .. })
+        | (Sort::Rule, Declaration::Rule { name, .. }) => Some(name),
         _ => None,
     }
 }
@@ -204,7 +169,7 @@ fn sign_places<'a>(
 {
     let mut places = BTreeMap::new(alloc);
     for (i, declaration) in declared.iter().enumerate() {
-        let Some(name) = sign_name(declaration) else {
+        let Some(name) = name_as(Sort::Sign, declaration) else {
             continue;
         };
         if places.get(name).is_none() {
