@@ -13,8 +13,8 @@ use crate::probe::{Next, Probe};
 use crate::table::Table;
 use adp_model::laws::order::answer_is_unique;
 use adp_model::{Look, Steps};
-use memo_words::{NO_CANDIDATE, Pass, cell_code, code_score, nth_position};
-use record_arena::{read_choice_step, read_score_step};
+use memo_words::{NO_CANDIDATE, Part, Pass, cell_code, code_score, nth_position};
+use record_arena::read_step;
 use std::sync::ledger::Ledger;
 
 impl Table {
@@ -138,7 +138,7 @@ impl Table {
         ensures steps { steps_made steps.new ≡ steps_made steps.old + 1 }
     {
         self.planned();
-        let code = read_choice_step(&self.words, pass, number, steps);
+        let code = read_step(&self.words, pass, Part::Choice, number, steps);
         if code == NO_CANDIDATE {
             probe.next = Next::Done;
             Look::Found(None)
@@ -165,7 +165,7 @@ impl Table {
         self.planned();
         answers_have_words();
         answer_is_unique();
-        let code = read_score_step(&self.words, pass, number, steps);
+        let code = read_step(&self.words, pass, Part::Score, number, steps);
         probe.next = Next::Done;
         Look::Found(code_score(code))
     }

@@ -18,8 +18,8 @@ use crate::probe::{Next, Probe};
 use crate::table::Table;
 use adp_model::laws::order::answer_is_unique;
 use adp_model::{Answer, Publish, Steps};
-use memo_words::{Pass, choice_code, score_code};
-use record_arena::{reserve_step, write_choice_step, write_score_step};
+use memo_words::{Part, Pass, choice_code, score_code};
+use record_arena::{reserve_step, write_step};
 use std::sync::ledger::Ledger;
 
 /// The score word of an answer.
@@ -116,7 +116,8 @@ impl Table {
     {
         self.planned();
         answers_have_words();
-        write_score_step(&self.words, pass, number, score_word(answer), steps);
+        let code = score_word(answer);
+        write_step(&self.words, pass, Part::Score, number, code, steps);
         probe.next = Next::StoreChoice;
         Publish::Going
     }
@@ -141,7 +142,8 @@ impl Table {
         self.planned();
         answers_have_words();
         answer_is_unique();
-        write_choice_step(&self.words, pass, number, choice_word(answer), steps);
+        let code = choice_word(answer);
+        write_step(&self.words, pass, Part::Choice, number, code, steps);
         probe.next = Next::Publish;
         Publish::Going
     }

@@ -4,7 +4,6 @@
 
 ghost use Rattle.std.specs.Prelude.{◌≡◌, ℕ, ◌+◌, ◌<◌, Some, None};
 ghost use Rattle.adp_model.specs.StepsMade.{steps_made};
-ghost use Rattle.memo_words.specs.declared.part.Part.TheVariants.{Score, Choice};
 ghost use Rattle.memo_words.specs.Layout.{records_of};
 ghost use Rattle.memo_words.specs.Views.{owns, seen_at, counter_added, arena_stored, arena_loaded};
 ghost use Rattle.memo_words.specs.Steps.{IsNamedAnswer};
@@ -27,10 +26,11 @@ pub fn reserve_step<L: Ledger>(words: &Words, pass: &mut Pass, steps: &mut Steps
     words.counter_add_step(pass, steps) as u32
 }
 
-/// Stores the score word of a record of one's own.
-pub fn write_score_step<L: Ledger>(
+/// Stores a code in a word of a record of one's own.
+pub fn write_step<L: Ledger>(
     words: &Words,
     pass: &mut Pass,
+    part: Part,
     number: u32,
     code: u64,
     steps: &mut Steps<L>,
@@ -38,63 +38,28 @@ pub fn write_score_step<L: Ledger>(
     requires own { IsPassOf words.now pass.old }
     requires owner { 0 < owns number (view_of pass.old).owned }
     ensures own { IsPassOf words.now pass.new }
-    ensures view { view_of pass.new ≡ arena_stored (plan_of words.now) Score number code (view_of pass.old) }
+    ensures view { view_of pass.new ≡ arena_stored (plan_of words.now) part number code (view_of pass.old) }
     ensures hand { hand_of pass.new ≡ hand_of pass.old }
     ensures steps { steps_made steps.new ≡ steps_made steps.old + 1 }
 {
-    words.arena_store_step(pass, Part::Score, number, code, steps);
+    words.arena_store_step(pass, part, number, code, steps);
 }
 
-/// Stores the choice word of a record of one's own.
-pub fn write_choice_step<L: Ledger>(
+/// Loads a word of a record whose name was seen: that of the answer of the cell to which the name belongs.
+pub fn read_step<L: Ledger>(
     words: &Words,
     pass: &mut Pass,
-    number: u32,
-    code: u64,
-    steps: &mut Steps<L>,
-)
-    requires own { IsPassOf words.now pass.old }
-    requires owner { 0 < owns number (view_of pass.old).owned }
-    ensures own { IsPassOf words.now pass.new }
-    ensures view { view_of pass.new ≡ arena_stored (plan_of words.now) Choice number code (view_of pass.old) }
-    ensures hand { hand_of pass.new ≡ hand_of pass.old }
-    ensures steps { steps_made steps.new ≡ steps_made steps.old + 1 }
-{
-    words.arena_store_step(pass, Part::Choice, number, code, steps);
-}
-
-/// Loads the score word of a record whose name was seen: that of the answer of the cell to which the name belongs.
-pub fn read_score_step<L: Ledger>(
-    words: &Words,
-    pass: &mut Pass,
+    part: Part,
     number: u32,
     steps: &mut Steps<L>,
 ) -> u64
     requires own { IsPassOf words.now pass.old }
     requires named { (position : ℕ) × (seen_at (view_of pass.old).names position ≡ number + 1) }
     ensures own { IsPassOf words.now pass.new }
-    ensures view { view_of pass.new ≡ arena_loaded (plan_of words.now) Score number result (view_of pass.old) }
+    ensures view { view_of pass.new ≡ arena_loaded (plan_of words.now) part number result (view_of pass.old) }
     ensures hand { hand_of pass.new ≡ hand_of pass.old }
-    ensures answer { IsNamedAnswer (plan_of words.now) (view_of pass.old) Score number result }
+    ensures answer { IsNamedAnswer (plan_of words.now) (view_of pass.old) part number result }
     ensures steps { steps_made steps.new ≡ steps_made steps.old + 1 }
 {
-    words.arena_load_step(pass, Part::Score, number, steps)
-}
-
-/// Loads the choice word of a record whose name was seen: that of the answer of the cell to which the name belongs.
-pub fn read_choice_step<L: Ledger>(
-    words: &Words,
-    pass: &mut Pass,
-    number: u32,
-    steps: &mut Steps<L>,
-) -> u64
-    requires own { IsPassOf words.now pass.old }
-    requires named { (position : ℕ) × (seen_at (view_of pass.old).names position ≡ number + 1) }
-    ensures own { IsPassOf words.now pass.new }
-    ensures view { view_of pass.new ≡ arena_loaded (plan_of words.now) Choice number result (view_of pass.old) }
-    ensures hand { hand_of pass.new ≡ hand_of pass.old }
-    ensures answer { IsNamedAnswer (plan_of words.now) (view_of pass.old) Choice number result }
-    ensures steps { steps_made steps.new ≡ steps_made steps.old + 1 }
-{
-    words.arena_load_step(pass, Part::Choice, number, steps)
+    words.arena_load_step(pass, part, number, steps)
 }

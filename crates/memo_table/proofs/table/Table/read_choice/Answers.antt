@@ -12,20 +12,20 @@ use Rattle.memo_table.proofs.table.Table.read_choice.Goals as goal
 
 pub returns-then-code-eq-NO_CANDIDATE-clause-looked : goal.returns-then-code-eq-NO_CANDIDATE-clause-looked
 returns-then-code-eq-NO_CANDIDATE-clause-looked g c =
-    let e = c.read_choice_step-code.ensures in
+    let e = c.read_step-code.ensures in
     let r = c.requires in
     let here = c.self.view_is in
-    let code = c.read_choice_step-code.result in
-    let own = subst (λ (w : Words). IsPassOf w c.read_choice_step-code.new.pass) here e.own in
-    let view = subst (λ (w : Words). view_of c.read_choice_step-code.new.pass ≡ arena_loaded (plan_of w) parts.Choice
+    let code = c.read_step-code.result in
+    let own = subst (λ (w : Words). IsPassOf w c.read_step-code.new.pass) here e.own in
+    let view = subst (λ (w : Words). view_of c.read_step-code.new.pass ≡ arena_loaded (plan_of w) parts.Choice
     c.args.number code (view_of c.args.pass.now)) here e.view in
     let told = subst (λ (w : Words). IsNamedAnswer (plan_of w) (view_of c.args.pass.now) parts.Choice c.args.number
     code) here e.answer in
     let seen = due_here c.args.self.now c.args.pass.now c.args.probe.now (Choice c.args.number) r.own r.follows
     r.choice in
-    let word = its_word c.args.self.now c.args.pass.now c.read_choice_step-code.new.pass c.args.probe.now parts.Choice
+    let word = its_word c.args.self.now c.args.pass.now c.read_step-code.new.pass c.args.probe.now parts.Choice
     c.args.number code r.own r.follows seen (ap loads_record r.choice) own view told in
-    read_found c.args.self.now c.args.pass.now c.read_choice_step-code.new.pass c.args.probe.now parts.Choice
+    read_found c.args.self.now c.args.pass.now c.read_step-code.new.pass c.args.probe.now parts.Choice
     c.args.number code
     r.own r.follows seen (ap loads_record r.choice) own view None
     (no_candidate (problem_of c.args.self.now) c.args.probe.now.cell word.0 word.1
@@ -35,23 +35,23 @@ returns-then-code-eq-NO_CANDIDATE-clause-looked g c =
 
 pub returns-else-code-eq-NO_CANDIDATE-clause-looked : goal.returns-else-code-eq-NO_CANDIDATE-clause-looked
 returns-else-code-eq-NO_CANDIDATE-clause-looked g c =
-    let e = c.read_choice_step-code.ensures in
+    let e = c.read_step-code.ensures in
     let r = c.requires in
     let here = c.self.view_is in
-    let code = c.read_choice_step-code.result in
-    let own = subst (λ (w : Words). IsPassOf w c.read_choice_step-code.new.pass) here e.own in
-    let view = subst (λ (w : Words). view_of c.read_choice_step-code.new.pass ≡ arena_loaded (plan_of w) parts.Choice
+    let code = c.read_step-code.result in
+    let own = subst (λ (w : Words). IsPassOf w c.read_step-code.new.pass) here e.own in
+    let view = subst (λ (w : Words). view_of c.read_step-code.new.pass ≡ arena_loaded (plan_of w) parts.Choice
     c.args.number code (view_of c.args.pass.now)) here e.view in
     let told = subst (λ (w : Words). IsNamedAnswer (plan_of w) (view_of c.args.pass.now) parts.Choice c.args.number
     code) here e.answer in
     let seen = due_here c.args.self.now c.args.pass.now c.args.probe.now (Choice c.args.number) r.own r.follows
     r.choice in
-    let word = its_word c.args.self.now c.args.pass.now c.read_choice_step-code.new.pass c.args.probe.now parts.Choice
+    let word = its_word c.args.self.now c.args.pass.now c.read_step-code.new.pass c.args.probe.now parts.Choice
     c.args.number code r.own r.follows seen (ap loads_record r.choice) own view told in
-    read_on c.args.self.now c.args.pass.now c.read_choice_step-code.new.pass c.args.probe.now parts.Choice
+    read_on c.args.self.now c.args.pass.now c.read_step-code.new.pass c.args.probe.now parts.Choice
     c.args.number code
     r.own r.follows seen (ap loads_record r.choice) own view (Score c.args.number) refl (
-      seen_on c.args.self.now c.args.pass.now c.read_choice_step-code.new.pass c.args.probe.now parts.Choice
+      seen_on c.args.self.now c.args.pass.now c.read_step-code.new.pass c.args.probe.now parts.Choice
           c.args.number code r.own r.follows seen (ap loads_record r.choice) own view,
       some_candidate (problem_of c.args.self.now) c.args.probe.now.cell word.0 code word.1 word.2
           c.if-code-eq-NO_CANDIDATE.false,

@@ -8,13 +8,13 @@ use Rattle.memo_table.proofs.table.Table.store_choice.Goals as goal
 
 pub returns-clause-published : goal.returns-clause-published
 returns-clause-published g c =
-    let e = c.write_choice_step.ensures in
+    let e = c.write_step.ensures in
     let r = c.requires in
-    let own = subst (λ (w : Words). IsPassOf w c.write_choice_step.new.pass) c.self.view_is e.own in
-    let view = subst (λ (w : Words). view_of c.write_choice_step.new.pass ≡ arena_stored (plan_of w) parts.Choice
-    c.args.number c.choice_word.result (view_of c.args.pass.now)) c.self.view_is e.view in
-    choice_stored c.args.self.now c.args.pass.now c.write_choice_step.new.pass c.args.probe.now c.args.number
-    c.choice_word.result
-    c.args.answer r.own r.hand r.follows r.choice r.answer c.choice_word.ensures
+    let own = subst (λ (w : Words). IsPassOf w c.write_step.new.pass) c.self.view_is e.own in
+    let view = subst (λ (w : Words). view_of c.write_step.new.pass ≡ arena_stored (plan_of w) parts.Choice
+    c.args.number c.choice_word-code.result (view_of c.args.pass.now)) c.self.view_is e.view in
+    choice_stored c.args.self.now c.args.pass.now c.write_step.new.pass c.args.probe.now c.args.number
+    c.choice_word-code.result
+    c.args.answer r.own r.hand r.follows r.choice r.answer c.choice_word-code.ensures
     (λ a b. c.answer_is_unique.ensures (problem_of c.args.self.now) c.args.probe.now.cell a b
     c.planned.ensures.planned.well_formed) own view e.hand

@@ -8,11 +8,11 @@ use Rattle.memo_table.proofs.table.Table.store_score.Goals as goal
 
 pub returns-clause-published : goal.returns-clause-published
 returns-clause-published g c =
-    let e = c.write_score_step.ensures in
+    let e = c.write_step.ensures in
     let r = c.requires in
-    let own = subst (λ (w : Words). IsPassOf w c.write_score_step.new.pass) c.self.view_is e.own in
-    let view = subst (λ (w : Words). view_of c.write_score_step.new.pass ≡ arena_stored (plan_of w) parts.Score
-    c.args.number c.score_word.result (view_of c.args.pass.now)) c.self.view_is e.view in
-    score_stored c.args.self.now c.args.pass.now c.write_score_step.new.pass c.args.probe.now c.args.number
-    c.score_word.result
-    c.args.answer r.own r.hand r.follows r.score r.answer c.score_word.ensures own view e.hand
+    let own = subst (λ (w : Words). IsPassOf w c.write_step.new.pass) c.self.view_is e.own in
+    let view = subst (λ (w : Words). view_of c.write_step.new.pass ≡ arena_stored (plan_of w) parts.Score
+    c.args.number c.score_word-code.result (view_of c.args.pass.now)) c.self.view_is e.view in
+    score_stored c.args.self.now c.args.pass.now c.write_step.new.pass c.args.probe.now c.args.number
+    c.score_word-code.result
+    c.args.answer r.own r.hand r.follows r.score r.answer c.score_word-code.ensures own view e.hand
