@@ -6,6 +6,7 @@
 mod classes;
 mod extents;
 mod kept;
+mod laws;
 mod lines;
 mod matches;
 mod prepared;
@@ -13,6 +14,7 @@ mod spans;
 mod tokens;
 
 pub use kept::KeptAlternative;
+pub use laws::{line_begins_here, line_begins_later};
 pub use lines::{Boundary, Line, Lines, line_here};
 pub use prepared::Prepared;
 pub use tokens::{fixed_length, is_fixed};
