@@ -4,6 +4,7 @@
 #![tactic(auto)]
 
 mod first_sums;
+mod laws;
 mod numbers;
 mod packing;
 mod sums;
@@ -11,6 +12,7 @@ mod width;
 mod worthless;
 
 pub use first_sums::{first_long, first_medium, first_short};
+pub use laws::lesser_positions_stand_before;
 pub use numbers::{greater, turned, turned_factors};
 pub use packing::{
     LONG_LIMIT, LONG_MARK, MEDIUM_LIMIT, MEDIUM_MARK, NO_CANDIDATE, NO_LIMIT, SHORT_LIMIT,

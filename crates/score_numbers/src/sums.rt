@@ -1,6 +1,6 @@
 //! The greatest sum of numbers before and behind the positions of a boundary.
 
-ghost use Rattle.std.specs.Prelude.{◌≡◌, ◌↔◌, ℕ, pos, ◌+◌, ◌<◌, ◌≤◌, ◌⊎◌, ◌+ℤ◌, ◌*ℤ◌, ◌<ℤ◌, ◌≤ℤ◌, IsTrue, MatchOption, nat_abs, length, map};
+ghost use Rattle.std.specs.Prelude.{◌≡◌, ◌↔◌, ℕ, pos, ◌+◌, ◌/◌, ◌<◌, ◌≤◌, ◌⊎◌, ◌+ℤ◌, ◌*ℤ◌, ◌<ℤ◌, ◌≤ℤ◌, IsTrue, MatchOption, nat_abs, length, map};
 ghost use Rattle.std.specs.List.{AllAdjacentBelow};
 ghost use Rattle.adp_model.specs.ProblemFields.{greatest_score};
 ghost use Rattle.score_numbers.specs.Entries.{no_candidate};
@@ -34,7 +34,7 @@ pub struct Scales {
 impl Scales {
     /// Whether they leave numbers as they are.
     pub fn are_plain(self) -> bool
-        ensures { IsTrue result → (self.before ≡ pos 1) × (self.behind ≡ pos 1) }
+        ensures { IsTrue result ↔ (self.before ≡ pos 1) × (self.behind ≡ pos 1) }
     {
         self.before == 1 && self.behind == 1
     }
@@ -178,10 +178,11 @@ pub fn greatest_limited_short(first: &[i16], second: &[i16], limits: &[i16]) -> 
     sum_of(greatest)
 }
 
-/// Whether there are two numbers of 16 bits and a limit for each position from the first of these to the last one, which
-/// are all read where they are not too many.
+/// Whether there are two numbers of 16 bits for each limit, and not too many limits for so many positions, so that all
+/// of them are read.
 pub fn are_dense(first: &[i16], second: &[i16], positions: Positions<'_>, limits: &[i16]) -> bool
-    ensures { IsTrue result → (length first.now ≡ length limits.now) × (length second.now ≡ length limits.now) }
+    ensures { IsTrue result ↔ ((length first.now ≡ length limits.now) × (length second.now ≡ length limits.now)
+        × (length limits.now / 6 < length positions.entry.at.now)) }
 {
     let span = limits.len();
     first.len() == span && second.len() == span && span / SPARSE < positions.at.len()

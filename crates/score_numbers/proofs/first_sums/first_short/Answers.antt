@@ -30,16 +30,16 @@ returns-then-not-are_plain c =
 
 pub returns-in_default : goal.returns-in_default
 returns-in_default c =
-    let plain = c.are_plain.ensures c.if-not-are_plain.false in
-    let as_many : length c.args.first.now ≡ length c.args.limits.now = (c.are_dense.ensures c.if-not-are_dense.false).0 in
+    let plain = c.are_plain.ensures.0 c.if-not-are_plain.false in
+    let as_many : length c.args.first.now ≡ length c.args.limits.now = (c.are_dense.ensures.0 c.if-not-are_dense.false).0 in
     let fits_sum : FitsSigned w64 c.args.sum = search rules in
     let none : (k : ℕ) → IsUnlimitedSum c.args.limits.now c.args.first.now c.args.second.now k c.args.sum → ⊥ = simp to_z-of_z at c.in_default.ensures in
     none_limited c.args.positions c.args.scales plain.0 plain.1 c.args.first.now c.args.second.now c.requires.have c.args.limits.now c.requires.limits as_many c.args.sum none
 
 pub returns : goal.returns
 returns c =
-    let plain = c.are_plain.ensures c.if-not-are_plain.false in
-    let as_many : length c.args.first.now ≡ length c.args.limits.now = (c.are_dense.ensures c.if-not-are_dense.false).0 in
+    let plain = c.are_plain.ensures.0 c.if-not-are_plain.false in
+    let as_many : length c.args.first.now ≡ length c.args.limits.now = (c.are_dense.ensures.0 c.if-not-are_dense.false).0 in
     let fits_sum : FitsSigned w64 c.args.sum = search rules in
     let found = c.in-Some.ensures in
     subst (IsFirstAmong c.args.positions.at.now (λ position. HasScaledSum short.mark c.args.scales c.args.first.now c.args.second.now (number_at c.args.positions position) c.args.sum)) (sym c.position_of.ensures)
@@ -47,7 +47,7 @@ returns c =
 
 stands : (c : In-Some) → Contains c.args.positions.at.now (c.args.positions.first + c.in-Some.number)
 stands c =
-    let as_many : length c.args.first.now ≡ length c.args.limits.now = (c.are_dense.ensures c.if-not-are_dense.false).0 in
+    let as_many : length c.args.first.now ≡ length c.args.limits.now = (c.are_dense.ensures.0 c.if-not-are_dense.false).0 in
     unlimited_stands c.args.positions c.args.first.now c.args.second.now c.args.limits.now c.requires.have c.requires.limits as_many c.in-Some.number c.in-Some.ensures.0.0
 
 pub overflow_sub-last : goal.overflow_sub-last

@@ -25,7 +25,7 @@ returns-then-not-are_plain c =
 
 pub returns-then-not-are_dense : goal.returns-then-not-are_dense
 returns-then-not-are_dense c =
-    let plain = c.are_plain.ensures c.if-not-are_plain.false in
+    let plain = c.are_plain.ensures.0 c.if-not-are_plain.false in
     let found = c.greatest_scattered.result in
     plain_greatest short c.args.scales plain.0 plain.1 c.args.first.now c.args.second.now c.args.positions found
     (from_values (λ firsts seconds. IsGreatestOf (HasSumAt short c.args.positions firsts seconds) found)
@@ -34,7 +34,7 @@ returns-then-not-are_dense c =
 pub returns-then-positions-limits : goal.returns-then-positions-limits
 returns-then-positions-limits c =
     let as_many : length c.args.first.now ≡ length c.args.positions.at.now = omega arith in
-    let plain = c.are_plain.ensures c.if-not-are_plain.false in
+    let plain = c.are_plain.ensures.0 c.if-not-are_plain.false in
     let found = c.greatest_aligned.result in
     plain_greatest short c.args.scales plain.0 plain.1 c.args.first.now c.args.second.now c.args.positions found
     (aligned_places c.args.positions c.args.first.now c.args.second.now c.requires.have c.requires.rising as_many short found
@@ -44,7 +44,7 @@ returns-then-positions-limits c =
 pub returns-else-positions-limits : goal.returns-else-positions-limits
 returns-else-positions-limits c =
     let as_many : length c.args.first.now ≡ length c.args.limits.now = omega arith in
-    let plain = c.are_plain.ensures c.if-not-are_plain.false in
+    let plain = c.are_plain.ensures.0 c.if-not-are_plain.false in
     plain_greatest short c.args.scales plain.0 plain.1 c.args.first.now c.args.second.now c.args.positions
     c.greatest_limited_short.result
     (limited_places c.args.positions c.args.first.now c.args.second.now c.args.limits.now c.requires.have c.requires.limits

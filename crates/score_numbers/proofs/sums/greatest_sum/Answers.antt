@@ -17,7 +17,7 @@ returns-then-second-positions g c =
     let value = g.N.Number.value in
     let firsts = map value c.args.first.now in
     let seconds = map value c.args.second.now in
-    let plain = c.are_plain.ensures c.if-not-are_plain.false in
+    let plain = c.are_plain.ensures.0 c.if-not-are_plain.false in
     let as_many : length firsts ≡ length c.args.positions.at.now =
     length-map c.args.first.now value ∙ c.if-first-positions.true in
     plain_greatest g.N.Number.width c.args.scales plain.0 plain.1 firsts seconds c.args.positions c.greatest_aligned.result
@@ -27,6 +27,6 @@ returns-then-second-positions g c =
 pub returns-else-first-positions : goal.returns-else-first-positions
 returns-else-first-positions g c =
     let value = g.N.Number.value in
-    let plain = c.are_plain.ensures c.if-not-are_plain.false in
+    let plain = c.are_plain.ensures.0 c.if-not-are_plain.false in
     plain_greatest g.N.Number.width c.args.scales plain.0 plain.1 (map value c.args.first.now) (map value c.args.second.now)
     c.args.positions c.greatest_scattered.result c.greatest_scattered.ensures
