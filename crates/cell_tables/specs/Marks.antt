@@ -22,6 +22,14 @@ IsMarkedInColumn marks cell = IsSet marks.columns cell.rule cell.to cell.from
 abbrev pub IsMarked : CellMarks → Cell → Type 0
 IsMarked marks cell = IsMarkedInRow marks cell ⊎ IsMarkedInColumn marks cell
 
+-- a cell that begins here is marked in its row
+abbrev pub HasStart : CellMarks → ℕ → Type 0
+HasStart marks from = (cell : Cell) × (cell.from ≡ from) × IsMarkedInRow marks cell
+
+-- a cell of the rule is marked in its column
+abbrev pub HasInColumns : CellMarks → ℕ → Type 0
+HasInColumns marks rule = (cell : Cell) × (cell.rule ≡ rule) × IsMarkedInColumn marks cell
+
 -- there is a bit in a row and one in a column for each counted cell, and no bit is set that is not that of a counted
 -- cell
 pub record AreMarks (marks : CellMarks) : Type 0 where

@@ -1,6 +1,6 @@
 //! Which cells are marked in their rows.
 
-ghost use Rattle.std.specs.Prelude.{false, ◌≡◌, ◌↔◌, ◌+◌, ◌*◌, ◌/◌, ◌^◌, ◌<◌, ◌≤◌, ℕ, IfSome, IsSome, None, length};
+ghost use Rattle.std.specs.Prelude.{◌≡◌, ◌↔◌, ◌+◌, ◌*◌, ◌/◌, ◌^◌, ◌<◌, ◌≤◌, ℕ, IfSome, IsSome, IsTrue, None, length};
 ghost use Rattle.std.specs.List.{Contains};
 ghost use Rattle.adp_model.specs.declared.cell.Cell.{Cell};
 ghost use Rattle.adp_model.specs.Cells.{IsCountOf};
@@ -287,7 +287,7 @@ fn gather_row(
     requires there { (to : ℕ) → first ≤ to → to < past → IsSome (value_at rows.old rule from (to / 64)) }
     ensures set { AreSetToo rows.old rows.new rule from
         (λ to. (first ≤ to) × (to < past) × IsSet columns.now rule to from) }
-    ensures any { result ≡ false → (to : ℕ) → first ≤ to → to < past → IsSet columns.now rule to from → ⊥ }
+    ensures any { IsTrue result ↔ ((to : ℕ) × ((first ≤ to) × (to < past) × IsSet columns.now rule to from)) }
 {
     let mut any = false;
     for number in first / WORD..past.div_ceil(WORD) {

@@ -1,10 +1,10 @@
 //! Marks of a problem's cells.
 
-ghost use Rattle.std.specs.Prelude.{false, ◌≡◌, ◌↔◌, ◌+◌, ◌*◌, ◌-◌, ◌<◌, ◌≤◌, ℕ, IfOk, IsTrue, length};
+ghost use Rattle.std.specs.Prelude.{◌≡◌, ◌↔◌, ◌+◌, ◌*◌, ◌-◌, ◌<◌, ◌≤◌, ℕ, IfOk, IsTrue, length};
 ghost use Rattle.adp_model.specs.declared.cell.Cell.{Cell};
 ghost use Rattle.adp_model.specs.Cells.{IsCounted};
 ghost use Rattle.cell_tables.specs.Bits.{IsBitOf};
-ghost use Rattle.cell_tables.specs.Marks.{AreInRows, AreMarkedToo, AreMarks, IsMarked, IsMarkedInColumn, IsMarkedInRow};
+ghost use Rattle.cell_tables.specs.Marks.{AreInRows, AreMarkedToo, AreMarks, HasInColumns, HasStart, IsMarked, IsMarkedInRow};
 
 use crate::bits::word_grid;
 use crate::flags::{flag, raise};
@@ -98,14 +98,14 @@ impl<'a> Marks<'a> {
     /// Whether a cell that begins at `from` is marked in its row. Takes constant time and no memory.
     #[inline]
     pub fn has_start(&self, from: u16) -> bool
-        ensures { result ≡ false → (cell : Cell) → cell.from ≡ from → IsMarkedInRow self.now cell → ⊥ }
+        ensures { IsTrue result ↔ HasStart self.now from }
     {
         flag(&self.begun, from as usize)
     }
 
     /// Whether a cell of a rule is marked in its column.
     pub(crate) fn is_in_columns(&self, rule: u32) -> bool
-        ensures { result ≡ false → (cell : Cell) → cell.rule ≡ rule → IsMarkedInColumn self.now cell → ⊥ }
+        ensures { IsTrue result ↔ HasInColumns self.now rule }
     {
         flag(&self.in_columns, rule as usize)
     }

@@ -1,6 +1,6 @@
-use Rattle.std.proofs.Common.{◌≡◌, Bool, false, ◌↔◌, ◌⊎◌, ℕ, ◌+◌, ◌*◌, ◌/◌, ◌<◌, ◌≤◌, subst, sym, inl, inr, arith}
+use Rattle.std.proofs.Common.{Bool, IsTrue, ◌↔◌, ◌⊎◌, ℕ, ◌+◌, ◌*◌, ◌/◌, ◌<◌, ◌≤◌, refl, subst, sym, inl, inr, arith}
 use Rattle.std.specs.Prelude.{IsSome}
-use Rattle.std.proofs.lemmas.Bool.{cases_lt, false≢true}
+use Rattle.std.proofs.lemmas.Bool.{cases_lt}
 use Rattle.cell_tables.specs.Spans.{Spans, value_at}
 use Rattle.cell_tables.specs.Bits.{AreSetToo, IsBitIn, IsSet}
 use Rattle.cell_tables.proofs.Tables.{same_some}
@@ -44,20 +44,23 @@ loop-number-preserved c =
       ],
     ) in
     let S : Spans ℕ → Type 0 = λ rows. AreSetToo old rows rule from Is in
-    let N : Bool → Type 0 = λ any. any ≡ false → (to : ℕ) → first ≤ to → to < past → to / 64 < number + 1 → IsSet columns rule to from → ⊥ in
+    let A : Bool → Type 0 = λ any. IsTrue any ↔ ((to : ℕ) × Is to) in
     elim c.if-bits-ne0.branch [
       | then-bits-ne0 w ↦ record {
         set = subst S (sym w.rows-is) (set_more_too old c.loop-number.rows w.set_word.new.self rule from Was (IsBitIn bits number) Is told c.loop-number.invariant.set w.set_word.ensures);
-        none = subst N (sym w.any-is) (λ clear. absurd (false≢true (sym clear)));
+        any = let bit = some_bit bits number (omega arith) (omega arith) in subst A (sym w.any-is) (λ _. (bit.0, (told bit.0).1 (inr bit.1)), λ _. refl);
       }
       | else-bits-ne0 w ↦
           let none : (to : ℕ) → IsBitIn bits number to → ⊥ = λ to bit. no_bit number to (subst (λ n. IsBitIn n number to) w.if-bits-ne0.false bit) in
           record {
             set = subst S (sym w.rows-is) (set_more_too old c.loop-number.rows c.loop-number.rows rule from Was (IsBitIn bits number) Is told c.loop-number.invariant.set (none_set_too c.loop-number.rows rule from (IsBitIn bits number) none));
-            none = subst N (sym w.any-is) (λ clear to low high early set. elim ((told to).0 (low, high, early, set)) [
-              | inl was ↦ c.loop-number.invariant.none clear to was.0 was.1 was.2 was.3
-              | inr bit ↦ none to bit
-            ]);
+            any = subst A (sym w.any-is) (
+              λ any. let was = c.loop-number.invariant.any.0 any in (was.0, (told was.0).1 (inl was.1)),
+              λ (to, is). elim ((told to).0 is) [
+                | inl was ↦ c.loop-number.invariant.any.1 (to, was)
+                | inr bit ↦ absurd (none to bit)
+              ],
+            );
           }
     ]
 
@@ -74,5 +77,8 @@ returns-clause-set c =
     (λ to. (λ (low, high, early, set). (low, high, set), λ (low, high, set). (low, high, omega arith, set))) c.loop-number.invariant.set
 
 pub returns-clause-any : goal.returns-clause-any
-returns-clause-any c = λ clear to low high set.
-    c.loop-number.invariant.none clear to low high (omega (arith, low, high, c.loop-number-test.false, c.div_ceil-number-end.ensures)) set
+returns-clause-any c = (
+  λ any. let it = c.loop-number.invariant.any.0 any in (it.0, (it.1.0, it.1.1, it.1.3)),
+  λ (to, (low, high, set)).
+      c.loop-number.invariant.any.1 (to, (low, high, omega (arith, low, high, c.loop-number-test.false, c.div_ceil-number-end.ensures), set)),
+)

@@ -1,4 +1,5 @@
-use Rattle.std.proofs.Common.{◌-◌, arith}
+use Rattle.std.proofs.Common.{◌-◌, sym, ◌∙◌, arith}
+use Rattle.std.proofs.lemmas.Bool.{false≢true}
 use Rattle.seq_reference.proofs.Fills.{no_start_filled, shorter_filled, span_filled, unmarked_filled, end_filled}
 use Rattle.seq_reference.proofs.filling.fill_end.Goals as goal
 
@@ -14,7 +15,7 @@ pub loop-from-preserved-then-not-has_start : goal.loop-from-preserved-then-not-h
 loop-from-preserved-then-not-has_start c =
     let from = c.loop-from.from - 1 in
     unmarked_filled c.args.lines.now c.args.first c.args.past c.args.to c.loop-from.scores from c.loop-from.from (omega arith) c.loop-from.invariant
-    (λ cell at demanded. c.has_start.ensures c.if-not-has_start.true cell at ((c.requires.marked cell).1 demanded))
+    (λ cell at demanded. false≢true (sym c.if-not-has_start.true ∙ c.has_start.ensures.1 (cell, at, (c.requires.marked cell).1 demanded)))
 
 pub loop-from-preserved : goal.loop-from-preserved
 loop-from-preserved c =

@@ -1,5 +1,6 @@
 use Rattle.std.proofs.Common.{◌≡◌, ◌+◌, ◌*◌, ◌≤◌, length, sym, ap, subst, ◌∙◌, arith}
 use Rattle.std.specs.Prelude.{unwrap_or}
+use Rattle.std.proofs.lemmas.Bool.{false≢true}
 use Rattle.std.proofs.lemmas.Nat.{ones-le}
 use Rattle.adp_model.specs.Cells.{AreCountedEnds, IsCountOf}
 use Rattle.cell_tables.specs.Marks.{CellMarks}
@@ -15,7 +16,7 @@ ends c =
     subst E c.self.view_is c.ends-ends.ensures.ends
 
 pub returns-then-not-has_start-clause-count : goal.returns-then-not-has_start-clause-count
-returns-then-not-has_start-clause-count c = no_cells _ (λ cell (row, r, f). c.has_start.ensures c.if-not-has_start.true cell f row)
+returns-then-not-has_start-clause-count c = no_cells _ (λ cell (row, r, f). false≢true (sym c.if-not-has_start.true ∙ c.has_start.ensures.1 (cell, f, row)))
 
 pub loop-number-init : goal.loop-number-init
 loop-number-init c =

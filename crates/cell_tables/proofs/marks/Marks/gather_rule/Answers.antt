@@ -1,4 +1,5 @@
-use Rattle.std.proofs.Common.{◌≡◌, ◌<◌, ◌≤◌, Bool, true, false, IsTrue, length, refl, subst, ⊎_elim, ◌∙◌}
+use Rattle.std.proofs.Common.{◌≡◌, ◌<◌, ◌≤◌, length, sym, subst, ⊎_elim, ◌∙◌}
+use Rattle.std.proofs.lemmas.Bool.{false≢true}
 use Rattle.adp_model.specs.Cells.{AreCountedEnds}
 use Rattle.cell_tables.specs.Bits.{IsSet}
 use Rattle.cell_tables.specs.Marks.{CellMarks, AreInRows, AreMarkedToo, IsMarked}
@@ -9,11 +10,6 @@ use Rattle.cell_tables.proofs.GatheredMarks.{ends_there, still_marks, same_marke
 use Rattle.cell_tables.proofs.marks.Marks.gather_rule.Goals as goal
 use Rattle.cell_tables.proofs.marks.Marks.gather_rule.Goals.{After-ends-ends}
 
--- a flag that is not clear is set
-some_set : (flag : Bool) → (flag ≡ false → ⊥) → IsTrue flag
-some_set true not_clear = refl
-some_set false not_clear = absurd (not_clear refl)
-
 ends : (c : After-ends-ends) → AreCountedEnds c.self.inside.layout.grammar (length c.self.inside.layout.word) c.args.rule c.args.from c.ends-ends.result.start c.ends-ends.result.end
 ends c = c.ends-ends.ensures.ends
 
@@ -22,7 +18,7 @@ returns-then-not-is_in_columns-clause-same c = none_marked c.args.self.now _ (λ
 
 pub returns-then-not-is_in_columns-clause-gathered : goal.returns-then-not-is_in_columns-clause-gathered
 returns-then-not-is_in_columns-clause-gathered c = λ cell (r, f, marked).
-    ⊎_elim (λ row. row) (λ column. absurd (c.is_in_columns.ensures c.if-not-is_in_columns.true cell r column)) marked
+    ⊎_elim (λ row. row) (λ column. absurd (false≢true (sym c.if-not-is_in_columns.true ∙ c.is_in_columns.ensures.1 (cell, r, column)))) marked
 
 pub gather_row-any-requires-clause-there : goal.gather_row-any-requires-clause-there
 gather_row-any-requires-clause-there c =
@@ -41,7 +37,7 @@ invariant_of-self c =
       each_start = c.raise.ensures.as_many ∙ c.self.invariant.each_start;
       rules = c.self.invariant.rules;
       starts = starts_flagged old c.gather_row-any.new.rows c.args.rule c.args.from (λ to. (first ≤ to) × (to < past) × IsSet old.columns c.args.rule to c.args.from) c.gather_row-any.result c.self.inside.begun.items c.raise.new.flags.items
-          c.gather_row-any.ensures.set c.raise.ensures (λ to is. some_set c.gather_row-any.result (λ clear. c.gather_row-any.ensures.any clear to is.0 is.1 is.2)) c.self.invariant.starts;
+          c.gather_row-any.ensures.set c.raise.ensures c.gather_row-any.ensures.any c.self.invariant.starts;
     }
 
 pub returns-clause-same : goal.returns-clause-same

@@ -1,6 +1,6 @@
-use Rattle.std.proofs.Common.{ℕ, ◌+◌, ◌-◌, ◌*◌, ◌/◌, ◌<◌, ◌≤◌, Option, Some, None, inl, inr, refl, arith}
+use Rattle.std.proofs.Common.{ℕ, ◌+◌, ◌-◌, ◌*◌, ◌/◌, ◌<◌, ◌≤◌, Option, Some, None, inl, inr, refl, sym, ◌∙◌, arith}
 use Rattle.std.specs.Prelude.{IfSome}
-use Rattle.std.proofs.lemmas.Bool.{cases_lt}
+use Rattle.std.proofs.lemmas.Bool.{cases_lt, false≢true}
 use Rattle.cell_tables.specs.Marks.{IsSpanMarked, IsLastMarked}
 use Rattle.cell_tables.proofs.SpanWalks.{last_found, none_from_here, last_earlier}
 use Rattle.cell_tables.proofs.marks.Marks.last_marked.Goals as goal
@@ -8,7 +8,7 @@ use Rattle.cell_tables.proofs.marks.Marks.last_marked.Goals.{In-None}
 
 pub returns-then-not-has_start-clause-none : goal.returns-then-not-has_start-clause-none
 returns-then-not-has_start-clause-none c = λ none to low (rule, known, row).
-    c.has_start.ensures c.if-not-has_start.true (record { rule = rule; from = c.args.from; to = to }) refl row
+    false≢true (sym c.if-not-has_start.true ∙ c.has_start.ensures.1 (record { rule = rule; from = c.args.from; to = to }, refl, row))
 
 pub returns-in-Some-clause-last : goal.returns-in-Some-clause-last
 returns-in-Some-clause-last c =

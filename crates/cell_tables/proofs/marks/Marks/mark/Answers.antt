@@ -22,7 +22,7 @@ invariant_of-self c =
       each_rule = c.self.invariant.each_rule;
       each_start = c.raise.ensures.as_many ∙ c.self.invariant.each_start;
       rules = c.self.invariant.rules;
-      starts = starts_flagged old c.set_bit.new.self cell.rule cell.from (λ other. other ≡ cell.to) true c.self.inside.begun.items c.raise.new.flags.items c.set_bit.ensures c.raise.ensures (λ far is. refl) c.self.invariant.starts;
+      starts = starts_flagged old c.set_bit.new.self cell.rule cell.from (λ other. other ≡ cell.to) true c.self.inside.begun.items c.raise.new.flags.items c.set_bit.ensures c.raise.ensures (λ _. (cell.to, refl), λ _. refl) c.self.invariant.starts;
     }
 
 pub returns-clause-marked : goal.returns-clause-marked

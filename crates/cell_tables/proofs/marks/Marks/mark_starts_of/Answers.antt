@@ -38,7 +38,7 @@ invariant_of-self c =
       marks = columns_kept old c.set_bits_of.new.self c.args.rule c.args.to IsFar c.set_bits_of.ensures c.self.invariant.marks counted;
       each_rule = c.raise.ensures.as_many ∙ c.self.invariant.each_rule;
       each_start = c.self.invariant.each_start;
-      rules = rules_flagged old c.set_bits_of.new.self c.args.rule c.args.to IsFar true c.self.inside.in_columns.items c.raise.new.flags.items c.set_bits_of.ensures c.raise.ensures (λ far is. refl) c.self.invariant.rules;
+      rules = rules_flagged old c.set_bits_of.new.self c.args.rule c.args.to IsFar true c.self.inside.in_columns.items c.raise.new.flags.items c.set_bits_of.ensures c.raise.ensures (λ _. (c.args.first, c.requires.first (omega arith)), λ _. refl) c.self.invariant.rules;
       starts = c.self.invariant.starts;
     }
 

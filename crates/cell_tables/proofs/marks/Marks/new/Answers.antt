@@ -4,6 +4,7 @@ use Rattle.adp_model.specs.declared.cell.Cell.{Cell}
 use Rattle.adp_model.specs.PosedProblem.{PosedProblem}
 use Rattle.adp_model.specs.Cells.{IsCounted}
 use Rattle.cell_tables.proofs.CellMarks.{no_marks}
+use Rattle.cell_tables.proofs.FlaggedMarks.{none_flagged}
 use Rattle.cell_tables.proofs.marks.Marks.new.Goals as goal
 
 clear_each : (count : ℕ) (flags : List Bool) → flags ≡ replicate count false → length flags ≡ count
@@ -28,8 +29,14 @@ invariant_of-result c =
           ∙ ap length c.as_slice.ensures
           ∙ ap (λ (q : PosedProblem). length q.grammar.rules) (c.problem.view_is ∙ c.problem-problem.ensures);
       each_start = clear_each _ c.in_ok-begun.begun.items (c.in_ok-begun.ensures.items_if_clones_equal (λ other e. e)) ∙ c.positions.ensures.same;
-      rules = λ cell column. absurd (c.in_ok-columns.ensures.none cell.rule cell.to cell.from column);
-      starts = λ cell row. absurd (c.in_ok-rows.ensures.none cell.rule cell.from cell.to row);
+      rules = λ rule. (
+        λ flagged. absurd (none_flagged c.in_ok-in_columns.in_columns.items _ rule (c.in_ok-in_columns.ensures.items_if_clones_equal (λ other e. e)) flagged),
+        λ (cell, of_rule, column). absurd (c.in_ok-columns.ensures.none cell.rule cell.to cell.from column),
+      );
+      starts = λ from. (
+        λ flagged. absurd (none_flagged c.in_ok-begun.begun.items _ from (c.in_ok-begun.ensures.items_if_clones_equal (λ other e. e)) flagged),
+        λ (cell, begins, row). absurd (c.in_ok-rows.ensures.none cell.rule cell.from cell.to row),
+      );
     }
 
 pub returns-clause-none : goal.returns-clause-none

@@ -1,7 +1,7 @@
-use Rattle.std.proofs.Common.{◌≡◌, ℕ, ◌<◌, ◌≤◌, inl, inr, subst, arith, rules}
+use Rattle.std.proofs.Common.{◌≡◌, ℕ, ◌<◌, ◌≤◌, inl, inr, sym, subst, ◌∙◌, arith, rules}
 use Rattle.std.specs.Prelude.{IsSome}
 use Rattle.std.specs.List.{Contains}
-use Rattle.std.proofs.lemmas.Bool.{cases_lt}
+use Rattle.std.proofs.lemmas.Bool.{cases_lt, false≢true}
 use Rattle.cell_tables.specs.Spans.{value_at}
 use Rattle.cell_tables.specs.Marks.{CellMarks, IsSpanMarked}
 use Rattle.cell_tables.proofs.SpanWalks.{span_there}
@@ -13,7 +13,7 @@ loop-from-preserved-then-not-has_start c = λ from to high low marked.
       | inl early ↦ c.loop-from.invariant from to high early marked
       | inr late ↦
           let same : from ≡ c.loop-from.from = omega arith in
-          absurd (c.has_start.ensures c.if-not-has_start.true (record { rule = marked.0; from = from; to = to }) same marked.2)
+          absurd (false≢true (sym c.if-not-has_start.true ∙ c.has_start.ensures.1 (record { rule = marked.0; from = from; to = to }, same, marked.2)))
     ]
 
 pub loop-from-preserved : goal.loop-from-preserved
