@@ -12,7 +12,6 @@ pub mod Greatest
 pub mod KeptScores
 pub mod LaidEnds
 pub mod LaidSplits
-pub mod LineStarts
 pub mod LineTotals
 pub mod Lists
 pub mod OneEnds

@@ -35,7 +35,8 @@ use adp_model::laws::well_formed::{
 };
 use adp_model::{Answer, Arg, Cell, Choice};
 use score_numbers::{
-    Positions, are_worthless, first_long, first_medium, first_short, turned, turned_factors,
+    Positions, are_worthless, first_long, first_medium, first_short, lesser_positions_stand_before,
+    turned, turned_factors,
 };
 use split_lines::{Line, Lines, line_here};
 
@@ -55,6 +56,7 @@ fn first_valued(lines: &Lines<'_>, line: &OpenedLine<'_>, total: i64) -> Option<
         line.now.arguments.middle_factors.now line.now.arguments.second_factor line.now.from line.now.boundary.letters
         line.now.boundary.last place total)) }
 {
+    lesser_positions_stand_before();
     let weigh = !are_worthless(line.arguments.middle, line.arguments.middle_factors);
     for place in line.boundary.places {
         let through = total_through(lines, line, weigh, *place);

@@ -28,7 +28,7 @@ use adp_model::laws::well_formed::{
 };
 use adp_model::{Arg, Cell};
 use score_numbers::{greater, turned};
-use split_lines::{KeptAlternative, Line, Lines, is_fixed, line_here};
+use split_lines::{KeptAlternative, Line, Lines, is_fixed, line_begins_here, line_begins_later, line_here};
 
 /// The best score of a cell and the first alternative that gives it.
 #[derive(Clone, Copy)]
@@ -94,6 +94,8 @@ pub(crate) fn greatest_total(
         arguments.now factors.now from to) result }
 {
     let Known { lines, scores, .. } = *known;
+    line_begins_here();
+    line_begins_later();
     if let Some(line) = line_here(known.line.as_ref(), ahead) {
         return greatest_along(lines, scores, *line, arguments, factors, from, to);
     }

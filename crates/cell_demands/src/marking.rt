@@ -19,7 +19,7 @@ ghost use Rattle.cell_tables.specs.Marks.{AreInRows, AreMarkedFrom, AreMarkedToo
 use adp_model::laws::well_formed::{alternatives_fit, arguments_are_few_and_known};
 use adp_model::{Arg, Cell};
 use cell_tables::Marks;
-use split_lines::{Boundary, KeptAlternative, Line, Lines, is_fixed, line_here};
+use split_lines::{Boundary, KeptAlternative, Line, Lines, is_fixed, line_begins_here, line_begins_later, line_here};
 
 /// Marks the cell of the argument on a span, where the argument is a rule.
 fn mark_argument(argument: &Arg, from: u16, to: u16, marks: &mut Marks<'_>)
@@ -177,6 +177,8 @@ fn mark_arguments(
     let Some((argument, others)) = arguments.split_first() else {
         return from == to;
     };
+    line_begins_here();
+    line_begins_later();
     if let Some(line) = line_here(line, ahead) {
         return mark_line(lines, *line, arguments, begin, from, to, marks);
     }

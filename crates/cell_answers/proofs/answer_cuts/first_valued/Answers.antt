@@ -1,15 +1,21 @@
-use Rattle.std.proofs.Common.{◌≡◌, ℕ, ℤ, get_or, FitsSigned, w64, to_z, of_z, sym, ap, subst, ◌∙◌, arith, rules, below_more}
+use Rattle.std.proofs.Common.{◌≡◌, ℕ, ◌<◌, ◌≤◌, ℤ, List, length, get_or, FitsSigned, w64, to_z, of_z, sym, ap, subst, ◌∙◌, arith, inl, inr, rules, below_more}
+use Rattle.std.specs.List.{Contains}
+use Rattle.std.proofs.lemmas.Bool.{cases_lt}
+use Rattle.std.proofs.lemmas.List.{get_or_default}
 use Rattle.std.proofs.lemmas.List.Elements.{Contains-get_or}
 use Rattle.std.proofs.lemmas.Int.{to_z-of_z}
 use Rattle.adp_model.specs.Bellman.{HasBestScore}
 use Rattle.cell_answers.specs.Through.{HasTotalThrough}
-use Rattle.score_numbers.proofs.FirstFound.{HoldsOfNone, found_first, found_none}
 use Rattle.cell_answers.proofs.answer_cuts.first_valued.Goals as goal
 use Rattle.cell_answers.proofs.answer_cuts.first_valued.Goals.{After-are_worthless-weigh, in-Some+else-found-total, in_default}
 
 abbrev Through : After-are_worthless-weigh → ℤ → ℕ → Type 0
 Through c total place = HasTotalThrough c.args.lines.now (HasBestScore c.args.lines.now) c.args.line.now.arguments.first.now c.args.line.now.arguments.middle.now c.args.line.now.arguments.second.now c.args.line.now.arguments.first_factor c.args.line.now.arguments.middle_factors.now c.args.line.now.arguments.second_factor
     c.args.line.now.from c.args.line.now.boundary.letters c.args.line.now.boundary.last place total
+
+-- at none of the places before this number is it the total
+abbrev IsNoneBefore : After-are_worthless-weigh → ℤ → ℕ → Type 0
+IsNoneBefore c total count = (number : ℕ) → number < count → Through c total (get_or c.args.line.now.boundary.places.now number 0) → ⊥
 
 -- numbers are the same where their bits are
 same_number : (a b : ℤ) → FitsSigned w64 a → FitsSigned w64 b → of_z w64 a ≡ of_z w64 b → a ≡ b
@@ -21,14 +27,24 @@ total_through-through-requires-clause-stands c = Contains-get_or c.args.line.now
 pub returns-then-found-total : goal.returns-then-found-total
 returns-then-found-total c =
     let at = (goal.at.returns-then-found-total c).After-are_worthless-weigh in
+    let places = c.args.line.now.boundary.places.now in
+    let count = c.loop-place.place-index in
+    let place = get_or places count 0 in
     let fits_total : FitsSigned w64 c.args.total = search rules in
     let fits_found : FitsSigned w64 c.in-Some.found = search rules in
     let same = same_number c.in-Some.found c.args.total fits_found fits_total c.if-found-total.true in
-    let N : ℤ → Type 0 = λ total. HoldsOfNone c.args.line.now.boundary.places.now (Through at total) c.loop-place.place-index in
-    let none : N (to_z w64 (of_z w64 c.args.total)) = c.loop-place.invariant in
-    let there : Through at c.in-Some.found (get_or c.args.line.now.boundary.places.now c.loop-place.place-index 0) = c.in-Some.ensures.greatest.0 in
-    found_first c.args.line.now.boundary.places.now (Through at c.args.total) c.loop-place.place-index c.requires.opened.boundary.rising c.loop-place-test.true
-    (subst N (to_z-of_z w64 c.args.total fits_total) none) (subst (λ total. Through at total (get_or c.args.line.now.boundary.places.now c.loop-place.place-index 0)) same there)
+    let none : IsNoneBefore at (to_z w64 (of_z w64 c.args.total)) count = c.loop-place.invariant in
+    let none' : IsNoneBefore at c.args.total count = subst (λ total. IsNoneBefore at total count) (to_z-of_z w64 c.args.total fits_total) none in
+    let there : Through at c.in-Some.found place = c.in-Some.ensures.greatest.0 in
+    let before = c.lesser_positions_stand_before.ensures places c.requires.opened.boundary.rising count c.loop-place-test.true in
+    record {
+      stands = Contains-get_or places count 0 c.loop-place-test.true;
+      holds = subst (λ total. Through at total place) same there;
+      first = λ other stands holds. elim (cases_lt other place) [
+        | inl less ↦ let it = before other stands less in absurd (none' it.0 it.1 (subst (Through at c.args.total) (sym it.2) holds))
+        | inr up ↦ up
+      ];
+    }
 
 pub loop-place-preserved : goal.loop-place-preserved
 loop-place-preserved c =
@@ -44,9 +60,10 @@ loop-place-preserved c =
     ])
 
 pub returns : goal.returns
-returns c =
+returns c = λ place stands through.
     let at = (goal.at.returns c).After-are_worthless-weigh in
+    let places = c.args.line.now.boundary.places.now in
     let fits_total : FitsSigned w64 c.args.total = search rules in
-    let N : ℤ → Type 0 = λ total. HoldsOfNone c.args.line.now.boundary.places.now (Through at total) c.loop-place.place-index in
-    let none : N (to_z w64 (of_z w64 c.args.total)) = c.loop-place.invariant in
-    found_none c.args.line.now.boundary.places.now (Through at c.args.total) c.loop-place.place-index (omega (arith, c.loop-place-test.false)) (subst N (to_z-of_z w64 c.args.total fits_total) none)
+    let none : IsNoneBefore at (to_z w64 (of_z w64 c.args.total)) c.loop-place.place-index = c.loop-place.invariant in
+    let there = sym (get_or_default places stands.0 0 place stands.1 ∙ stands.2) in
+    subst (λ total. IsNoneBefore at total c.loop-place.place-index) (to_z-of_z w64 c.args.total fits_total) none stands.0 (omega (arith, stands.1, c.loop-place-test.false)) (subst (Through at c.args.total) there through)

@@ -13,7 +13,6 @@ use Rattle.adp_model.specs.Bellman.{HasBestScore}
 use Rattle.viable_splits.specs.Placing.{on_span, ArePlaces, Cover}
 use Rattle.cell_answers.specs.Totals.{HasTotal}
 use Rattle.score_numbers.specs.Greatest.{IsGreatestOf}
-use Rattle.cell_answers.proofs.LineStarts.{line_now, line_later}
 use Rattle.cell_answers.proofs.Bounding.{best_within}
 use Rattle.cell_answers.proofs.Scoring.{one_score}
 use Rattle.cell_answers.proofs.FirstEnds.{AreLaid, AreSound, first_low, rest_laid, parts_low, found_more, unvalued_more, untotalled_more, none_first, all_found}
@@ -83,7 +82,7 @@ greatest_total-requires-in-loop-end t c =
     let fewer = c.in-Some-Some.ensures.cases.1 in
     let A : List Arg → Type 0 = λ arguments. IfSome c.args.known.now.line (λ line. IsLine p (drop c.args.ahead arguments) line) in
     let N : ℕ → Type 0 = λ n. IfSome c.args.known.now.line (λ line. IsLine p (drop n c.in-Some-Some.others.now) line) in
-    let later = line_later p c.in-Some-Some.argument.now c.in-Some-Some.others.now c.args.known.now.line (option_copied c.line_here.result) c.args.ahead (subst (λ (given : Option Line). option_copied c.line_here.result ≡ (if c.args.ahead == 0 then given else None)) c.as_ref.ensures.value c.line_here.ensures) (ap option_copied c.in_default.is) (subst A c.in-Some-Some.ensures.cases.0 c.requires.line) in
+    let later = c.line_begins_later.ensures p c.in-Some-Some.argument.now c.in-Some-Some.others.now c.args.known.now.line (option_copied c.line_here.result) c.args.ahead (subst (λ (given : Option Line). option_copied c.line_here.result ≡ (if c.args.ahead == 0 then given else None)) c.as_ref.ensures.value c.line_here.ensures) (ap option_copied c.in_default.is) (subst A c.in-Some-Some.ensures.cases.0 c.requires.line) in
     let ahead = subst N (sym c.saturating_sub-ahead.ensures) later in
     (search rules, (c.requires.same_problem, (ahead, (rest.weighted, (rest.span, (rest.scored, rest.low))))))
 
@@ -155,7 +154,7 @@ loop-end-preserved-in_default-greatest_total t c =
 
 pub greatest_along-requires-clause-line : goal.greatest_along-requires-clause-line
 greatest_along-requires-clause-line t c =
-    line_now c.args.known.now.lines.now c.args.arguments.now c.args.known.now.line (option_copied c.line_here.result) c.args.ahead c.in-Some.line.now (subst (λ (given : Option Line). option_copied c.line_here.result ≡ (if c.args.ahead == 0 then given else None)) c.as_ref.ensures.value c.line_here.ensures) (ap option_copied c.in-Some.is) c.requires.line
+    c.line_begins_here.ensures c.args.known.now.lines.now c.args.arguments.now c.args.known.now.line (option_copied c.line_here.result) c.args.ahead c.in-Some.line.now (subst (λ (given : Option Line). option_copied c.line_here.result ≡ (if c.args.ahead == 0 then given else None)) c.as_ref.ensures.value c.line_here.ensures) (ap option_copied c.in-Some.is) c.requires.line
 
 -- ---- a token in front
 
@@ -199,7 +198,7 @@ greatest_total-requires t c =
     let fewer = c.in-Some-Some.ensures.cases.1 in
     let A : List Arg → Type 0 = λ arguments. IfSome c.args.known.now.line (λ line. IsLine p (drop c.args.ahead arguments) line) in
     let N : ℕ → Type 0 = λ n. IfSome c.args.known.now.line (λ line. IsLine p (drop n c.in-Some-Some.others.now) line) in
-    let later = line_later p c.in-Some-Some.argument.now c.in-Some-Some.others.now c.args.known.now.line (option_copied c.line_here.result) c.args.ahead (subst (λ (given : Option Line). option_copied c.line_here.result ≡ (if c.args.ahead == 0 then given else None)) c.as_ref.ensures.value c.line_here.ensures) (ap option_copied c.in_default.is) (subst A c.in-Some-Some.ensures.cases.0 c.requires.line) in
+    let later = c.line_begins_later.ensures p c.in-Some-Some.argument.now c.in-Some-Some.others.now c.args.known.now.line (option_copied c.line_here.result) c.args.ahead (subst (λ (given : Option Line). option_copied c.line_here.result ≡ (if c.args.ahead == 0 then given else None)) c.as_ref.ensures.value c.line_here.ensures) (ap option_copied c.in_default.is) (subst A c.in-Some-Some.ensures.cases.0 c.requires.line) in
     let ahead = subst N (sym c.saturating_sub-ahead.ensures) later in
     (search rules, (c.requires.same_problem, (ahead, (rest.weighted, (rest.span, (rest.scored, rest.low))))))
 

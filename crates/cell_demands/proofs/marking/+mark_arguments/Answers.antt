@@ -13,7 +13,7 @@ use Rattle.split_lines.specs.Laid.{Demands, IsCellOf}
 use Rattle.split_lines.specs.Lines.{IsLine}
 use Rattle.cell_tables.specs.Marks.{CellMarks, AreMarkedFrom}
 use Rattle.cell_demands.proofs.MarkSteps.{marked_in_rows}
-use Rattle.cell_demands.proofs.LineDemands.{CoversBelow, DemandsBelow, line_now, line_later, marked_none, marked_some, covers_none, all_covered, all_marked}
+use Rattle.cell_demands.proofs.LineDemands.{CoversBelow, DemandsBelow, marked_none, marked_some, covers_none, all_covered, all_marked}
 use Rattle.split_lines.specs.Ends.{IsEndTold}
 use Rattle.cell_demands.proofs.OneEnds.{none_ends, one_ends, cover_nowhere, cover_from, marked_nowhere, marked_behind, empty_without}
 use Rattle.cell_demands.proofs.marking.+mark_arguments.Goals as goal
@@ -21,7 +21,7 @@ use Rattle.cell_demands.proofs.marking.+mark_arguments.Goals.{then-mark_argument
 
 pub mark_line-requires-clause-line : goal.mark_line-requires-clause-line
 mark_line-requires-clause-line t c =
-    line_now c.args.lines.now c.args.arguments.now (option_copied c.args.line) (option_copied c.line_here.result) c.args.ahead c.in-Some-line_here.line.now c.line_here.ensures (ap option_copied c.in-Some-line_here.is) c.requires.line
+    c.line_begins_here.ensures c.args.lines.now c.args.arguments.now (option_copied c.args.line) (option_copied c.line_here.result) c.args.ahead c.in-Some-line_here.line.now c.line_here.ensures (ap option_copied c.in-Some-line_here.is) c.requires.line
 
 pub mark_arguments-requires-in-loop-end : goal.mark_arguments-requires-in-loop-end
 mark_arguments-requires-in-loop-end t c =
@@ -43,7 +43,7 @@ mark_arguments-requires-in-loop-end t c =
     let counted = subst D split c.requires.counted in (
       omega (arith, same_length, c.decreases),
       (
-        subst N (sym c.saturating_sub-ahead.ensures) (line_later p argument others (option_copied c.args.line) (option_copied c.line_here.result) c.args.ahead c.line_here.ensures (ap option_copied c.in_default-line_here.is) (subst L split c.requires.line)),
+        subst N (sym c.saturating_sub-ahead.ensures) (c.line_begins_later.ensures p argument others (option_copied c.args.line) (option_copied c.line_here.result) c.args.ahead c.line_here.ensures (ap option_copied c.in_default-line_here.is) (subst L split c.requires.line)),
         (
           known.1,
           (
@@ -157,7 +157,7 @@ mark_arguments-requires t c =
     let C : PosedProblem → Type 0 = λ q. q ≡ p in (
       omega (arith, same_length, c.decreases),
       (
-        subst N (sym c.saturating_sub-ahead.ensures) (line_later p argument others (option_copied c.args.line) (option_copied c.line_here.result) c.args.ahead c.line_here.ensures (ap option_copied c.in_default-line_here.is) (subst L split c.requires.line)),
+        subst N (sym c.saturating_sub-ahead.ensures) (c.line_begins_later.ensures p argument others (option_copied c.args.line) (option_copied c.line_here.result) c.args.ahead c.line_here.ensures (ap option_copied c.in_default-line_here.is) (subst L split c.requires.line)),
         (
           known.1,
           (
