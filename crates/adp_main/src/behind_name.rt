@@ -24,8 +24,8 @@ impl Env for BehindName<'_> {
     }
 }
 
-/// The words of the command line behind the program's name. The name, and the folder in it, may be no text, so it is not
-/// read.
+/// The words of the command line behind the program's name. The name, and the folder in it, may be no text, so it is
+/// not read.
 ///
 /// # Errors
 ///
