@@ -11,7 +11,7 @@ returns-then-are_worthless c =
     let fits_scale : FitsSigned w64 c.in-Some-Some.before = search rules in
     let fits_scale_behind : FitsSigned w64 c.in-Some-Some.behind = search rules in
     simp to_z-of_z (record {
-      worthless = c.are_worthless.ensures c.if-are_worthless.true;
+      worthless = c.are_worthless.ensures.0 c.if-are_worthless.true;
       before = subst (λ factor. IsScaled x.first.now factor c.args.line.now.row.goal c.in-Some-Some.before) (to_z-of_z w64 x.first_factor fits) c.in-Some-Some.ensures;
       behind = subst (λ factor. IsScaled x.second.now factor c.args.line.now.column.goal c.in-Some-Some.behind) (to_z-of_z w64 x.second_factor fits_behind) c.in-Some-Some.ensures';
     })

@@ -78,4 +78,4 @@ returns-clause-alternative c =
     let F : Goal → List ℤ → Type 0 = λ goal factors. take (length factors) c.turned_factors-factors.result ≡ map (turned goal) factors in
     let factors = subst (λ goal. F goal (term_of p c.args.rule c.args.alt).factors) c.goal-goal.ensures (subst (F c.goal-goal.result) same c.turned_factors-factors.ensures) in
     alternative_kept p c.args.rule c.args.alt _ all n are.arguments are.few are.known c.front_length-number.ensures.within c.front_length-number.ensures.fixed
-    refl (take_rest all n) c.fixed_letters.ensures.letters c.first_letter.ensures (on_true c.are_one_letter.result (AreOneLetter (take n all)) c.are_one_letter.ensures) c.class_of.ensures constant each factors (λ none. c.are_worthless.ensures (not_false c.are_worthless.result none))
+    refl (take_rest all n) c.fixed_letters.ensures.letters c.first_letter.ensures (on_true c.are_one_letter.result (AreOneLetter (take n all)) c.are_one_letter.ensures) c.class_of.ensures constant each factors (λ none. c.are_worthless.ensures.0 (not_false c.are_worthless.result none))
