@@ -170,10 +170,12 @@ alternative_low p admissible cell alternative span known in_range values have =
     let low = magnitude_low p admissible cell alternative values span known in_range have in
     omega (arith, low)
 
+-- the scores of all trees are within their bounds
+abbrev pub AreBounded : PosedProblem → Type 0
+AreBounded p = (least : List ℕ) (greatest : List (Option ℕ)) (ranks : List ℕ) → IsChecked p.grammar p.algebra least greatest ranks → length p.word ≤ most_letters → (bound : ℕ → ℕ → ℕ) → AreScoreBounds p.grammar p.algebra bound → (cell : Cell) (tree : Tree) → Derives p cell tree → nat_abs (score_of p tree) ≤ bound cell.rule (cell.to - cell.from)
+
 -- best scores are within their bounds
-pub best_within : (p : PosedProblem) → IsAdmissible p
-    → ((least : List ℕ) (greatest : List (Option ℕ)) (ranks : List ℕ) → IsChecked p.grammar p.algebra least greatest ranks → length p.word ≤ most_letters → (bound : ℕ → ℕ → ℕ) → AreScoreBounds p.grammar p.algebra bound → (cell : Cell) (tree : Tree) → Derives p cell tree → nat_abs (score_of p tree) ≤ bound cell.rule (cell.to - cell.from))
-    → (cell : Cell) (score : ℤ) → HasBestScore p cell score → IsWithinBound p cell score
+pub best_within : (p : PosedProblem) → IsAdmissible p → AreBounded p → (cell : Cell) (score : ℤ) → HasBestScore p cell score → IsWithinBound p cell score
 best_within p admissible sound cell score (choice, (tree, preferred, score_is, choice_is)) bound are =
     subst (λ it. nat_abs it ≤ bound cell.rule (cell.to - cell.from)) (sym score_is)
     (sound admissible.least admissible.greatest admissible.ranks admissible.checked admissible.limits.letters bound are cell tree preferred.derived)

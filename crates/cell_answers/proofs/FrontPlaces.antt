@@ -15,7 +15,7 @@ use Rattle.adp_model.specs.Bellman.{HasBestScore}
 use Rattle.viable_splits.specs.Placing.{on_span, Cover}
 use Rattle.cell_answers.specs.declared.opened.OpenedLine.{OpenedLine}
 use Rattle.cell_answers.specs.Opened.{IsOpened}
-use Rattle.cell_answers.specs.Through.{HasTotalThrough}
+use Rattle.cell_answers.specs.Through.{HasLineTotal}
 use Rattle.cell_answers.specs.Totals.{HasTotal, AreLow, AreWeighted}
 use Rattle.score_numbers.specs.Greatest.{IsGreatestOf}
 use Rattle.cell_answers.proofs.Greatest.{greatest_same, HasBefore}
@@ -65,7 +65,7 @@ module _ (p : PosedProblem) (line : OpenedLine) (opened : IsOpened p line) where
 
   -- the total through the place of this number
   abbrev pub Through : ℕ → ℤ → Type 0
-  Through number = HasTotalThrough p (HasBestScore p) first middle second first_factor middle_factors second_factor from letters last (get_or places number 0)
+  Through number = HasLineTotal p line (get_or places number 0)
 
   -- behind the last place all totals are found
   pub all_through : (count : ℕ) (greatest : Option ℤ) → length places ≤ count → count ≤ length places → IsGreatestOf (HasBefore Through count) greatest
@@ -76,7 +76,7 @@ module _ (p : PosedProblem) (line : OpenedLine) (opened : IsOpened p line) where
       (λ total has.
       let it = total_through p (HasBestScore p) first middle second first_factor middle_factors second_factor from letters last places opened.boundary opened.middle_each total has in
       let at : get_or places it.1.0 0 ≡ it.0 = get_or_default places it.1.0 0 it.0 it.1.1 ∙ it.1.2 in
-      (it.1.0, omega (arith, it.1.1, l), subst (λ place. HasTotalThrough p (HasBestScore p) first middle second first_factor middle_factors second_factor from letters last place total) (sym at) it.2))
+      (it.1.0, omega (arith, it.1.1, l), subst (λ place. HasLineTotal p line place total) (sym at) it.2))
       before
 
   module _ (place : ℕ) (stands : Contains places place) where
@@ -108,11 +108,11 @@ module _ (p : PosedProblem) (line : OpenedLine) (opened : IsOpened p line) where
           through_low p (HasBestScore p) first middle second first_factor middle_factors second_factor from letters last places opened.boundary opened.middle_each sound.within opened.low place (((first_factor *ℤ value) +ℤ between) +ℤ (second_factor *ℤ other)) stands
           (record { value = value; is_value = is_value; between = between; has_between = has_between; other = other; is_other = is_other; is = refl })
 
-      pub greatest_here : IsGreatestOf (HasTotalThrough p (HasBestScore p) first middle second first_factor middle_factors second_factor from letters last place) (Some (((first_factor *ℤ value) +ℤ between) +ℤ (second_factor *ℤ other)))
+      pub greatest_here : IsGreatestOf (HasLineTotal p line place) (Some (((first_factor *ℤ value) +ℤ between) +ℤ (second_factor *ℤ other)))
       greatest_here =
           greatest_through p (HasBestScore p) first middle second first_factor middle_factors second_factor from letters last places opened.boundary opened.middle_each sound.one opened.middle_fixed place value between other is_value has_between is_other
 
-      pub one_here : (number : ℤ) → HasTotalThrough p (HasBestScore p) first middle second first_factor middle_factors second_factor from letters last place number → number ≡ (((first_factor *ℤ value) +ℤ between) +ℤ (second_factor *ℤ other))
+      pub one_here : (number : ℤ) → HasLineTotal p line place number → number ≡ (((first_factor *ℤ value) +ℤ between) +ℤ (second_factor *ℤ other))
       one_here = one_through p (HasBestScore p) first middle second first_factor middle_factors second_factor from letters last places opened.boundary opened.middle_each sound.one opened.middle_fixed place value between other is_value has_between is_other
 
 -- sums of numbers that are low together

@@ -19,6 +19,7 @@ pub mod OpenedLines
 pub mod PackedScores
 pub mod ScaledTotals
 pub mod Scoring
+pub mod Soundness
 pub mod Spaced
 pub mod Splitting
 pub mod Tokens

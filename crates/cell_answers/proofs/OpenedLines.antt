@@ -3,11 +3,19 @@ use Rattle.std.proofs.Common.{ℕ, ℤ, List, ◌∷◌, ◌++◌, get_or, sym, 
 use Rattle.std.specs.List.{Contains}
 use Rattle.adp_model.specs.declared.grammar.Arg.{Arg}
 use Rattle.adp_model.specs.PosedProblem.{PosedProblem}
+use Rattle.yield_sizes.specs.Placing.{Cover}
 use Rattle.cell_tables.specs.Tables.{Table}
 use Rattle.cell_answers.specs.declared.opened.OpenedLine.{OpenedLine}
 use Rattle.cell_answers.specs.Opened.{IsOpenedOn}
+use Rattle.cell_answers.specs.Totals.{AreLow, AreWeighted}
 use Rattle.cell_answers.proofs.FirstEnds.{AreLaid}
-use Rattle.cell_answers.proofs.WholeLines.{IsWhole, first_stands}
+use Rattle.cell_answers.proofs.WholeLines.{IsWhole, first_stands, tail_covers, tail_low, tail_weighted}
+
+-- what is known of the tokens behind a line
+pub record IsTail (p : PosedProblem) (line : OpenedLine) (to : ℕ) : Type 0 where
+  pub weighted : AreWeighted p line.arguments.tail.now line.arguments.tail_factors.now
+  pub covers : Cover p line.arguments.tail.now line.boundary.last to
+  pub low : AreLow p line.arguments.tail.now line.arguments.tail_factors.now line.boundary.last to
 
 module _ (p : PosedProblem) (table : Table ℤ) (arguments : List Arg) (factors : List ℤ) (from to : ℕ) (laid : AreLaid p table arguments factors from to) (line : OpenedLine) (is : IsOpenedOn p arguments factors from to line) where
   abbrev its_arguments : List Arg
@@ -28,8 +36,15 @@ module _ (p : PosedProblem) (table : Table ℤ) (arguments : List Arg) (factors 
   }
 
   -- it has a place
-  pub opened_stands : Contains line.boundary.places.now (get_or line.boundary.places.now 0 0)
+  opened_stands : Contains line.boundary.places.now (get_or line.boundary.places.now 0 0)
   opened_stands = first_stands line.boundary.places.now is.some
+
+  pub opened_tail : IsTail p line to
+  opened_tail = record {
+    weighted = tail_weighted p table line.arguments line.from to line.boundary opened_whole;
+    covers = tail_covers p table line.arguments line.from to line.boundary opened_whole _ opened_stands;
+    low = tail_low p table line.arguments line.from to line.boundary opened_whole _ opened_stands;
+  }
 
   -- what holds of its arguments holds of these
   pub opened_holds : (Holds : List Arg → List ℤ → ℕ → Type 0) → Holds its_arguments its_factors line.from → Holds arguments factors from

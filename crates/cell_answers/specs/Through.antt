@@ -5,7 +5,9 @@ use Rattle.adp_model.specs.declared.cell.Cell.{Cell}
 use Rattle.adp_model.specs.PosedProblem.{PosedProblem}
 use Rattle.adp_model.specs.Splits.{FitsSpan}
 use Rattle.adp_model.specs.FirstSplit.{IsValue}
+use Rattle.adp_model.specs.Bellman.{HasBestScore}
 use Rattle.viable_splits.specs.Placing.{on_span}
+use Rattle.cell_answers.specs.declared.opened.OpenedLine.{OpenedLine}
 use Rattle.cell_answers.specs.Totals.{HasTotal}
 
 -- the totals of arguments whose first one ends here
@@ -29,3 +31,10 @@ pub record HasTotalThrough (p : PosedProblem) (HasScore : Cell → ℤ → Type 
   pub other : ℤ
   pub is_other : IsValue p HasScore (on_span second (place + letters) last) other
   pub is : total ≡ (((first_factor *ℤ value) +ℤ between) +ℤ (second_factor *ℤ other))
+
+-- the arguments of an opened line up to its second one of open length have this total where the boundary stands at the
+-- place
+abbrev pub HasLineTotal : PosedProblem → OpenedLine → ℕ → ℤ → Type 0
+HasLineTotal p line place = HasTotalThrough p (HasBestScore p) line.arguments.first.now line.arguments.middle.now
+    line.arguments.second.now line.arguments.first_factor line.arguments.middle_factors.now
+    line.arguments.second_factor line.from line.boundary.letters line.boundary.last place

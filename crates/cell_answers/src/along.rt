@@ -10,7 +10,7 @@ ghost use Rattle.split_lines.specs.Laid.{IsFixed, Demands};
 ghost use Rattle.split_lines.specs.Lines.{IsLine};
 ghost use Rattle.score_numbers.specs.Worthless.{AreWorthless};
 ghost use Rattle.cell_answers.specs.ArgumentEntries.{IsScaled};
-ghost use Rattle.cell_answers.specs.Through.{HasTotalThrough};
+ghost use Rattle.cell_answers.specs.Through.{HasLineTotal};
 ghost use Rattle.cell_answers.specs.Entries.{HasEntry};
 ghost use Rattle.cell_answers.specs.Opened.{IsOpened};
 ghost use Rattle.cell_answers.specs.ScaledLines.{IsScaledLine};
@@ -115,15 +115,8 @@ pub fn total_through(
     requires worthless { weigh ≡ false
         → AreWorthless line.now.arguments.middle.now line.now.arguments.middle_factors.now }
     requires stands { Contains line.now.boundary.places.now place }
-    ensures greatest { IsGreatestOf (HasTotalThrough lines.now (HasBestScore lines.now) line.now.arguments.first.now
-        line.now.arguments.middle.now line.now.arguments.second.now line.now.arguments.first_factor
-        line.now.arguments.middle_factors.now line.now.arguments.second_factor line.now.from line.now.boundary.letters
-        line.now.boundary.last place) result }
-    ensures only { IfSome result (λ total. (other : ℤ)
-        → HasTotalThrough lines.now (HasBestScore lines.now) line.now.arguments.first.now
-        line.now.arguments.middle.now line.now.arguments.second.now line.now.arguments.first_factor
-        line.now.arguments.middle_factors.now line.now.arguments.second_factor line.now.from line.now.boundary.letters
-        line.now.boundary.last place other → other ≡ total) }
+    ensures greatest { IsGreatestOf (HasLineTotal lines.now line.now place) result }
+    ensures only { IfSome result (λ total. (other : ℤ) → HasLineTotal lines.now line.now place other → other ≡ total) }
 {
     lines.problem().admissible();
     bounds_are_sound();

@@ -10,7 +10,7 @@ ghost use Rattle.adp_model.specs.Parts.{alternatives_of};
 ghost use Rattle.adp_model.specs.Answers.{IsAnswer};
 ghost use Rattle.adp_model.specs.Bellman.{HasBestScore};
 ghost use Rattle.adp_model.specs.Demand.{IsDemandedChild};
-ghost use Rattle.score_numbers.specs.FirstPlaces.{IsFirstAmong};
+ghost use Rattle.score_numbers.specs.FirstPlaces.{IsFirstOf};
 ghost use Rattle.score_numbers.specs.Greatest.{IsGreatestOf};
 ghost use Rattle.split_lines.specs.Laid.{Demands};
 ghost use Rattle.split_lines.specs.Lines.{IsLine};
@@ -18,7 +18,7 @@ ghost use Rattle.cell_answers.specs.CellBest.{IsCellBest};
 ghost use Rattle.cell_answers.specs.Entries.{HasEntry};
 ghost use Rattle.cell_answers.specs.LaidBy.{AreFirstEnds, IsFirstEnd};
 ghost use Rattle.cell_answers.specs.Opened.{IsOpened};
-ghost use Rattle.cell_answers.specs.Through.{HasTotalThrough};
+ghost use Rattle.cell_answers.specs.Through.{HasLineTotal};
 ghost use Rattle.cell_answers.specs.Totals.{AreLow, AreWeighted, HasTotal};
 
 use crate::along::{fixed_total, scales_of, total_through};
@@ -44,17 +44,7 @@ use split_lines::{Line, Lines, line_here};
 /// total, place by place.
 fn first_valued(lines: &Lines<'_>, line: &OpenedLine<'_>, total: i64) -> Option<u16>
     requires opened { IsOpened lines.now line.now }
-    ensures { MatchOption result
-        ((place : ℕ) → Contains line.now.boundary.places.now place
-        → HasTotalThrough lines.now (HasBestScore lines.now) line.now.arguments.first.now
-        line.now.arguments.middle.now line.now.arguments.second.now line.now.arguments.first_factor
-        line.now.arguments.middle_factors.now line.now.arguments.second_factor line.now.from line.now.boundary.letters
-        line.now.boundary.last place total → ⊥)
-        (IsFirstAmong line.now.boundary.places.now (λ place.
-        HasTotalThrough lines.now (HasBestScore lines.now) line.now.arguments.first.now
-        line.now.arguments.middle.now line.now.arguments.second.now line.now.arguments.first_factor
-        line.now.arguments.middle_factors.now line.now.arguments.second_factor line.now.from line.now.boundary.letters
-        line.now.boundary.last place total)) }
+    ensures { IsFirstOf line.now.boundary.places.now (λ place. HasLineTotal lines.now line.now place total) result }
 {
     lesser_positions_stand_before();
     let weigh = !are_worthless(line.arguments.middle, line.arguments.middle_factors);
@@ -73,17 +63,7 @@ fn first_valued(lines: &Lines<'_>, line: &OpenedLine<'_>, total: i64) -> Option<
 /// total.
 fn first_through(lines: &Lines<'_>, line: &OpenedLine<'_>, total: i64) -> Option<u16>
     requires opened { IsOpened lines.now line.now }
-    ensures { MatchOption result
-        ((place : ℕ) → Contains line.now.boundary.places.now place
-        → HasTotalThrough lines.now (HasBestScore lines.now) line.now.arguments.first.now
-        line.now.arguments.middle.now line.now.arguments.second.now line.now.arguments.first_factor
-        line.now.arguments.middle_factors.now line.now.arguments.second_factor line.now.from line.now.boundary.letters
-        line.now.boundary.last place total → ⊥)
-        (IsFirstAmong line.now.boundary.places.now (λ place.
-        HasTotalThrough lines.now (HasBestScore lines.now) line.now.arguments.first.now
-        line.now.arguments.middle.now line.now.arguments.second.now line.now.arguments.first_factor
-        line.now.arguments.middle_factors.now line.now.arguments.second_factor line.now.from line.now.boundary.letters
-        line.now.boundary.last place total)) }
+    ensures { IsFirstOf line.now.boundary.places.now (λ place. HasLineTotal lines.now line.now place total) result }
 {
     if let Some(scales) = scales_of(line) {
         lines.problem().admissible();
@@ -109,9 +89,9 @@ fn first_through(lines: &Lines<'_>, line: &OpenedLine<'_>, total: i64) -> Option
     first_valued(lines, line, total)
 }
 
-/// The first end of the first of these arguments, which is the first one of a line, with which they have this total: the
-/// first place of the boundary at which those up to the second one of open length have what the tokens behind them leave
-/// of it.
+/// The first end of the first of these arguments, which is the first one of a line, with which they have this total:
+/// the first place of the boundary at which those up to the second one of open length have what the tokens behind them
+/// leave of it.
 fn end_along(
     lines: &Lines<'_>,
     scores: &Scores<'_>,

@@ -12,6 +12,7 @@ use Rattle.cell_answers.proofs.FirstEnds.{weighted_rest}
 use Rattle.adp_model.specs.Terms.{weighted_sum}
 use Rattle.cell_answers.proofs.LineTotals.{fixed_values}
 use Rattle.cell_answers.proofs.FixedTotals.{rest_covers, end_within, rest_low, token_total, token_parts_low}
+use Rattle.cell_answers.proofs.Soundness.{fits_below}
 use Rattle.cell_answers.proofs.along.+fixed_total.Goals as goal
 use Rattle.cell_answers.proofs.along.+fixed_total.Goals.{After-fixed_length}
 
@@ -48,9 +49,6 @@ pub overflow_add-end : goal.overflow_add-end
 overflow_add-end t c =
     let l = within t (goal.at.overflow_add-end t c).After-fixed_length in
     omega (arith, l, c.fixed_length.ensures, c.ranges.to)
-
-fits_below : (z : ℤ) → nat_abs z ≤ greatest_score → FitsSigned w64 z
-fits_below z below = fits_signed_from_abs w64 z (omega arith)
 
 -- the product and the sum are no greater than the greatest score
 parts : (t : ℕ) (c : After-fixed_length t) (value rest : ℤ) → value ≡ token_value c.args.lines.now.grammar c.in-Some-Some.token.now (letters_between c.args.lines.now.word c.args.from (c.args.from + c.fixed_length.result))

@@ -5,11 +5,10 @@ use Rattle.adp_model.specs.ProblemFields.{greatest_score}
 use Rattle.adp_model.specs.Bellman.{HasBestScore}
 use Rattle.cell_answers.specs.Totals.{HasTotal}
 use Rattle.score_numbers.specs.Greatest.{IsGreatestOf}
-use Rattle.cell_answers.proofs.Bounding.{best_within}
-use Rattle.cell_answers.proofs.Scoring.{one_score}
 use Rattle.cell_answers.proofs.FirstEnds.{AreLaid, AreSound}
-use Rattle.cell_answers.proofs.OpenedLines.{opened_whole, opened_stands, opened_holds}
-use Rattle.cell_answers.proofs.WholeLines.{IsWhole, tail_weighted, tail_covers, tail_low, none_without_front, greatest_whole, whole_low}
+use Rattle.cell_answers.proofs.OpenedLines.{IsTail, opened_holds, opened_tail, opened_whole}
+use Rattle.cell_answers.proofs.WholeLines.{IsWhole, none_without_front, greatest_whole, whole_low}
+use Rattle.cell_answers.proofs.Soundness.{fits_below, sound_by}
 use Rattle.cell_answers.proofs.along.greatest_along.Goals as goal
 use Rattle.cell_answers.proofs.along.greatest_along.Goals.{After-greatest_front}
 
@@ -19,25 +18,17 @@ laid c = record { weighted = c.requires.weighted; span = c.requires.span; scored
 whole : (c : After-greatest_front) → IsWhole c.args.lines.now c.args.scores.now c.in_ok-opened.opened.arguments c.in_ok-opened.opened.from c.args.to c.in_ok-opened.opened.boundary
 whole c = opened_whole c.args.lines.now c.args.scores.now c.args.arguments.now c.args.factors.now c.args.from c.args.to (laid c) c.in_ok-opened.opened c.in_ok-opened.ensures
 
+tail : (c : After-greatest_front) → IsTail c.args.lines.now c.in_ok-opened.opened c.args.to
+tail c = opened_tail c.args.lines.now c.args.scores.now c.args.arguments.now c.args.factors.now c.args.from c.args.to (laid c) c.in_ok-opened.opened c.in_ok-opened.ensures
+
 pub fixed_total-requires-clause-weighted : goal.fixed_total-requires-clause-weighted
-fixed_total-requires-clause-weighted c =
-    let at = (goal.at.fixed_total-requires-clause-weighted c).After-greatest_front in
-    let line = c.in_ok-opened.opened in
-    tail_weighted c.args.lines.now c.args.scores.now line.arguments line.from c.args.to line.boundary (whole at)
+fixed_total-requires-clause-weighted c = (tail (goal.at.fixed_total-requires-clause-weighted c).After-greatest_front).weighted
 
 pub fixed_total-requires-clause-covers : goal.fixed_total-requires-clause-covers
-fixed_total-requires-clause-covers c =
-    let at = (goal.at.fixed_total-requires-clause-covers c).After-greatest_front in
-    let line = c.in_ok-opened.opened in
-    tail_covers c.args.lines.now c.args.scores.now line.arguments line.from c.args.to line.boundary (whole at) _
-    (opened_stands c.args.lines.now c.args.scores.now c.args.arguments.now c.args.factors.now c.args.from c.args.to (laid at) line c.in_ok-opened.ensures)
+fixed_total-requires-clause-covers c = (tail (goal.at.fixed_total-requires-clause-covers c).After-greatest_front).covers
 
 pub fixed_total-requires-clause-low : goal.fixed_total-requires-clause-low
-fixed_total-requires-clause-low c =
-    let at = (goal.at.fixed_total-requires-clause-low c).After-greatest_front in
-    let line = c.in_ok-opened.opened in
-    tail_low c.args.lines.now c.args.scores.now line.arguments line.from c.args.to line.boundary (whole at) _
-    (opened_stands c.args.lines.now c.args.scores.now c.args.arguments.now c.args.factors.now c.args.from c.args.to (laid at) line c.in_ok-opened.ensures)
+fixed_total-requires-clause-low c = (tail (goal.at.fixed_total-requires-clause-low c).After-greatest_front).low
 
 pub returns-in_err-front : goal.returns-in_err-front
 returns-in_err-front c =
@@ -51,14 +42,7 @@ returns-in_err-front c =
 
 sound : (c : After-greatest_front) → AreSound c.args.lines.now
 sound c =
-    let S : PosedProblem → Type 0 = AreSound in
-    subst S c.problem.ensures (record {
-      within = best_within c.problem.result.now c.admissible.ensures (c.bounds_are_sound.ensures.score c.problem.result.now);
-      one = one_score c.problem.result.now (λ cell a b. c.answer_is_unique.ensures c.problem.result.now cell a b c.admissible.ensures.checked.well_formed);
-    })
-
-fits_below : (z : ℤ) → nat_abs z ≤ greatest_score → FitsSigned w64 z
-fits_below z below = fits_signed_from_abs w64 z (omega arith)
+    sound_by c.problem.result.now c.args.lines.now c.problem.ensures c.admissible.ensures (c.bounds_are_sound.ensures.score c.args.lines.now) (c.answer_is_unique.ensures c.args.lines.now)
 
 pub overflow_add-result : goal.overflow_add-result
 overflow_add-result c =

@@ -1,21 +1,16 @@
 use Rattle.std.proofs.Common.{subst, arith}
 use Rattle.adp_model.specs.PosedProblem.{PosedProblem}
-use Rattle.cell_answers.proofs.Bounding.{best_within}
 use Rattle.cell_answers.proofs.FirstEnds.{AreSound}
-use Rattle.cell_answers.proofs.Scoring.{one_score}
 use Rattle.cell_answers.proofs.Spaced.{short_spaced, medium_spaced, long_spaced}
 use Rattle.score_numbers.specs.Packing.{short, medium, long}
 use Rattle.cell_answers.proofs.ScaledTotals.{short_numbers, medium_numbers, long_numbers, have_numbers, are_low, scaled_greatest}
+use Rattle.cell_answers.proofs.Soundness.{sound_by}
 use Rattle.cell_answers.proofs.along.greatest_front.Goals as goal
 use Rattle.cell_answers.proofs.along.greatest_front.Goals.{After-answer_is_unique}
 
 sound : (c : After-answer_is_unique) → AreSound c.args.lines.now
 sound c =
-    let S : PosedProblem → Type 0 = AreSound in
-    subst S c.problem.ensures (record {
-      within = best_within c.problem.result.now c.admissible.ensures (c.bounds_are_sound.ensures.score c.problem.result.now);
-      one = one_score c.problem.result.now (λ at a b. c.answer_is_unique.ensures c.problem.result.now at a b c.admissible.ensures.checked.well_formed);
-    })
+    sound_by c.problem.result.now c.args.lines.now c.problem.ensures c.admissible.ensures (c.bounds_are_sound.ensures.score c.args.lines.now) (c.answer_is_unique.ensures c.args.lines.now)
 
 pub greatest_short-requires-clause-have : goal.greatest_short-requires-clause-have
 greatest_short-requires-clause-have c =

@@ -5,23 +5,18 @@ use Rattle.adp_model.specs.ProblemFields.{greatest_score}
 use Rattle.adp_model.specs.Bellman.{HasBestScore}
 use Rattle.adp_model.specs.FirstSplit.{IsValue}
 use Rattle.viable_splits.specs.Placing.{on_span}
-use Rattle.cell_answers.specs.Through.{HasTotalThrough}
+use Rattle.cell_answers.specs.Through.{HasLineTotal}
 use Rattle.cell_answers.specs.Totals.{HasTotal}
 use Rattle.score_numbers.specs.Greatest.{IsGreatestOf}
-use Rattle.cell_answers.proofs.Bounding.{best_within}
-use Rattle.cell_answers.proofs.Scoring.{one_score}
 use Rattle.cell_answers.proofs.FirstEnds.{AreSound}
 use Rattle.cell_answers.proofs.FrontPlaces.{first_fits, middle_weighted, middle_low, second_known, second_fits, first_token_low, second_token_low, through_parts_low, greatest_here, one_here, sums_low}
+use Rattle.cell_answers.proofs.Soundness.{fits_below, sound_by}
 use Rattle.cell_answers.proofs.along.total_through.Goals as goal
 use Rattle.cell_answers.proofs.along.total_through.Goals.{After-answer_is_unique}
 
 sound : (c : After-answer_is_unique) → AreSound c.args.lines.now
 sound c =
-    let S : PosedProblem → Type 0 = AreSound in
-    subst S c.problem.ensures (record {
-      within = best_within c.problem.result.now c.admissible.ensures (c.bounds_are_sound.ensures.score c.problem.result.now);
-      one = one_score c.problem.result.now (λ at a b. c.answer_is_unique.ensures c.problem.result.now at a b c.admissible.ensures.checked.well_formed);
-    })
+    sound_by c.problem.result.now c.args.lines.now c.problem.ensures c.admissible.ensures (c.bounds_are_sound.ensures.score c.args.lines.now) (c.answer_is_unique.ensures c.args.lines.now)
 
 pub overflow_add-behind : goal.overflow_add-behind
 overflow_add-behind c =
@@ -68,9 +63,6 @@ between_total-between-requires-clause-weighted c =
 pub between_total-between-requires-clause-low : goal.between_total-between-requires-clause-low
 between_total-between-requires-clause-low c =
     middle_low c.args.lines.now c.args.line.now c.requires.opened _ c.requires.stands
-
-fits_below : (z : ℤ) → nat_abs z ≤ greatest_score → FitsSigned w64 z
-fits_below z below = fits_signed_from_abs w64 z (omega arith)
 
 -- the numbers that are added up are low together
 parts : (c : After-answer_is_unique) → (first between second : ℤ)
@@ -142,8 +134,7 @@ returns-clause-greatest c =
     let fits_sum : FitsSigned w64 (first +ℤ between) = fits_below (first +ℤ between) it.1 in
     let fits_second : FitsSigned w64 second = fits_below second it.2 in
     let fits_total : FitsSigned w64 ((first +ℤ between) +ℤ second) = fits_below ((first +ℤ between) +ℤ second) it.3 in
-    let greatest : IsGreatestOf (HasTotalThrough c.args.lines.now (HasBestScore c.args.lines.now) c.args.line.now.arguments.first.now c.args.line.now.arguments.middle.now c.args.line.now.arguments.second.now c.args.line.now.arguments.first_factor c.args.line.now.arguments.middle_factors.now c.args.line.now.arguments.second_factor
-    c.args.line.now.from c.args.line.now.boundary.letters c.args.line.now.boundary.last c.args.place) (Some ((first +ℤ between) +ℤ second)) =
+    let greatest : IsGreatestOf (HasLineTotal c.args.lines.now c.args.line.now c.args.place) (Some ((first +ℤ between) +ℤ second)) =
     greatest_here c.args.lines.now c.args.line.now c.requires.opened c.args.place c.requires.stands (sound at)
     c.in-Some.first between c.in-Some-value_among.second c.in-Some.ensures c.between_total-between.ensures c.in-Some-value_among.ensures in
     simp to_z-of_z greatest
@@ -164,8 +155,7 @@ returns-clause-only c =
     let fits_sum : FitsSigned w64 (first +ℤ between) = fits_below (first +ℤ between) it.1 in
     let fits_second : FitsSigned w64 second = fits_below second it.2 in
     let fits_total : FitsSigned w64 ((first +ℤ between) +ℤ second) = fits_below ((first +ℤ between) +ℤ second) it.3 in
-    let only : (other : ℤ) → HasTotalThrough c.args.lines.now (HasBestScore c.args.lines.now) c.args.line.now.arguments.first.now c.args.line.now.arguments.middle.now c.args.line.now.arguments.second.now c.args.line.now.arguments.first_factor c.args.line.now.arguments.middle_factors.now c.args.line.now.arguments.second_factor
-    c.args.line.now.from c.args.line.now.boundary.letters c.args.line.now.boundary.last c.args.place other → other ≡ ((first +ℤ between) +ℤ second) =
+    let only : (other : ℤ) → HasLineTotal c.args.lines.now c.args.line.now c.args.place other → other ≡ ((first +ℤ between) +ℤ second) =
     one_here c.args.lines.now c.args.line.now c.requires.opened c.args.place c.requires.stands (sound at)
     c.in-Some.first between c.in-Some-value_among.second c.in-Some.ensures c.between_total-between.ensures c.in-Some-value_among.ensures in
     simp to_z-of_z only

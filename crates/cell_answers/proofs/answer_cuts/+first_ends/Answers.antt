@@ -13,12 +13,11 @@ use Rattle.cell_answers.specs.Entries.{HasEntry}
 use Rattle.cell_answers.specs.LaidBy.{AreFirstEnds, IsFirstEnd}
 use Rattle.cell_answers.specs.Totals.{HasTotal}
 use Rattle.score_numbers.specs.Greatest.{IsGreatestOf}
-use Rattle.cell_answers.proofs.Bounding.{best_within}
-use Rattle.cell_answers.proofs.Scoring.{one_score}
 use Rattle.cell_answers.proofs.FirstEnds.{AreLaid, AreSound, first_low, first_known_entry, rest_laid, parts_low}
 use Rattle.cell_answers.proofs.Totalling.{values_cover}
 use Rattle.cell_answers.proofs.Dividing.{cover_forward}
 use Rattle.cell_answers.proofs.LaidEnds.{IsFirstEndOf, end_of_first, first_more, front_same, none_here, rest_greatest}
+use Rattle.cell_answers.proofs.Soundness.{fits_below, sound_by}
 use Rattle.cell_answers.proofs.answer_cuts.+first_ends.Goals as goal
 use Rattle.cell_answers.proofs.answer_cuts.+first_ends.Goals.{After-answer_is_unique, After-first_end-end}
 
@@ -50,13 +49,7 @@ greatest t c =
 
 sound : (t : ℕ) (c : After-answer_is_unique t) → AreSound c.args.known.now.lines.now
 sound t c =
-    let p = c.args.known.now.lines.now in
-    let same : c.problem.result.now ≡ p = c.problem.ensures in
-    let S : PosedProblem → Type 0 = AreSound in
-    subst S same (record {
-      within = best_within c.problem.result.now c.admissible.ensures (c.bounds_are_sound.ensures.score c.problem.result.now);
-      one = one_score c.problem.result.now (λ at a b. c.answer_is_unique.ensures c.problem.result.now at a b c.admissible.ensures.checked.well_formed);
-    })
+    sound_by c.problem.result.now c.args.known.now.lines.now c.problem.ensures c.admissible.ensures (c.bounds_are_sound.ensures.score c.args.known.now.lines.now) (c.answer_is_unique.ensures c.args.known.now.lines.now)
 
 -- the first end that was found
 first_end : (t : ℕ) (c : After-first_end-end t) → IsFirstEndOf c.args.known.now.lines.now c.in-Some-Some.argument.now c.in-Some-Some.others.now c.in-Some-Some.factor.now c.in-Some-Some.more.now c.args.from c.args.to c.args.total c.first_end-end.result
@@ -97,9 +90,6 @@ record IsLeft (t : ℕ) (c : After-answer_is_unique t) (end : ℕ) (value : ℤ)
   product_fits : FitsSigned w64 (c.in-Some-Some.factor.now *ℤ value)
   rest_fits : FitsSigned w64 (c.args.total -ℤ (c.in-Some-Some.factor.now *ℤ value))
   is_rest : IsGreatestOf (HasTotal c.args.known.now.lines.now (HasBestScore c.args.known.now.lines.now) c.in-Some-Some.others.now c.in-Some-Some.more.now end c.args.to) (Some (c.args.total -ℤ (c.in-Some-Some.factor.now *ℤ value)))
-
-fits_below : (z : ℤ) → nat_abs z ≤ greatest_score → FitsSigned w64 z
-fits_below z below = fits_signed_from_abs w64 z (omega arith)
 
 total_parts : (total product : ℤ) → total ≡ (product +ℤ (total -ℤ product))
 total_parts total product = omega (arith, ints)

@@ -6,12 +6,11 @@ use Rattle.adp_model.specs.Bellman.{HasBestScore}
 use Rattle.score_numbers.specs.FirstPlaces.{IsFirstAmong}
 use Rattle.cell_answers.specs.LaidBy.{IsFirstEnd}
 use Rattle.cell_answers.specs.Totals.{AreLow, HasTotal}
-use Rattle.cell_answers.proofs.Bounding.{best_within}
-use Rattle.cell_answers.proofs.Scoring.{one_score}
 use Rattle.cell_answers.proofs.FirstEnds.{AreLaid, AreSound, total_low}
 use Rattle.cell_answers.proofs.FirstTotals.{Through, first_left, not_nowhere}
-use Rattle.cell_answers.proofs.OpenedLines.{opened_whole, opened_stands, opened_holds}
-use Rattle.cell_answers.proofs.WholeLines.{IsWhole, tail_weighted, tail_covers, tail_low}
+use Rattle.cell_answers.proofs.OpenedLines.{IsTail, opened_holds, opened_tail, opened_whole}
+use Rattle.cell_answers.proofs.WholeLines.{IsWhole}
+use Rattle.cell_answers.proofs.Soundness.{sound_by}
 use Rattle.cell_answers.proofs.answer_cuts.end_along.Goals as goal
 use Rattle.cell_answers.proofs.answer_cuts.end_along.Goals.{In-Some}
 
@@ -21,36 +20,21 @@ laid c = record { weighted = c.requires.weighted; span = c.requires.span; scored
 whole : (c : In-Some) → IsWhole c.args.lines.now c.args.scores.now c.in-Some.opened.arguments c.in-Some.opened.from c.args.to c.in-Some.opened.boundary
 whole c = opened_whole c.args.lines.now c.args.scores.now c.args.arguments.now c.args.factors.now c.args.from c.args.to (laid c) c.in-Some.opened c.in-Some.ensures
 
-stands : (c : In-Some) → Contains c.in-Some.opened.boundary.places.now (get_or c.in-Some.opened.boundary.places.now 0 0)
-stands c = opened_stands c.args.lines.now c.args.scores.now c.args.arguments.now c.args.factors.now c.args.from c.args.to (laid c) c.in-Some.opened c.in-Some.ensures
-
-tail_is_low : (c : In-Some) → AreLow c.args.lines.now c.in-Some.opened.arguments.tail.now c.in-Some.opened.arguments.tail_factors.now c.in-Some.opened.boundary.last c.args.to
-tail_is_low c =
-    let line = c.in-Some.opened in
-    tail_low c.args.lines.now c.args.scores.now line.arguments line.from c.args.to line.boundary (whole c) _ (stands c)
+tail : (c : In-Some) → IsTail c.args.lines.now c.in-Some.opened c.args.to
+tail c = opened_tail c.args.lines.now c.args.scores.now c.args.arguments.now c.args.factors.now c.args.from c.args.to (laid c) c.in-Some.opened c.in-Some.ensures
 
 pub fixed_total-requires-clause-weighted : goal.fixed_total-requires-clause-weighted
-fixed_total-requires-clause-weighted c =
-    let at = (goal.at.fixed_total-requires-clause-weighted c).In-Some in
-    let line = c.in-Some.opened in
-    tail_weighted c.args.lines.now c.args.scores.now line.arguments line.from c.args.to line.boundary (whole at)
+fixed_total-requires-clause-weighted c = (tail (goal.at.fixed_total-requires-clause-weighted c).In-Some).weighted
 
 pub fixed_total-requires-clause-covers : goal.fixed_total-requires-clause-covers
-fixed_total-requires-clause-covers c =
-    let at = (goal.at.fixed_total-requires-clause-covers c).In-Some in
-    let line = c.in-Some.opened in
-    tail_covers c.args.lines.now c.args.scores.now line.arguments line.from c.args.to line.boundary (whole at) _ (stands at)
+fixed_total-requires-clause-covers c = (tail (goal.at.fixed_total-requires-clause-covers c).In-Some).covers
 
 pub fixed_total-requires-clause-low : goal.fixed_total-requires-clause-low
-fixed_total-requires-clause-low c = tail_is_low (goal.at.fixed_total-requires-clause-low c).In-Some
+fixed_total-requires-clause-low c = (tail (goal.at.fixed_total-requires-clause-low c).In-Some).low
 
 sound : (c : In-Some) → AreSound c.args.lines.now
 sound c =
-    let S : PosedProblem → Type 0 = AreSound in
-    subst S c.problem.ensures (record {
-      within = best_within c.problem.result.now c.admissible.ensures (c.bounds_are_sound.ensures.score c.problem.result.now);
-      one = one_score c.problem.result.now (λ cell a b. c.answer_is_unique.ensures c.problem.result.now cell a b c.admissible.ensures.checked.well_formed);
-    })
+    sound_by c.problem.result.now c.args.lines.now c.problem.ensures c.admissible.ensures (c.bounds_are_sound.ensures.score c.args.lines.now) (c.answer_is_unique.ensures c.args.lines.now)
 
 -- what the tokens leave fits
 left_fits : (c : In-Some) (behind : ℤ) → HasTotal c.args.lines.now (HasBestScore c.args.lines.now) c.in-Some.opened.arguments.tail.now c.in-Some.opened.arguments.tail_factors.now c.in-Some.opened.boundary.last c.args.to behind → FitsSigned w64 (c.args.total -ℤ behind)
@@ -58,7 +42,7 @@ left_fits c behind has =
     let p = c.args.lines.now in
     let line = c.in-Some.opened in
     let low = total_low p (sound c) c.args.arguments.now c.args.factors.now c.args.from c.args.to c.requires.low c.args.total c.requires.has in
-    let low' = total_low p (sound c) line.arguments.tail.now line.arguments.tail_factors.now line.boundary.last c.args.to (tail_is_low c) behind has in
+    let low' = total_low p (sound c) line.arguments.tail.now line.arguments.tail_factors.now line.boundary.last c.args.to (tail c).low behind has in
     fits_signed_from_abs w64 (c.args.total -ℤ behind) (omega (arith, ints))
 
 pub overflow_sub-front : goal.overflow_sub-front

@@ -9,10 +9,9 @@ use Rattle.viable_splits.specs.Placing.{on_span, ArePlaces}
 use Rattle.cell_answers.specs.LaidBy.{IsFirstEnd}
 use Rattle.cell_answers.specs.Totals.{HasTotal}
 use Rattle.score_numbers.specs.Greatest.{IsGreatestOf}
-use Rattle.cell_answers.proofs.Bounding.{best_within}
-use Rattle.cell_answers.proofs.Scoring.{one_score}
 use Rattle.cell_answers.proofs.FirstEnds.{AreLaid, AreSound, first_low, rest_laid, parts_low}
 use Rattle.cell_answers.proofs.LaidEnds.{HasTotalNowhere, none_valued, none_totalled, none_so_great, found_here, none_at_first, not_all_tried}
+use Rattle.cell_answers.proofs.Soundness.{fits_below, sound_by}
 use Rattle.cell_answers.proofs.answer_cuts.end_among.Goals as goal
 use Rattle.cell_answers.proofs.answer_cuts.end_among.Goals.{After-answer_is_unique, After-ends_of_first-places}
 
@@ -35,13 +34,7 @@ greatest c =
 
 sound : (c : After-answer_is_unique) → AreSound c.args.behind.now.lines.now
 sound c =
-    let p = c.args.behind.now.lines.now in
-    let same : c.problem.result.now ≡ p = c.problem.ensures in
-    let S : PosedProblem → Type 0 = AreSound in
-    subst S same (record {
-      within = best_within c.problem.result.now c.admissible.ensures (c.bounds_are_sound.ensures.score c.problem.result.now);
-      one = one_score c.problem.result.now (λ at a b. c.answer_is_unique.ensures c.problem.result.now at a b c.admissible.ensures.checked.well_formed);
-    })
+    sound_by c.problem.result.now c.args.behind.now.lines.now c.problem.ensures c.admissible.ensures (c.bounds_are_sound.ensures.score c.args.behind.now.lines.now) (c.answer_is_unique.ensures c.args.behind.now.lines.now)
 
 places : (c : After-ends_of_first-places) → ArePlaces c.args.behind.now.lines.now c.in-Some-Some.argument.now c.in-Some-Some.others.now c.args.from c.args.to c.ends_of_first-places.result
 places c = c.ends_of_first-places.ensures c.in-Some-Some.argument.now c.in-Some-Some.others.now c.in-Some-Some.ensures.cases.0
@@ -121,9 +114,6 @@ greatest_total-requires-clause-low c =
     let begun = (goal.at.greatest_total-requires-clause-low c).After-answer_is_unique in
     let l : c.loop-end.end ≤ c.args.to = omega (arith, (places at).up_to_last, c.loop-end-test.true) in
     (rest begun c.loop-end.end (fits at c.loop-end.end c.loop-end.auto.end c.loop-end-test.true) l).low
-
-fits_below : (z : ℤ) → nat_abs z ≤ greatest_score → FitsSigned w64 z
-fits_below z below = fits_signed_from_abs w64 z (omega arith)
 
 pub overflow_mul-factor : goal.overflow_mul-factor
 overflow_mul-factor c =

@@ -13,11 +13,11 @@ use Rattle.score_numbers.specs.Turned.{turned}
 use Rattle.cell_answers.specs.LaidBy.{AreFirstEnds}
 use Rattle.cell_answers.specs.Totals.{HasTotal}
 use Rattle.cell_answers.proofs.Alternatives.{TokensKeepBound, alternative_laid, score_low}
-use Rattle.cell_answers.proofs.Bounding.{best_within}
 use Rattle.cell_answers.proofs.FirstEnds.{AreLaid, AreSound, total_low}
 use Rattle.cell_answers.proofs.LaidEnds.{four_read}
 use Rattle.cell_answers.proofs.LaidSplits.{total_greatest, best_gives, answer_by_ends}
-use Rattle.cell_answers.proofs.Scoring.{one_score, turned_low}
+use Rattle.cell_answers.proofs.Scoring.{turned_low}
+use Rattle.cell_answers.proofs.Soundness.{fits_below, sound_of}
 use Rattle.cell_answers.proofs.answer_cuts.first_cuts.Goals as goal
 use Rattle.cell_answers.proofs.answer_cuts.first_cuts.Goals.{After-turned_factors-factors}
 
@@ -31,12 +31,7 @@ bellman : (c : After-turned_factors-factors) → Bellman c.args.lines.now
 bellman c = c.bellman.ensures.admissible c.args.lines.now (admissible c)
 
 sound : (c : After-turned_factors-factors) → AreSound c.args.lines.now
-sound c =
-    let p = c.args.lines.now in
-    record {
-      within = best_within p (admissible c) (c.bounds_are_sound.ensures.score p);
-      one = one_score p (λ at a b. c.answer_is_unique.ensures p at a b (admissible c).checked.well_formed);
-    }
+sound c = sound_of c.args.lines.now (admissible c) (c.bounds_are_sound.ensures.score c.args.lines.now) (c.answer_is_unique.ensures c.args.lines.now)
 
 some : (c : After-turned_factors-factors) (alternative : ℕ) → alternative < length (alternatives_of c.args.lines.now.grammar c.args.cell.rule) → 1 ≤ length (arguments_of c.args.lines.now.grammar c.args.cell.rule alternative)
 some c alternative in_range = c.alternatives_fit.ensures.arguments c.args.lines.now.grammar (admissible c).checked.well_formed c.args.cell.rule alternative in_range
@@ -138,9 +133,6 @@ pub turned-requires-2 : goal.turned-requires-2
 turned-requires-2 c =
     let fits : FitsSigned w64 c.term-term.result.now.constant = search rules in
     simp to_z-of_z (constant_is_low (goal.at.turned-requires-2 c).After-turned_factors-factors)
-
-fits_below : (z : ℤ) → nat_abs z ≤ greatest_score → FitsSigned w64 z
-fits_below z below = fits_signed_from_abs w64 z (omega arith)
 
 -- the difference that the code computes
 difference_is : (c : After-turned_factors-factors) (a b : ℤ) → a ≡ turned c.goal-goal.result c.args.best.score → b ≡ turned c.goal-goal.result c.term-term.result.now.constant → (a -ℤ b) ≡ the_total c

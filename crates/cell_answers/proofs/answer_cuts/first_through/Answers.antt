@@ -1,31 +1,16 @@
-use Rattle.std.proofs.Common.{ℕ, Option, Some, None, List, FitsSigned, w64, subst, arith, rules}
-use Rattle.std.specs.Prelude.{MatchOption}
-use Rattle.std.specs.List.{Contains}
+use Rattle.std.proofs.Common.{FitsSigned, w64, arith, rules}
 use Rattle.std.proofs.lemmas.Int.{to_z-of_z}
-use Rattle.adp_model.specs.PosedProblem.{PosedProblem}
-use Rattle.cell_answers.proofs.Bounding.{best_within}
 use Rattle.cell_answers.proofs.FirstEnds.{AreSound}
-use Rattle.cell_answers.proofs.Scoring.{one_score}
 use Rattle.cell_answers.proofs.Spaced.{short_spaced, medium_spaced, long_spaced}
-use Rattle.score_numbers.specs.FirstPlaces.{IsFirstAmong, IsFirstOf}
 use Rattle.score_numbers.specs.Packing.{short, medium, long}
 use Rattle.cell_answers.proofs.ScaledTotals.{short_numbers, medium_numbers, long_numbers, have_numbers, are_low, scaled_first}
+use Rattle.cell_answers.proofs.Soundness.{sound_by}
 use Rattle.cell_answers.proofs.answer_cuts.first_through.Goals as goal
 use Rattle.cell_answers.proofs.answer_cuts.first_through.Goals.{After-answer_is_unique}
 
 sound : (c : After-answer_is_unique) → AreSound c.args.lines.now
 sound c =
-    let S : PosedProblem → Type 0 = AreSound in
-    subst S c.problem.ensures (record {
-      within = best_within c.problem.result.now c.admissible.ensures (c.bounds_are_sound.ensures.score c.problem.result.now);
-      one = one_score c.problem.result.now (λ at a b. c.answer_is_unique.ensures c.problem.result.now at a b c.admissible.ensures.checked.well_formed);
-    })
-
--- the same in the words of a match
-matched : (places : List ℕ) (Holds : ℕ → Type 0) (found : Option ℕ) → IsFirstOf places Holds found
-    → MatchOption found ((place : ℕ) → Contains places place → Holds place → ⊥) (IsFirstAmong places Holds)
-matched places Holds None none = none
-matched places Holds (Some place) first = first
+    sound_by c.problem.result.now c.args.lines.now c.problem.ensures c.admissible.ensures (c.bounds_are_sound.ensures.score c.args.lines.now) (c.answer_is_unique.ensures c.args.lines.now)
 
 pub first_short-requires-clause-have : goal.first_short-requires-clause-have
 first_short-requires-clause-have c =
@@ -43,10 +28,9 @@ pub returns-in-Short-Short : goal.returns-in-Short-Short
 returns-in-Short-Short c =
     let at = (goal.at.returns-in-Short-Short c).After-answer_is_unique in
     let fits_total : FitsSigned w64 c.args.total = search rules in
-    matched c.args.line.now.boundary.places.now _ c.first_short.result
-    (scaled_first c.args.lines.now (sound at).one short short_spaced (omega arith) c.args.line.now c.requires.opened c.in-Some.scales c.in-Short-Short.first.now c.in-Short-Short.second.now
+    scaled_first c.args.lines.now (sound at).one short short_spaced (omega arith) c.args.line.now c.requires.opened c.in-Some.scales c.in-Short-Short.first.now c.in-Short-Short.second.now
     (short_numbers c.args.lines.now c.args.line.now c.requires.opened c.in-Some.scales c.in-Some.ensures c.in-Short-Short.first c.in-Short-Short.second c.in-Short-Short.is-0 c.in-Short-Short.is-1)
-    c.args.total c.first_short.result (simp to_z-of_z at c.first_short.ensures))
+    c.args.total c.first_short.result (simp to_z-of_z at c.first_short.ensures)
 
 pub first_medium-requires-clause-have : goal.first_medium-requires-clause-have
 first_medium-requires-clause-have c =
@@ -64,10 +48,9 @@ pub returns-in-Medium-Medium : goal.returns-in-Medium-Medium
 returns-in-Medium-Medium c =
     let at = (goal.at.returns-in-Medium-Medium c).After-answer_is_unique in
     let fits_total : FitsSigned w64 c.args.total = search rules in
-    matched c.args.line.now.boundary.places.now _ c.first_medium.result
-    (scaled_first c.args.lines.now (sound at).one medium medium_spaced (omega arith) c.args.line.now c.requires.opened c.in-Some.scales c.in-Medium-Medium.first.now c.in-Medium-Medium.second.now
+    scaled_first c.args.lines.now (sound at).one medium medium_spaced (omega arith) c.args.line.now c.requires.opened c.in-Some.scales c.in-Medium-Medium.first.now c.in-Medium-Medium.second.now
     (medium_numbers c.args.lines.now c.args.line.now c.requires.opened c.in-Some.scales c.in-Some.ensures c.in-Medium-Medium.first c.in-Medium-Medium.second c.in-Medium-Medium.is-0 c.in-Medium-Medium.is-1)
-    c.args.total c.first_medium.result (simp to_z-of_z at c.first_medium.ensures))
+    c.args.total c.first_medium.result (simp to_z-of_z at c.first_medium.ensures)
 
 pub first_long-requires-clause-have : goal.first_long-requires-clause-have
 first_long-requires-clause-have c =
@@ -85,10 +68,9 @@ pub returns-in-Long-Long : goal.returns-in-Long-Long
 returns-in-Long-Long c =
     let at = (goal.at.returns-in-Long-Long c).After-answer_is_unique in
     let fits_total : FitsSigned w64 c.args.total = search rules in
-    matched c.args.line.now.boundary.places.now _ c.first_long.result
-    (scaled_first c.args.lines.now (sound at).one long long_spaced (omega arith) c.args.line.now c.requires.opened c.in-Some.scales c.in-Long-Long.first.now c.in-Long-Long.second.now
+    scaled_first c.args.lines.now (sound at).one long long_spaced (omega arith) c.args.line.now c.requires.opened c.in-Some.scales c.in-Long-Long.first.now c.in-Long-Long.second.now
     (long_numbers c.args.lines.now c.args.line.now c.requires.opened c.in-Some.scales c.in-Some.ensures c.in-Long-Long.first c.in-Long-Long.second c.in-Long-Long.is-0 c.in-Long-Long.is-1)
-    c.args.total c.first_long.result (simp to_z-of_z at c.first_long.ensures))
+    c.args.total c.first_long.result (simp to_z-of_z at c.first_long.ensures)
 
 pub returns : goal.returns
 returns c =

@@ -4,14 +4,12 @@ use Rattle.std.proofs.lemmas.Bool.{cases_lt}
 use Rattle.std.proofs.lemmas.List.{get_or_default}
 use Rattle.std.proofs.lemmas.List.Elements.{Contains-get_or}
 use Rattle.std.proofs.lemmas.Int.{to_z-of_z}
-use Rattle.adp_model.specs.Bellman.{HasBestScore}
-use Rattle.cell_answers.specs.Through.{HasTotalThrough}
+use Rattle.cell_answers.specs.Through.{HasLineTotal}
 use Rattle.cell_answers.proofs.answer_cuts.first_valued.Goals as goal
 use Rattle.cell_answers.proofs.answer_cuts.first_valued.Goals.{After-are_worthless-weigh, in-Some+else-found-total, in_default}
 
 abbrev Through : After-are_worthless-weigh → ℤ → ℕ → Type 0
-Through c total place = HasTotalThrough c.args.lines.now (HasBestScore c.args.lines.now) c.args.line.now.arguments.first.now c.args.line.now.arguments.middle.now c.args.line.now.arguments.second.now c.args.line.now.arguments.first_factor c.args.line.now.arguments.middle_factors.now c.args.line.now.arguments.second_factor
-    c.args.line.now.from c.args.line.now.boundary.letters c.args.line.now.boundary.last place total
+Through c total place = HasLineTotal c.args.lines.now c.args.line.now place total
 
 -- at none of the places before this number is it the total
 abbrev IsNoneBefore : After-are_worthless-weigh → ℤ → ℕ → Type 0

@@ -13,11 +13,10 @@ use Rattle.adp_model.specs.Bellman.{HasBestScore}
 use Rattle.viable_splits.specs.Placing.{on_span, ArePlaces, Cover}
 use Rattle.cell_answers.specs.Totals.{HasTotal}
 use Rattle.score_numbers.specs.Greatest.{IsGreatestOf}
-use Rattle.cell_answers.proofs.Bounding.{best_within}
-use Rattle.cell_answers.proofs.Scoring.{one_score}
 use Rattle.cell_answers.proofs.FirstEnds.{AreLaid, AreSound, first_low, rest_laid, parts_low, found_more, unvalued_more, untotalled_more, none_first, all_found}
 use Rattle.split_lines.specs.Ends.{IsEndTold}
 use Rattle.cell_answers.proofs.OneEnds.{none_ends, one_ends, total_nowhere, none_from, greatest_from, fixed_value, empty_without}
+use Rattle.cell_answers.proofs.Soundness.{fits_below, sound_by}
 use Rattle.cell_answers.proofs.filling.+greatest_total.Goals as goal
 use Rattle.cell_answers.proofs.filling.+greatest_total.Goals.{After-answer_is_unique, After-ends_of_first-places, After-token_value, In_ok-end}
 
@@ -33,13 +32,7 @@ laid t c =
 
 sound : (t : ℕ) (c : After-answer_is_unique t) → AreSound c.args.known.now.lines.now
 sound t c =
-    let p = c.args.known.now.lines.now in
-    let same : c.problem.result.now ≡ p = c.problem.ensures in
-    let S : PosedProblem → Type 0 = AreSound in
-    subst S same (record {
-      within = best_within c.problem.result.now c.admissible.ensures (c.bounds_are_sound.ensures.score c.problem.result.now);
-      one = one_score c.problem.result.now (λ at a b. c.answer_is_unique.ensures c.problem.result.now at a b c.admissible.ensures.checked.well_formed);
-    })
+    sound_by c.problem.result.now c.args.known.now.lines.now c.problem.ensures c.admissible.ensures (c.bounds_are_sound.ensures.score c.args.known.now.lines.now) (c.answer_is_unique.ensures c.args.known.now.lines.now)
 
 places : (t : ℕ) (c : After-ends_of_first-places t) → ArePlaces c.args.known.now.lines.now c.in-Some-Some.argument.now c.in-Some-Some.others.now c.args.from c.args.to c.ends_of_first-places.result
 places t c = c.ends_of_first-places.ensures c.in-Some-Some.argument.now c.in-Some-Some.others.now c.in-Some-Some.ensures.cases.0
@@ -85,9 +78,6 @@ greatest_total-requires-in-loop-end t c =
     let later = c.line_begins_later.ensures p c.in-Some-Some.argument.now c.in-Some-Some.others.now c.args.known.now.line (option_copied c.line_here.result) c.args.ahead (subst (λ (given : Option Line). option_copied c.line_here.result ≡ (if c.args.ahead == 0 then given else None)) c.as_ref.ensures.value c.line_here.ensures) (ap option_copied c.in_default.is) (subst A c.in-Some-Some.ensures.cases.0 c.requires.line) in
     let ahead = subst N (sym c.saturating_sub-ahead.ensures) later in
     (search rules, (c.requires.same_problem, (ahead, (rest.weighted, (rest.span, (rest.scored, rest.low))))))
-
-fits_below : (z : ℤ) → nat_abs z ≤ greatest_score → FitsSigned w64 z
-fits_below z below = fits_signed_from_abs w64 z (omega arith)
 
 pub overflow_mul-factor : goal.overflow_mul-factor
 overflow_mul-factor t c =

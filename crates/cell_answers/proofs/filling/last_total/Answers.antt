@@ -11,10 +11,9 @@ use Rattle.viable_splits.specs.Placing.{on_span, Cover}
 use Rattle.cell_answers.specs.Entries.{HasEntry}
 use Rattle.cell_answers.specs.Totals.{HasTotal}
 use Rattle.score_numbers.specs.Greatest.{IsGreatestOf}
-use Rattle.cell_answers.proofs.Bounding.{best_within}
-use Rattle.cell_answers.proofs.Scoring.{one_score}
 use Rattle.cell_answers.proofs.FirstEnds.{AreLaid, AreSound, first_low, parts_low, first_known_entry}
 use Rattle.cell_answers.proofs.OneEnds.{total_nowhere, last_misses, greatest_from, unvalued_from, total_of_none, nothing_more}
+use Rattle.cell_answers.proofs.Soundness.{fits_below, sound_by}
 use Rattle.cell_answers.proofs.filling.last_total.Goals as goal
 use Rattle.cell_answers.proofs.filling.last_total.Goals.{After-answer_is_unique}
 
@@ -23,11 +22,7 @@ laid c = record { weighted = c.requires.weighted; span = c.requires.span; scored
 
 sound : (c : After-answer_is_unique) → AreSound c.args.lines.now
 sound c =
-    let S : PosedProblem → Type 0 = AreSound in
-    subst S c.problem.ensures (record {
-      within = best_within c.problem.result.now c.admissible.ensures (c.bounds_are_sound.ensures.score c.problem.result.now);
-      one = one_score c.problem.result.now (λ at a b. c.answer_is_unique.ensures c.problem.result.now at a b c.admissible.ensures.checked.well_formed);
-    })
+    sound_by c.problem.result.now c.args.lines.now c.problem.ensures c.admissible.ensures (c.bounds_are_sound.ensures.score c.args.lines.now) (c.answer_is_unique.ensures c.args.lines.now)
 
 -- it can end at one place alone
 only : (c : After-answer_is_unique) (other : ℕ) → FitsSpan c.args.lines.now (on_span c.args.argument.now c.args.from other) → Cover c.args.lines.now [] other c.args.to → other ≡ c.args.to
@@ -35,9 +30,6 @@ only c other fits cover = cover
 
 abbrev IsValueHere : After-answer_is_unique → ℤ → Type 0
 IsValueHere c = IsValue c.args.lines.now (HasBestScore c.args.lines.now) (on_span c.args.argument.now c.args.from c.args.to)
-
-fits_below : (z : ℤ) → nat_abs z ≤ greatest_score → FitsSigned w64 z
-fits_below z below = fits_signed_from_abs w64 z (omega arith)
 
 pub returns-then-not-fits : goal.returns-then-not-fits
 returns-then-not-fits c =

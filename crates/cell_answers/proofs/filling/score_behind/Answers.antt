@@ -8,11 +8,10 @@ use Rattle.viable_splits.specs.Placing.{Cover}
 use Rattle.cell_answers.specs.Totals.{HasTotal, HasTurnedScore, AreLow, AreWeighted}
 use Rattle.score_numbers.specs.Greatest.{IsGreatestOf}
 use Rattle.cell_answers.proofs.Alternatives.{TokensKeepBound, alternative_laid}
-use Rattle.cell_answers.proofs.Bounding.{best_within}
 use Rattle.cell_answers.proofs.FirstEnds.{AreLaid, AreSound}
 use Rattle.cell_answers.proofs.FrontScores.{both, front_factors, other_factors, kept_laid, one_end, no_score, score_is, all_low}
 use Rattle.cell_answers.proofs.Fronts.{others_laid, front_weighted, front_low, total_without_others, greatest_with_front, both_low}
-use Rattle.cell_answers.proofs.Scoring.{one_score}
+use Rattle.cell_answers.proofs.Soundness.{fits_below, sound_of}
 use Rattle.cell_answers.proofs.filling.score_behind.Goals as goal
 use Rattle.cell_answers.proofs.filling.score_behind.Goals.{After-arguments_are_few_and_known}
 
@@ -23,12 +22,7 @@ bounded : (c : After-arguments_are_few_and_known) → TokensKeepBound c.args.lin
 bounded c = c.words_keep_their_score_bound.ensures.token c.args.lines.now
 
 sound : (c : After-arguments_are_few_and_known) → AreSound c.args.lines.now
-sound c =
-    let p = c.args.lines.now in
-    record {
-      within = best_within p (admissible c) (c.bounds_are_sound.ensures.score p);
-      one = one_score p (λ at a b. c.answer_is_unique.ensures p at a b (admissible c).checked.well_formed);
-    }
+sound c = sound_of c.args.lines.now (admissible c) (c.bounds_are_sound.ensures.score c.args.lines.now) (c.answer_is_unique.ensures c.args.lines.now)
 
 -- the factors that are kept
 abbrev in_front : After-arguments_are_few_and_known → List ℤ
@@ -99,9 +93,6 @@ between_total-front-requires-clause-low c =
     let L : List ℤ → Type 0 = λ factors. AreLow p kept.front.now factors c.args.cell.from c.args.from in
     subst L (sym c.front_factors.ensures)
     (front_low p c.args.scores.now kept.front.now kept.others.now (in_front at) (behind at) c.args.cell.from c.args.from c.args.cell.to is.in_front.fixed is.front_each (laid at) c.requires.within c.requires.covers (only at) c.in-Some.rest has)
-
-fits_below : (z : ℤ) → nat_abs z ≤ greatest_score → FitsSigned w64 z
-fits_below z below = fits_signed_from_abs w64 z (omega arith)
 
 -- the total of all arguments
 record AreFound (c : After-arguments_are_few_and_known) (front rest : ℤ) : Type 0 where
