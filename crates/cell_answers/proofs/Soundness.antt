@@ -1,5 +1,5 @@
 -- What the laws on bounds of scores and on answers tell of best scores, and that low numbers fit.
-use Rattle.std.proofs.Common.{◌≡◌, ℕ, ◌-◌, ◌≤◌, ℤ, IsTrue, Option, List, length, nat_abs, FitsSigned, w64, subst, arith}
+use Rattle.std.proofs.Common.{◌≡◌, ◌≤◌, ℤ, IsTrue, nat_abs, FitsSigned, w64, subst, arith}
 use Rattle.std.proofs.lemmas.Int.{fits_signed_from_abs}
 use Rattle.adp_model.specs.declared.cell.Answer.{Answer}
 use Rattle.adp_model.specs.declared.cell.Cell.{Cell}

@@ -1,6 +1,6 @@
 use Rattle.std.proofs.Common.{◌≡◌, ◌+◌, ◌≤◌, ℕ, ℤ, ◌+ℤ◌, ◌*ℤ◌, ◌∷◌, FitsSigned, w64, nat_abs, refl, sym, subst, arith, rules}
 use Rattle.std.specs.List.{AllByRecursion}
-use Rattle.std.proofs.lemmas.Int.{to_z-of_z, fits_signed_from_abs}
+use Rattle.std.proofs.lemmas.Int.{to_z-of_z}
 use Rattle.adp_model.specs.ProblemFields.{greatest_score}
 use Rattle.adp_model.specs.Tokens.{letters_between, token_value}
 use Rattle.adp_model.specs.Bellman.{HasBestScore}

@@ -1,7 +1,5 @@
-use Rattle.std.proofs.Common.{◌≤◌, ℤ, ◌+ℤ◌, Some, FitsSigned, w64, nat_abs, sym, subst, arith, rules}
-use Rattle.std.proofs.lemmas.Int.{to_z-of_z, fits_signed_from_abs}
-use Rattle.adp_model.specs.PosedProblem.{PosedProblem}
-use Rattle.adp_model.specs.ProblemFields.{greatest_score}
+use Rattle.std.proofs.Common.{ℤ, ◌+ℤ◌, Some, FitsSigned, w64, sym, subst, rules}
+use Rattle.std.proofs.lemmas.Int.{to_z-of_z}
 use Rattle.adp_model.specs.Bellman.{HasBestScore}
 use Rattle.cell_answers.specs.Totals.{HasTotal}
 use Rattle.score_numbers.specs.Greatest.{IsGreatestOf}

@@ -1,5 +1,4 @@
-use Rattle.std.proofs.Common.{subst, arith}
-use Rattle.adp_model.specs.PosedProblem.{PosedProblem}
+use Rattle.std.proofs.Common.{arith}
 use Rattle.cell_answers.proofs.FirstEnds.{AreSound}
 use Rattle.cell_answers.proofs.Spaced.{short_spaced, medium_spaced, long_spaced}
 use Rattle.score_numbers.specs.Packing.{short, medium, long}

@@ -1,11 +1,10 @@
-use Rattle.std.proofs.Common.{ℕ, ℤ, ◌-ℤ◌, get_or, FitsSigned, w64, subst, arith, rules}
+use Rattle.std.proofs.Common.{ℕ, ℤ, ◌-ℤ◌, FitsSigned, w64, arith, rules}
 use Rattle.std.specs.List.{Contains}
 use Rattle.std.proofs.lemmas.Int.{ints, to_z-of_z, fits_signed_from_abs}
-use Rattle.adp_model.specs.PosedProblem.{PosedProblem}
 use Rattle.adp_model.specs.Bellman.{HasBestScore}
 use Rattle.score_numbers.specs.FirstPlaces.{IsFirstAmong}
 use Rattle.cell_answers.specs.LaidBy.{IsFirstEnd}
-use Rattle.cell_answers.specs.Totals.{AreLow, HasTotal}
+use Rattle.cell_answers.specs.Totals.{HasTotal}
 use Rattle.cell_answers.proofs.FirstEnds.{AreLaid, AreSound, total_low}
 use Rattle.cell_answers.proofs.FirstTotals.{Through, first_left, not_nowhere}
 use Rattle.cell_answers.proofs.OpenedLines.{IsTail, opened_holds, opened_tail, opened_whole}

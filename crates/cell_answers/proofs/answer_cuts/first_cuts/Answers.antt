@@ -1,5 +1,5 @@
 use Rattle.std.proofs.Common.{◌≡◌, ◌<◌, ◌≤◌, ◌+◌, ℕ, ℤ, ◌+ℤ◌, ◌-ℤ◌, Some, List, [], ◌∷◌, length, get_or, take, map, FitsSigned, w64, to_z, of_z, nat_abs, sym, ap, subst, ◌∙◌, arith, rules}
-use Rattle.std.proofs.lemmas.Int.{ints, to_z-of_z, fits_signed_from_abs}
+use Rattle.std.proofs.lemmas.Int.{ints, to_z-of_z}
 use Rattle.adp_model.specs.declared.grammar.Arg.{Arg}
 use Rattle.adp_model.specs.declared.grammar.Goal.{Goal}
 use Rattle.adp_model.specs.declared.grammar.Linear.{Linear}

@@ -1,5 +1,5 @@
-use Rattle.std.proofs.Common.{◌≡◌, ◌≤◌, ℕ, ℤ, ◌+ℤ◌, Some, List, ◌++◌, FitsSigned, w64, nat_abs, sym, subst, arith, rules}
-use Rattle.std.proofs.lemmas.Int.{to_z-of_z, fits_signed_from_abs}
+use Rattle.std.proofs.Common.{◌≡◌, ◌≤◌, ℕ, ℤ, ◌+ℤ◌, Some, List, ◌++◌, FitsSigned, w64, nat_abs, sym, subst, rules}
+use Rattle.std.proofs.lemmas.Int.{to_z-of_z}
 use Rattle.adp_model.specs.PosedProblem.{PosedProblem}
 use Rattle.adp_model.specs.ProblemFields.{greatest_score, IsAdmissible}
 use Rattle.adp_model.specs.Parts.{algebra_of}
