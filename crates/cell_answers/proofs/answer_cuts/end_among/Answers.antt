@@ -1,15 +1,18 @@
 use Rattle.std.proofs.Common.{◌≡◌, ◌+◌, ◌<◌, ◌≤◌, ℕ, ℤ, ◌+ℤ◌, ◌*ℤ◌, Some, List, ◌∷◌, ap, FitsSigned, w64, to_z, of_z, sym, subst, ◌∙◌, arith, rules}
+use Rattle.std.specs.declared.ops.Range.{Range}
 use Rattle.std.proofs.lemmas.Int.{to_z-of_z}
 use Rattle.adp_model.specs.declared.grammar.Arg.{Arg}
-use Rattle.adp_model.specs.Splits.{FitsSpan}
+use Rattle.adp_model.specs.Splits.{AtRule, FitsSpan}
+use Rattle.adp_model.specs.FirstSplit.{IsValue}
 use Rattle.adp_model.specs.Bellman.{HasBestScore}
 use Rattle.viable_splits.specs.Placing.{on_span, ArePlaces}
+use Rattle.cell_answers.specs.Entries.{HasEntry}
 use Rattle.cell_answers.specs.LaidBy.{IsFirstEnd}
 use Rattle.cell_answers.specs.Totals.{HasTotal}
 use Rattle.score_numbers.specs.Greatest.{IsGreatestOf}
-use Rattle.cell_answers.proofs.FirstEnds.{AreLaid, AreSound, first_low, rest_laid, parts_low}
+use Rattle.cell_answers.proofs.FirstEnds.{AreLaid, AreSound, first_low, rest_laid}
 use Rattle.cell_answers.proofs.LaidEnds.{HasTotalNowhere, none_valued, none_totalled, none_so_great, found_here, none_at_first, not_all_tried}
-use Rattle.cell_answers.proofs.Soundness.{fits_below, sound_by}
+use Rattle.cell_answers.proofs.Soundness.{parts_fit, same_bits, sound_by}
 use Rattle.cell_answers.proofs.answer_cuts.end_among.Goals as goal
 use Rattle.cell_answers.proofs.answer_cuts.end_among.Goals.{After-answer_is_unique, After-ends_of_first-places}
 
@@ -89,98 +92,80 @@ loop-end-preserved-in_default-greatest_total c =
     (fits at end c.loop-end.auto.end c.loop-end-test.true) c.in_default-greatest_total.ensures)
 
 -- the arguments behind an end
-rest : (c : After-answer_is_unique) (end : ℕ) → FitsSpan c.args.behind.now.lines.now (on_span c.in-Some-Some.argument.now c.args.from end) → end ≤ c.args.to → AreLaid c.args.behind.now.lines.now c.args.behind.now.scores.now c.in-Some-Some.others.now c.in-Some-Some.more.now end c.args.to
-rest c end end_fits l = rest_laid c.args.behind.now.lines.now c.args.behind.now.scores.now c.in-Some-Some.argument.now c.in-Some-Some.others.now c.in-Some-Some.factor.now c.in-Some-Some.more.now c.args.from c.args.to (laid c) end end_fits l
+rest : (c : After-answer_is_unique) (range : Range ℕ) → ArePlaces c.args.behind.now.lines.now c.in-Some-Some.argument.now c.in-Some-Some.others.now c.args.from c.args.to range → (end : ℕ) → range.start ≤ end → end < range.end → AreLaid c.args.behind.now.lines.now c.args.behind.now.scores.now c.in-Some-Some.others.now c.in-Some-Some.more.now end c.args.to
+rest c range are end l m = rest_laid c.args.behind.now.lines.now c.args.behind.now.scores.now c.in-Some-Some.argument.now c.in-Some-Some.others.now c.in-Some-Some.factor.now c.in-Some-Some.more.now c.args.from c.args.to (laid c) end (are.fit end l m) (omega (arith, are.up_to_last, m))
 
 pub greatest_total-requires-clause-weighted : goal.greatest_total-requires-clause-weighted
 greatest_total-requires-clause-weighted c =
-    let at = (goal.at.greatest_total-requires-clause-weighted c).After-ends_of_first-places in
-    let begun = (goal.at.greatest_total-requires-clause-weighted c).After-answer_is_unique in
-    let l : c.loop-end.end ≤ c.args.to = omega (arith, (places at).up_to_last, c.loop-end-test.true) in
-    (rest begun c.loop-end.end (fits at c.loop-end.end c.loop-end.auto.end c.loop-end-test.true) l).weighted
+    let it = goal.at.greatest_total-requires-clause-weighted c in
+    (rest it.After-answer_is_unique c.ends_of_first-places.result (places it.After-ends_of_first-places) c.loop-end.end c.loop-end.auto.end c.loop-end-test.true).weighted
 
 pub greatest_total-requires-clause-scored : goal.greatest_total-requires-clause-scored
 greatest_total-requires-clause-scored c =
-    let at = (goal.at.greatest_total-requires-clause-scored c).After-ends_of_first-places in
-    let begun = (goal.at.greatest_total-requires-clause-scored c).After-answer_is_unique in
-    let l : c.loop-end.end ≤ c.args.to = omega (arith, (places at).up_to_last, c.loop-end-test.true) in
-    (rest begun c.loop-end.end (fits at c.loop-end.end c.loop-end.auto.end c.loop-end-test.true) l).scored
+    let it = goal.at.greatest_total-requires-clause-scored c in
+    (rest it.After-answer_is_unique c.ends_of_first-places.result (places it.After-ends_of_first-places) c.loop-end.end c.loop-end.auto.end c.loop-end-test.true).scored
 
 pub greatest_total-requires-clause-low : goal.greatest_total-requires-clause-low
 greatest_total-requires-clause-low c =
-    let at = (goal.at.greatest_total-requires-clause-low c).After-ends_of_first-places in
-    let begun = (goal.at.greatest_total-requires-clause-low c).After-answer_is_unique in
-    let l : c.loop-end.end ≤ c.args.to = omega (arith, (places at).up_to_last, c.loop-end-test.true) in
-    (rest begun c.loop-end.end (fits at c.loop-end.end c.loop-end.auto.end c.loop-end-test.true) l).low
+    let it = goal.at.greatest_total-requires-clause-low c in
+    (rest it.After-answer_is_unique c.ends_of_first-places.result (places it.After-ends_of_first-places) c.loop-end.end c.loop-end.auto.end c.loop-end-test.true).low
+
+-- the product of the first argument and the total from an end on fit
+fitting : (c : After-answer_is_unique) (end : ℕ) → FitsSpan c.args.behind.now.lines.now (on_span c.in-Some-Some.argument.now c.args.from end) → (value : ℤ) → (AtRule (HasEntry c.args.behind.now.scores.now) (on_span c.in-Some-Some.argument.now c.args.from end) → IsValue c.args.behind.now.lines.now (HasBestScore c.args.behind.now.lines.now) (on_span c.in-Some-Some.argument.now c.args.from end) value)
+    → (rest : ℤ) → HasTotal c.args.behind.now.lines.now (HasBestScore c.args.behind.now.lines.now) c.in-Some-Some.others.now c.in-Some-Some.more.now end c.args.to rest → FitsSigned w64 (c.in-Some-Some.factor.now *ℤ value) × FitsSigned w64 rest × FitsSigned w64 ((c.in-Some-Some.factor.now *ℤ value) +ℤ rest)
+fitting c end end_fits value told rest total = parts_fit c.args.behind.now.lines.now c.args.behind.now.scores.now c.in-Some-Some.argument.now c.in-Some-Some.others.now c.in-Some-Some.factor.now c.in-Some-Some.more.now c.args.from c.args.to (laid c) end end_fits (sound c) value told rest total
 
 pub overflow_mul-factor : goal.overflow_mul-factor
 overflow_mul-factor c =
     let at = (goal.at.overflow_mul-factor c).After-ends_of_first-places in
     let begun = (goal.at.overflow_mul-factor c).After-answer_is_unique in
-    let p = c.args.behind.now.lines.now in
-    let table = c.args.behind.now.scores.now in
     let end = c.loop-end.end in
     let end_fits = fits at end c.loop-end.auto.end c.loop-end-test.true in
-    let argument = c.in-Some-Some.argument.now in
-    let others = c.in-Some-Some.others.now in
     let factor = c.in-Some-Some.factor.now in
-    let more = c.in-Some-Some.more.now in
     let value = c.in-Some.value in
     let rest = c.in-Some-greatest_total.rest in
-    let it = parts_low p table argument others factor more c.args.from c.args.to (laid begun) end end_fits (sound begun) value (λ entry. c.in-Some.ensures entry) rest c.in-Some-greatest_total.ensures.0 in
+    let it = fitting begun end end_fits value (λ entry. c.in-Some.ensures entry) rest c.in-Some-greatest_total.ensures.0 in
     let fits_factor : FitsSigned w64 factor = search rules in
     let fits_value : FitsSigned w64 value = search rules in
-    let fits_product : FitsSigned w64 (factor *ℤ value) = fits_below (factor *ℤ value) it.0 in
-    let fits_rest : FitsSigned w64 rest = search rules in
-    let fits_sum : FitsSigned w64 ((factor *ℤ value) +ℤ rest) = fits_below ((factor *ℤ value) +ℤ rest) it.2 in
-    simp to_z-of_z (fits_below (factor *ℤ value) it.0)
+    simp to_z-of_z it.0
 
 pub overflow_add-factor : goal.overflow_add-factor
 overflow_add-factor c =
     let at = (goal.at.overflow_add-factor c).After-ends_of_first-places in
     let begun = (goal.at.overflow_add-factor c).After-answer_is_unique in
-    let p = c.args.behind.now.lines.now in
-    let table = c.args.behind.now.scores.now in
     let end = c.loop-end.end in
     let end_fits = fits at end c.loop-end.auto.end c.loop-end-test.true in
-    let argument = c.in-Some-Some.argument.now in
-    let others = c.in-Some-Some.others.now in
     let factor = c.in-Some-Some.factor.now in
-    let more = c.in-Some-Some.more.now in
     let value = c.in-Some.value in
     let rest = c.in-Some-greatest_total.rest in
-    let it = parts_low p table argument others factor more c.args.from c.args.to (laid begun) end end_fits (sound begun) value (λ entry. c.in-Some.ensures entry) rest c.in-Some-greatest_total.ensures.0 in
+    let it = fitting begun end end_fits value (λ entry. c.in-Some.ensures entry) rest c.in-Some-greatest_total.ensures.0 in
     let fits_factor : FitsSigned w64 factor = search rules in
     let fits_value : FitsSigned w64 value = search rules in
-    let fits_product : FitsSigned w64 (factor *ℤ value) = fits_below (factor *ℤ value) it.0 in
-    let fits_rest : FitsSigned w64 rest = search rules in
-    let fits_sum : FitsSigned w64 ((factor *ℤ value) +ℤ rest) = fits_below ((factor *ℤ value) +ℤ rest) it.2 in
-    simp to_z-of_z (fits_below ((factor *ℤ value) +ℤ rest) it.2)
+    let fits_product : FitsSigned w64 (factor *ℤ value) = it.0 in
+    let fits_rest : FitsSigned w64 rest = it.1 in
+    simp to_z-of_z it.2
 
 pub returns-then-factor-value : goal.returns-then-factor-value
 returns-then-factor-value c =
     let at = (goal.at.returns-then-factor-value c).After-ends_of_first-places in
     let begun = (goal.at.returns-then-factor-value c).After-answer_is_unique in
-    let p = c.args.behind.now.lines.now in
-    let table = c.args.behind.now.scores.now in
     let end = c.loop-end.end in
     let end_fits = fits at end c.loop-end.auto.end c.loop-end-test.true in
-    let argument = c.in-Some-Some.argument.now in
-    let others = c.in-Some-Some.others.now in
     let factor = c.in-Some-Some.factor.now in
-    let more = c.in-Some-Some.more.now in
     let value = c.in-Some.value in
     let rest = c.in-Some-greatest_total.rest in
-    let it = parts_low p table argument others factor more c.args.from c.args.to (laid begun) end end_fits (sound begun) value (λ entry. c.in-Some.ensures entry) rest c.in-Some-greatest_total.ensures.0 in
+    let it = fitting begun end end_fits value (λ entry. c.in-Some.ensures entry) rest c.in-Some-greatest_total.ensures.0 in
     let fits_factor : FitsSigned w64 factor = search rules in
     let fits_value : FitsSigned w64 value = search rules in
-    let fits_product : FitsSigned w64 (factor *ℤ value) = fits_below (factor *ℤ value) it.0 in
-    let fits_rest : FitsSigned w64 rest = search rules in
-    let fits_sum : FitsSigned w64 ((factor *ℤ value) +ℤ rest) = fits_below ((factor *ℤ value) +ℤ rest) it.2 in
+    let fits_product : FitsSigned w64 (factor *ℤ value) = it.0 in
+    let fits_rest : FitsSigned w64 rest = it.1 in
+    let fits_sum : FitsSigned w64 ((factor *ℤ value) +ℤ rest) = it.2 in
+    let p = c.args.behind.now.lines.now in
+    let more = c.in-Some-Some.more.now in
     let fits_total : FitsSigned w64 c.args.total = search rules in
     let told : of_z w64 ((factor *ℤ value) +ℤ rest) ≡ of_z w64 c.args.total = simp to_z-of_z at c.if-factor-value.true in
-    let same : ((factor *ℤ value) +ℤ rest) ≡ c.args.total = sym (to_z-of_z w64 ((factor *ℤ value) +ℤ rest) fits_sum) ∙ ap (to_z w64) told ∙ to_z-of_z w64 c.args.total fits_total in
-    let found = found_here p table (sound begun) argument others factor more c.args.from c.args.to c.args.total (laid begun) (greatest begun) end (before begun end c.loop-end.invariant) end_fits value rest (λ entry. c.in-Some.ensures entry) c.in-Some-greatest_total.ensures same in
+    let same = same_bits ((factor *ℤ value) +ℤ rest) c.args.total fits_sum fits_total told in
+    let found = found_here p c.args.behind.now.scores.now (sound begun) c.in-Some-Some.argument.now c.in-Some-Some.others.now factor more c.args.from c.args.to c.args.total (laid begun) (greatest begun) end (before begun end c.loop-end.invariant) end_fits value rest (λ entry. c.in-Some.ensures entry) c.in-Some-greatest_total.ensures same in
     let A : List Arg → Type 0 = λ arguments. IsFirstEnd p arguments (factor ∷ more) c.args.from c.args.to c.args.total end in
     let F : List ℤ → Type 0 = λ factors. IsFirstEnd p c.args.arguments.now factors c.args.from c.args.to c.args.total end in
     subst F (sym c.in-Some-Some.ensures'.cases.0) (subst A (sym c.in-Some-Some.ensures.cases.0) found)
@@ -189,26 +174,21 @@ pub loop-end-preserved : goal.loop-end-preserved
 loop-end-preserved c =
     let at = (goal.at.loop-end-preserved c).After-ends_of_first-places in
     let begun = (goal.at.loop-end-preserved c).After-answer_is_unique in
-    let p = c.args.behind.now.lines.now in
-    let table = c.args.behind.now.scores.now in
     let end = c.loop-end.end in
     let end_fits = fits at end c.loop-end.auto.end c.loop-end-test.true in
-    let argument = c.in-Some-Some.argument.now in
-    let others = c.in-Some-Some.others.now in
     let factor = c.in-Some-Some.factor.now in
-    let more = c.in-Some-Some.more.now in
     let value = c.in-Some.value in
     let rest = c.in-Some-greatest_total.rest in
-    let it = parts_low p table argument others factor more c.args.from c.args.to (laid begun) end end_fits (sound begun) value (λ entry. c.in-Some.ensures entry) rest c.in-Some-greatest_total.ensures.0 in
+    let it = fitting begun end end_fits value (λ entry. c.in-Some.ensures entry) rest c.in-Some-greatest_total.ensures.0 in
     let fits_factor : FitsSigned w64 factor = search rules in
     let fits_value : FitsSigned w64 value = search rules in
-    let fits_product : FitsSigned w64 (factor *ℤ value) = fits_below (factor *ℤ value) it.0 in
-    let fits_rest : FitsSigned w64 rest = search rules in
-    let fits_sum : FitsSigned w64 ((factor *ℤ value) +ℤ rest) = fits_below ((factor *ℤ value) +ℤ rest) it.2 in
+    let fits_product : FitsSigned w64 (factor *ℤ value) = it.0 in
+    let fits_rest : FitsSigned w64 rest = it.1 in
+    let fits_sum : FitsSigned w64 ((factor *ℤ value) +ℤ rest) = it.2 in
     let told : of_z w64 ((factor *ℤ value) +ℤ rest) ≡ of_z w64 c.args.total → ⊥ = simp to_z-of_z at c.if-factor-value.false in
     let differs : ((factor *ℤ value) +ℤ rest) ≡ c.args.total → ⊥ = λ e. told (ap (of_z w64) e) in
     after begun (end + 1)
-    (none_so_great p table (sound begun) argument others factor more c.args.from c.args.to c.args.total (laid begun) (greatest begun) end (before begun end c.loop-end.invariant) end_fits value rest (λ entry. c.in-Some.ensures entry) c.in-Some-greatest_total.ensures differs)
+    (none_so_great c.args.behind.now.lines.now c.args.behind.now.scores.now (sound begun) c.in-Some-Some.argument.now c.in-Some-Some.others.now factor c.in-Some-Some.more.now c.args.from c.args.to c.args.total (laid begun) (greatest begun) end (before begun end c.loop-end.invariant) end_fits value rest (λ entry. c.in-Some.ensures entry) c.in-Some-greatest_total.ensures differs)
 
 pub unreachable-requires-2 : goal.unreachable-requires-2
 unreachable-requires-2 c =

@@ -4,6 +4,7 @@ use Rattle.std.proofs.lemmas.List.{get_or_default}
 use Rattle.std.proofs.lemmas.List.Elements.{Contains-get_or}
 use Rattle.std.proofs.lemmas.Int.{to_z-of_z}
 use Rattle.cell_answers.specs.Through.{HasLineTotal}
+use Rattle.cell_answers.proofs.Soundness.{same_bits}
 use Rattle.cell_answers.proofs.answer_cuts.first_valued.Goals as goal
 use Rattle.cell_answers.proofs.answer_cuts.first_valued.Goals.{After-are_worthless-weigh, in-Some+else-found-total, in_default}
 
@@ -13,10 +14,6 @@ Through c total place = HasLineTotal c.args.lines.now c.args.line.now place tota
 -- at none of the places before this number is it the total
 abbrev IsNoneBefore : After-are_worthless-weigh → ℤ → ℕ → Type 0
 IsNoneBefore c total count = (number : ℕ) → number < count → Through c total (get_or c.args.line.now.boundary.places.now number 0) → ⊥
-
--- numbers are the same where their bits are
-same_number : (a b : ℤ) → FitsSigned w64 a → FitsSigned w64 b → of_z w64 a ≡ of_z w64 b → a ≡ b
-same_number a b fits_a fits_b same = sym (to_z-of_z w64 a fits_a) ∙ ap (to_z w64) same ∙ to_z-of_z w64 b fits_b
 
 pub total_through-through-requires-clause-stands : goal.total_through-through-requires-clause-stands
 total_through-through-requires-clause-stands c = Contains-get_or c.args.line.now.boundary.places.now c.loop-place.place-index 0 c.loop-place-test.true
@@ -29,7 +26,7 @@ returns-then-found-total c =
     let place = get_or places count 0 in
     let fits_total : FitsSigned w64 c.args.total = search rules in
     let fits_found : FitsSigned w64 c.in-Some.found = search rules in
-    let same = same_number c.in-Some.found c.args.total fits_found fits_total c.if-found-total.true in
+    let same = same_bits c.in-Some.found c.args.total fits_found fits_total c.if-found-total.true in
     let none : IsNoneBefore at (to_z w64 (of_z w64 c.args.total)) count = c.loop-place.invariant in
     let none' : IsNoneBefore at c.args.total count = subst (λ total. IsNoneBefore at total count) (to_z-of_z w64 c.args.total fits_total) none in
     let there : Through at c.in-Some.found place = c.in-Some.ensures.greatest.0 in

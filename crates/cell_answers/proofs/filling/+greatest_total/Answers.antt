@@ -1,20 +1,21 @@
-use Rattle.std.proofs.Common.{◌≡◌, ◌<◌, ◌≤◌, ◌⊎◌, ℕ, ℤ, ◌+ℤ◌, ◌*ℤ◌, Option, Some, None, List, [], ◌∷◌, length, drop, ap, FitsSigned, w64, sym, subst, arith, rules}
+use Rattle.std.proofs.Common.{◌≡◌, ◌<◌, ◌≤◌, ◌⊎◌, ℕ, ℤ, ◌-◌, ◌+ℤ◌, ◌*ℤ◌, Option, Some, None, List, [], ◌∷◌, length, drop, ap, FitsSigned, w64, sym, subst, arith, rules}
 use Rattle.std.specs.Option.{option_copied}
 use Rattle.std.specs.Prelude.{IfSome, ◌==◌, if◌then◌else◌}
 use Rattle.std.proofs.lemmas.Int.{to_z-of_z}
 use Rattle.adp_model.specs.declared.grammar.Arg.{Arg}
 use Rattle.split_lines.specs.declared.lines.Line.{Line}
 use Rattle.split_lines.specs.Lines.{IsLine}
-use Rattle.adp_model.specs.Splits.{FitsSpan}
+use Rattle.adp_model.specs.Splits.{AtRule, FitsSpan}
 use Rattle.adp_model.specs.FirstSplit.{IsValue}
 use Rattle.adp_model.specs.Bellman.{HasBestScore}
 use Rattle.viable_splits.specs.Placing.{on_span, ArePlaces, Cover}
+use Rattle.cell_answers.specs.Entries.{HasEntry}
 use Rattle.cell_answers.specs.Totals.{HasTotal}
 use Rattle.score_numbers.specs.Greatest.{IsGreatestOf}
-use Rattle.cell_answers.proofs.FirstEnds.{AreLaid, AreSound, first_low, rest_laid, parts_low, found_more, unvalued_more, untotalled_more, none_first, all_found}
+use Rattle.cell_answers.proofs.FirstEnds.{AreLaid, AreSound, first_low, rest_laid, found_more, unvalued_more, untotalled_more, none_first, all_found}
 use Rattle.split_lines.specs.Ends.{IsEndTold}
 use Rattle.cell_answers.proofs.OneEnds.{none_ends, one_ends, total_nowhere, none_from, greatest_from, fixed_value, empty_without}
-use Rattle.cell_answers.proofs.Soundness.{fits_below, sound_by}
+use Rattle.cell_answers.proofs.Soundness.{parts_fit, sound_by}
 use Rattle.cell_answers.proofs.filling.+greatest_total.Goals as goal
 use Rattle.cell_answers.proofs.filling.+greatest_total.Goals.{After-answer_is_unique, After-ends_of_first-places, After-token_value, In_ok-end}
 
@@ -62,6 +63,12 @@ returns t c =
     let F : List ℤ → Type 0 = λ factors. IsGreatestOf (HasTotal p (HasBestScore p) c.args.arguments.now factors c.args.from c.args.to) c.loop-end.greatest in
     subst F (sym c.in-Some-Some.ensures'.cases.0) (subst A (sym c.in-Some-Some.ensures.cases.0) found)
 
+-- the line of the others
+later_line : (t : ℕ) (c : After-answer_is_unique t) → IfSome c.args.known.now.line (λ line. IsLine c.args.known.now.lines.now (drop (c.args.ahead - 1) c.in-Some-Some.others.now) line)
+later_line t c =
+    let A : List Arg → Type 0 = λ arguments. IfSome c.args.known.now.line (λ line. IsLine c.args.known.now.lines.now (drop c.args.ahead arguments) line) in
+    c.line_begins_later.ensures c.args.known.now.lines.now c.in-Some-Some.argument.now c.in-Some-Some.others.now c.args.known.now.line (option_copied c.line_here.result) c.args.ahead (subst (λ (given : Option Line). option_copied c.line_here.result ≡ (if c.args.ahead == 0 then given else None)) c.as_ref.ensures.value c.line_here.ensures) (ap option_copied c.in_default.is) (subst A c.in-Some-Some.ensures.cases.0 c.requires.line)
+
 pub greatest_total-requires-in-loop-end : goal.greatest_total-requires-in-loop-end
 greatest_total-requires-in-loop-end t c =
     let at = (goal.at.greatest_total-requires-in-loop-end t c).After-ends_of_first-places in
@@ -71,58 +78,62 @@ greatest_total-requires-in-loop-end t c =
     let l : end ≤ c.args.to = omega (arith, (places t at).up_to_last, c.loop-end-test.true) in
     let rest = rest_laid p c.args.known.now.scores.now c.in-Some-Some.argument.now c.in-Some-Some.others.now c.in-Some-Some.factor.now c.in-Some-Some.factors.now c.args.from c.args.to (laid t begun) end (fits t at end c.loop-end.auto.end c.loop-end-test.true) l in
     let fewer = c.in-Some-Some.ensures.cases.1 in
-    let A : List Arg → Type 0 = λ arguments. IfSome c.args.known.now.line (λ line. IsLine p (drop c.args.ahead arguments) line) in
     let N : ℕ → Type 0 = λ n. IfSome c.args.known.now.line (λ line. IsLine p (drop n c.in-Some-Some.others.now) line) in
-    let later = c.line_begins_later.ensures p c.in-Some-Some.argument.now c.in-Some-Some.others.now c.args.known.now.line (option_copied c.line_here.result) c.args.ahead (subst (λ (given : Option Line). option_copied c.line_here.result ≡ (if c.args.ahead == 0 then given else None)) c.as_ref.ensures.value c.line_here.ensures) (ap option_copied c.in_default.is) (subst A c.in-Some-Some.ensures.cases.0 c.requires.line) in
-    let ahead = subst N (sym c.saturating_sub-ahead.ensures) later in
+    let ahead = subst N (sym c.saturating_sub-ahead.ensures) (later_line t begun) in
     (search rules, (c.requires.same_problem, (ahead, (rest.weighted, (rest.span, (rest.scored, rest.low))))))
+
+-- the product of the first argument and the total from an end on fit
+fitting : (t : ℕ) (c : After-answer_is_unique t) (end : ℕ) → FitsSpan c.args.known.now.lines.now (on_span c.in-Some-Some.argument.now c.args.from end) → (value : ℤ) → (AtRule (HasEntry c.args.known.now.scores.now) (on_span c.in-Some-Some.argument.now c.args.from end) → IsValue c.args.known.now.lines.now (HasBestScore c.args.known.now.lines.now) (on_span c.in-Some-Some.argument.now c.args.from end) value)
+    → (rest : ℤ) → HasTotal c.args.known.now.lines.now (HasBestScore c.args.known.now.lines.now) c.in-Some-Some.others.now c.in-Some-Some.factors.now end c.args.to rest → FitsSigned w64 (c.in-Some-Some.factor.now *ℤ value) × FitsSigned w64 rest × FitsSigned w64 ((c.in-Some-Some.factor.now *ℤ value) +ℤ rest)
+fitting t c end end_fits value told rest total = parts_fit c.args.known.now.lines.now c.args.known.now.scores.now c.in-Some-Some.argument.now c.in-Some-Some.others.now c.in-Some-Some.factor.now c.in-Some-Some.factors.now c.args.from c.args.to (laid t c) end end_fits (sound t c) value told rest total
 
 pub overflow_mul-factor : goal.overflow_mul-factor
 overflow_mul-factor t c =
     let at = (goal.at.overflow_mul-factor t c).After-ends_of_first-places in
     let begun = (goal.at.overflow_mul-factor t c).After-answer_is_unique in
     let end = c.loop-end.end in
-    let it = parts_low c.args.known.now.lines.now c.args.known.now.scores.now c.in-Some-Some.argument.now c.in-Some-Some.others.now c.in-Some-Some.factor.now c.in-Some-Some.factors.now c.args.from c.args.to (laid t begun) end (fits t at end c.loop-end.auto.end c.loop-end-test.true) (sound t begun)
-    c.in-Some-argument_value.value (λ entry. c.in-Some-argument_value.ensures entry) c.in-Some-greatest_total.rest c.in-Some-greatest_total.ensures.0 in
-    let fits_factor : FitsSigned w64 c.in-Some-Some.factor.now = search rules in
-    let fits_value : FitsSigned w64 c.in-Some-argument_value.value = search rules in
-    simp to_z-of_z (fits_below (c.in-Some-Some.factor.now *ℤ c.in-Some-argument_value.value) it.0)
+    let end_fits = fits t at end c.loop-end.auto.end c.loop-end-test.true in
+    let factor = c.in-Some-Some.factor.now in
+    let value = c.in-Some-argument_value.value in
+    let rest = c.in-Some-greatest_total.rest in
+    let it = fitting t begun end end_fits value (λ entry. c.in-Some-argument_value.ensures entry) rest c.in-Some-greatest_total.ensures.0 in
+    let fits_factor : FitsSigned w64 factor = search rules in
+    let fits_value : FitsSigned w64 value = search rules in
+    simp to_z-of_z it.0
 
 pub overflow_add-factor : goal.overflow_add-factor
 overflow_add-factor t c =
     let at = (goal.at.overflow_add-factor t c).After-ends_of_first-places in
     let begun = (goal.at.overflow_add-factor t c).After-answer_is_unique in
     let end = c.loop-end.end in
-    let it = parts_low c.args.known.now.lines.now c.args.known.now.scores.now c.in-Some-Some.argument.now c.in-Some-Some.others.now c.in-Some-Some.factor.now c.in-Some-Some.factors.now c.args.from c.args.to (laid t begun) end (fits t at end c.loop-end.auto.end c.loop-end-test.true) (sound t begun)
-    c.in-Some-argument_value.value (λ entry. c.in-Some-argument_value.ensures entry) c.in-Some-greatest_total.rest c.in-Some-greatest_total.ensures.0 in
-    let fits_factor : FitsSigned w64 c.in-Some-Some.factor.now = search rules in
-    let fits_value : FitsSigned w64 c.in-Some-argument_value.value = search rules in
-    let fits_product : FitsSigned w64 (c.in-Some-Some.factor.now *ℤ c.in-Some-argument_value.value) = fits_below (c.in-Some-Some.factor.now *ℤ c.in-Some-argument_value.value) it.0 in
-    let fits_rest : FitsSigned w64 c.in-Some-greatest_total.rest = search rules in
-    simp to_z-of_z (fits_below ((c.in-Some-Some.factor.now *ℤ c.in-Some-argument_value.value) +ℤ c.in-Some-greatest_total.rest) it.2)
+    let end_fits = fits t at end c.loop-end.auto.end c.loop-end-test.true in
+    let factor = c.in-Some-Some.factor.now in
+    let value = c.in-Some-argument_value.value in
+    let rest = c.in-Some-greatest_total.rest in
+    let it = fitting t begun end end_fits value (λ entry. c.in-Some-argument_value.ensures entry) rest c.in-Some-greatest_total.ensures.0 in
+    let fits_factor : FitsSigned w64 factor = search rules in
+    let fits_value : FitsSigned w64 value = search rules in
+    let fits_product : FitsSigned w64 (factor *ℤ value) = it.0 in
+    let fits_rest : FitsSigned w64 rest = it.1 in
+    simp to_z-of_z it.2
 
 pub loop-end-preserved : goal.loop-end-preserved
 loop-end-preserved t c =
     let at = (goal.at.loop-end-preserved t c).After-ends_of_first-places in
     let begun = (goal.at.loop-end-preserved t c).After-answer_is_unique in
-    let p = c.args.known.now.lines.now in
-    let table = c.args.known.now.scores.now in
     let end = c.loop-end.end in
     let end_fits = fits t at end c.loop-end.auto.end c.loop-end-test.true in
-    let argument = c.in-Some-Some.argument.now in
-    let others = c.in-Some-Some.others.now in
     let factor = c.in-Some-Some.factor.now in
-    let factors = c.in-Some-Some.factors.now in
     let value = c.in-Some-argument_value.value in
     let rest = c.in-Some-greatest_total.rest in
-    let it = parts_low p table argument others factor factors c.args.from c.args.to (laid t begun) end end_fits (sound t begun) value (λ entry. c.in-Some-argument_value.ensures entry) rest c.in-Some-greatest_total.ensures.0 in
+    let it = fitting t begun end end_fits value (λ entry. c.in-Some-argument_value.ensures entry) rest c.in-Some-greatest_total.ensures.0 in
     let fits_factor : FitsSigned w64 factor = search rules in
     let fits_value : FitsSigned w64 value = search rules in
-    let fits_product : FitsSigned w64 (factor *ℤ value) = fits_below (factor *ℤ value) it.0 in
-    let fits_rest : FitsSigned w64 rest = search rules in
-    let fits_sum : FitsSigned w64 ((factor *ℤ value) +ℤ rest) = fits_below ((factor *ℤ value) +ℤ rest) it.2 in
+    let fits_product : FitsSigned w64 (factor *ℤ value) = it.0 in
+    let fits_rest : FitsSigned w64 rest = it.1 in
+    let fits_sum : FitsSigned w64 ((factor *ℤ value) +ℤ rest) = it.2 in
     let either : IsGreatestOf (λ number. (c.loop-end.greatest ≡ Some number) ⊎ (Some ((factor *ℤ value) +ℤ rest) ≡ Some number)) c.greater-greatest.result = simp to_z-of_z at c.greater-greatest.ensures in
-    found_more p table argument others factor factors c.args.from c.args.to (laid t begun) end end_fits (sound t begun) value rest (λ entry. c.in-Some-argument_value.ensures entry) c.in-Some-greatest_total.ensures c.loop-end.greatest c.greater-greatest.result c.loop-end.invariant either
+    found_more c.args.known.now.lines.now c.args.known.now.scores.now c.in-Some-Some.argument.now c.in-Some-Some.others.now factor c.in-Some-Some.factors.now c.args.from c.args.to (laid t begun) end end_fits (sound t begun) value rest (λ entry. c.in-Some-argument_value.ensures entry) c.in-Some-greatest_total.ensures c.loop-end.greatest c.greater-greatest.result c.loop-end.invariant either
 
 pub loop-end-preserved-in_default-argument_value : goal.loop-end-preserved-in_default-argument_value
 loop-end-preserved-in_default-argument_value t c =
@@ -184,10 +195,8 @@ greatest_total-requires t c =
     let it = end_there t c in
     let rest = rest_laid p c.args.known.now.scores.now c.in-Some-Some.argument.now c.in-Some-Some.others.now c.in-Some-Some.factor.now c.in-Some-Some.factors.now c.args.from c.args.to (laid t begun) c.in_ok-end.end it.1 it.0 in
     let fewer = c.in-Some-Some.ensures.cases.1 in
-    let A : List Arg → Type 0 = λ arguments. IfSome c.args.known.now.line (λ line. IsLine p (drop c.args.ahead arguments) line) in
     let N : ℕ → Type 0 = λ n. IfSome c.args.known.now.line (λ line. IsLine p (drop n c.in-Some-Some.others.now) line) in
-    let later = c.line_begins_later.ensures p c.in-Some-Some.argument.now c.in-Some-Some.others.now c.args.known.now.line (option_copied c.line_here.result) c.args.ahead (subst (λ (given : Option Line). option_copied c.line_here.result ≡ (if c.args.ahead == 0 then given else None)) c.as_ref.ensures.value c.line_here.ensures) (ap option_copied c.in_default.is) (subst A c.in-Some-Some.ensures.cases.0 c.requires.line) in
-    let ahead = subst N (sym c.saturating_sub-ahead.ensures) later in
+    let ahead = subst N (sym c.saturating_sub-ahead.ensures) (later_line t begun) in
     (search rules, (c.requires.same_problem, (ahead, (rest.weighted, (rest.span, (rest.scored, rest.low))))))
 
 pub returns-in_err-rest : goal.returns-in_err-rest
@@ -229,56 +238,44 @@ overflow_mul-result t c =
     let begun = (goal.at.overflow_mul-result t c).After-answer_is_unique in
     let at = (goal.at.overflow_mul-result t c).In_ok-end in
     let behind = (goal.at.overflow_mul-result t c).After-token_value in
-    let p = c.args.known.now.lines.now in
-    let argument = c.in-Some-Some.argument.now in
-    let others = c.in-Some-Some.others.now in
     let factor = c.in-Some-Some.factor.now in
-    let factors = c.in-Some-Some.factors.now in
     let value = c.token_value.result in
     let rest = c.in_ok-rest.rest in
-    let it = parts_low p c.args.known.now.scores.now argument others factor factors c.args.from c.args.to (laid t begun) c.in_ok-end.end (end_there t at).1 (sound t begun) value (λ entry. value_is t behind) rest (rest_is t behind).0 in
+    let it = fitting t begun c.in_ok-end.end (end_there t at).1 value (λ entry. value_is t behind) rest (rest_is t behind).0 in
     let fits_factor : FitsSigned w64 factor = search rules in
     let fits_value : FitsSigned w64 value = search rules in
-    simp to_z-of_z (fits_below (factor *ℤ value) it.0)
+    simp to_z-of_z it.0
 
 pub overflow_add-result : goal.overflow_add-result
 overflow_add-result t c =
     let begun = (goal.at.overflow_add-result t c).After-answer_is_unique in
     let at = (goal.at.overflow_add-result t c).In_ok-end in
     let behind = (goal.at.overflow_add-result t c).After-token_value in
-    let p = c.args.known.now.lines.now in
-    let argument = c.in-Some-Some.argument.now in
-    let others = c.in-Some-Some.others.now in
     let factor = c.in-Some-Some.factor.now in
-    let factors = c.in-Some-Some.factors.now in
     let value = c.token_value.result in
     let rest = c.in_ok-rest.rest in
-    let it = parts_low p c.args.known.now.scores.now argument others factor factors c.args.from c.args.to (laid t begun) c.in_ok-end.end (end_there t at).1 (sound t begun) value (λ entry. value_is t behind) rest (rest_is t behind).0 in
+    let it = fitting t begun c.in_ok-end.end (end_there t at).1 value (λ entry. value_is t behind) rest (rest_is t behind).0 in
     let fits_factor : FitsSigned w64 factor = search rules in
     let fits_value : FitsSigned w64 value = search rules in
-    let fits_product : FitsSigned w64 (factor *ℤ value) = fits_below (factor *ℤ value) it.0 in
-    let fits_rest : FitsSigned w64 rest = search rules in
-    simp to_z-of_z (fits_below ((factor *ℤ value) +ℤ rest) it.2)
+    let fits_product : FitsSigned w64 (factor *ℤ value) = it.0 in
+    let fits_rest : FitsSigned w64 rest = it.1 in
+    simp to_z-of_z it.2
 
 pub returns-then-is_fixed : goal.returns-then-is_fixed
 returns-then-is_fixed t c =
     let begun = (goal.at.returns-then-is_fixed t c).After-answer_is_unique in
     let at = (goal.at.returns-then-is_fixed t c).In_ok-end in
     let behind = (goal.at.returns-then-is_fixed t c).After-token_value in
-    let p = c.args.known.now.lines.now in
-    let argument = c.in-Some-Some.argument.now in
-    let others = c.in-Some-Some.others.now in
     let factor = c.in-Some-Some.factor.now in
-    let factors = c.in-Some-Some.factors.now in
     let value = c.token_value.result in
     let rest = c.in_ok-rest.rest in
-    let it = parts_low p c.args.known.now.scores.now argument others factor factors c.args.from c.args.to (laid t begun) c.in_ok-end.end (end_there t at).1 (sound t begun) value (λ entry. value_is t behind) rest (rest_is t behind).0 in
+    let it = fitting t begun c.in_ok-end.end (end_there t at).1 value (λ entry. value_is t behind) rest (rest_is t behind).0 in
     let fits_factor : FitsSigned w64 factor = search rules in
     let fits_value : FitsSigned w64 value = search rules in
-    let fits_product : FitsSigned w64 (factor *ℤ value) = fits_below (factor *ℤ value) it.0 in
-    let fits_rest : FitsSigned w64 rest = search rules in
-    let fits_sum : FitsSigned w64 ((factor *ℤ value) +ℤ rest) = fits_below ((factor *ℤ value) +ℤ rest) it.2 in
-    let found = greatest_from p argument others c.args.from c.args.to c.in_ok-end.end (end_there t at).1 (only_end t at) (HasBestScore p) factor factors (sound t begun).one value rest (value_is t behind) (rest_is t behind) in
+    let fits_product : FitsSigned w64 (factor *ℤ value) = it.0 in
+    let fits_rest : FitsSigned w64 rest = it.1 in
+    let fits_sum : FitsSigned w64 ((factor *ℤ value) +ℤ rest) = it.2 in
+    let found = greatest_from c.args.known.now.lines.now c.in-Some-Some.argument.now c.in-Some-Some.others.now c.args.from c.args.to c.in_ok-end.end (end_there t at).1 (only_end t at) (HasBestScore c.args.known.now.lines.now) factor c.in-Some-Some.factors.now (sound t begun).one value rest (value_is t behind) (rest_is t behind) in
     simp to_z-of_z (of_all t begun (Some ((factor *ℤ value) +ℤ rest)) found)
 
 -- ---- the last argument
