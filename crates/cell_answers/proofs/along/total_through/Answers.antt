@@ -1,4 +1,4 @@
-use Rattle.std.proofs.Common.{◌≡◌, ◌+◌, ◌<◌, ◌≤◌, ℤ, ◌+ℤ◌, ◌*ℤ◌, Some, FitsSigned, w64, nat_abs, arith, rules}
+use Rattle.std.proofs.Common.{◌≡◌, ◌+◌, ◌<◌, ℤ, ◌+ℤ◌, ◌*ℤ◌, Some, FitsSigned, w64, to_z, of_z, sym, ap, subst, ◌∙◌, arith, rules}
 use Rattle.std.proofs.lemmas.Int.{to_z-of_z}
 use Rattle.adp_model.specs.ProblemFields.{greatest_score}
 use Rattle.adp_model.specs.Bellman.{HasBestScore}
@@ -63,16 +63,22 @@ pub between_total-between-requires-clause-low : goal.between_total-between-requi
 between_total-between-requires-clause-low c =
     middle_low c.args.lines.now c.args.line.now c.requires.opened _ c.requires.stands
 
--- the numbers that are added up are low together
+abbrev Read : ℤ → ℤ
+Read number = to_z w64 (of_z w64 number)
+
+-- the numbers that are added up fit, and their sums
 parts : (c : After-answer_is_unique) → (first between second : ℤ)
     → IsValue c.args.lines.now (HasBestScore c.args.lines.now) (on_span c.args.line.now.arguments.first.now c.args.line.now.from c.args.place) first
     → HasTotal c.args.lines.now (HasBestScore c.args.lines.now) c.args.line.now.arguments.middle.now c.args.line.now.arguments.middle_factors.now c.args.place (c.args.place + c.args.line.now.boundary.letters) between
     → IsValue c.args.lines.now (HasBestScore c.args.lines.now) (on_span c.args.line.now.arguments.second.now (c.args.place + c.args.line.now.boundary.letters) c.args.line.now.boundary.last) second
-    → (nat_abs (c.args.line.now.arguments.first_factor *ℤ first) ≤ greatest_score) × (nat_abs ((c.args.line.now.arguments.first_factor *ℤ first) +ℤ between) ≤ greatest_score)
-    × (nat_abs (c.args.line.now.arguments.second_factor *ℤ second) ≤ greatest_score) × (nat_abs (((c.args.line.now.arguments.first_factor *ℤ first) +ℤ between) +ℤ (c.args.line.now.arguments.second_factor *ℤ second)) ≤ greatest_score)
+    → FitsSigned w64 (c.args.line.now.arguments.first_factor *ℤ first) × FitsSigned w64 ((c.args.line.now.arguments.first_factor *ℤ first) +ℤ between)
+    × FitsSigned w64 (c.args.line.now.arguments.second_factor *ℤ second) × FitsSigned w64 (((c.args.line.now.arguments.first_factor *ℤ first) +ℤ between) +ℤ (c.args.line.now.arguments.second_factor *ℤ second))
 parts c first between second is_first has_between is_second =
-    sums_low (c.args.line.now.arguments.first_factor *ℤ first) between (c.args.line.now.arguments.second_factor *ℤ second)
-    (through_parts_low c.args.lines.now c.args.line.now c.requires.opened c.args.place c.requires.stands (sound c) first between second is_first has_between is_second)
+    let one = c.args.line.now.arguments.first_factor *ℤ first in
+    let other = c.args.line.now.arguments.second_factor *ℤ second in
+    let low = sums_low one between other
+    (through_parts_low c.args.lines.now c.args.line.now c.requires.opened c.args.place c.requires.stands (sound c) first between second is_first has_between is_second) in
+    (fits_below one low.0, fits_below (one +ℤ between) low.1, fits_below other low.2, fits_below ((one +ℤ between) +ℤ other) low.3)
 
 pub overflow_mul-result : goal.overflow_mul-result
 overflow_mul-result c =
@@ -80,7 +86,7 @@ overflow_mul-result c =
     let it = parts at c.in-Some.first c.between_total-between.result c.in-Some-value_among.second c.in-Some.ensures c.between_total-between.ensures c.in-Some-value_among.ensures in
     let fits_factor : FitsSigned w64 c.args.line.now.arguments.first_factor = search rules in
     let fits_value : FitsSigned w64 c.in-Some.first = search rules in
-    simp to_z-of_z (fits_below (c.args.line.now.arguments.first_factor *ℤ c.in-Some.first) it.0)
+    simp to_z-of_z it.0
 
 pub overflow_add-result : goal.overflow_add-result
 overflow_add-result c =
@@ -89,72 +95,59 @@ overflow_add-result c =
     let fits_factor : FitsSigned w64 c.args.line.now.arguments.first_factor = search rules in
     let fits_value : FitsSigned w64 c.in-Some.first = search rules in
     let fits_between : FitsSigned w64 c.between_total-between.result = search rules in
-    let fits_product : FitsSigned w64 (c.args.line.now.arguments.first_factor *ℤ c.in-Some.first) = fits_below (c.args.line.now.arguments.first_factor *ℤ c.in-Some.first) it.0 in
-    simp to_z-of_z (fits_below ((c.args.line.now.arguments.first_factor *ℤ c.in-Some.first) +ℤ c.between_total-between.result) it.1)
+    let fits_product : FitsSigned w64 (c.args.line.now.arguments.first_factor *ℤ c.in-Some.first) = it.0 in
+    simp to_z-of_z it.1
 
 pub overflow_mul-result-2 : goal.overflow_mul-result-2
 overflow_mul-result-2 c =
     let at = (goal.at.overflow_mul-result-2 c).After-answer_is_unique in
     let it = parts at c.in-Some.first c.between_total-between.result c.in-Some-value_among.second c.in-Some.ensures c.between_total-between.ensures c.in-Some-value_among.ensures in
-    let fits_factor : FitsSigned w64 c.args.line.now.arguments.second_factor = search rules in
-    let fits_value : FitsSigned w64 c.in-Some-value_among.second = search rules in
-    simp to_z-of_z (fits_below (c.args.line.now.arguments.second_factor *ℤ c.in-Some-value_among.second) it.2)
+    let fits_second_factor : FitsSigned w64 c.args.line.now.arguments.second_factor = search rules in
+    let fits_second_value : FitsSigned w64 c.in-Some-value_among.second = search rules in
+    simp to_z-of_z it.2
 
 pub overflow_add-result-2 : goal.overflow_add-result-2
 overflow_add-result-2 c =
     let at = (goal.at.overflow_add-result-2 c).After-answer_is_unique in
-    let first = c.args.line.now.arguments.first_factor *ℤ c.in-Some.first in
-    let second = c.args.line.now.arguments.second_factor *ℤ c.in-Some-value_among.second in
-    let between = c.between_total-between.result in
-    let it = parts at c.in-Some.first between c.in-Some-value_among.second c.in-Some.ensures c.between_total-between.ensures c.in-Some-value_among.ensures in
-    let fits_first_factor : FitsSigned w64 c.args.line.now.arguments.first_factor = search rules in
-    let fits_first_value : FitsSigned w64 c.in-Some.first = search rules in
+    let it = parts at c.in-Some.first c.between_total-between.result c.in-Some-value_among.second c.in-Some.ensures c.between_total-between.ensures c.in-Some-value_among.ensures in
+    let fits_factor : FitsSigned w64 c.args.line.now.arguments.first_factor = search rules in
+    let fits_value : FitsSigned w64 c.in-Some.first = search rules in
     let fits_second_factor : FitsSigned w64 c.args.line.now.arguments.second_factor = search rules in
     let fits_second_value : FitsSigned w64 c.in-Some-value_among.second = search rules in
-    let fits_between : FitsSigned w64 between = search rules in
-    let fits_first : FitsSigned w64 first = fits_below first it.0 in
-    let fits_sum : FitsSigned w64 (first +ℤ between) = fits_below (first +ℤ between) it.1 in
-    let fits_second : FitsSigned w64 second = fits_below second it.2 in
-    simp to_z-of_z (fits_below ((first +ℤ between) +ℤ second) it.3)
+    let fits_between : FitsSigned w64 c.between_total-between.result = search rules in
+    let fits_first : FitsSigned w64 (c.args.line.now.arguments.first_factor *ℤ c.in-Some.first) = it.0 in
+    let fits_sum : FitsSigned w64 ((c.args.line.now.arguments.first_factor *ℤ c.in-Some.first) +ℤ c.between_total-between.result) = it.1 in
+    let fits_second : FitsSigned w64 (c.args.line.now.arguments.second_factor *ℤ c.in-Some-value_among.second) = it.2 in
+    simp to_z-of_z it.3
+
+-- the sum, as its bits are read
+read_sum : (a x b c y : ℤ) → FitsSigned w64 a → FitsSigned w64 x → FitsSigned w64 b → FitsSigned w64 c → FitsSigned w64 y → FitsSigned w64 (a *ℤ x) × FitsSigned w64 ((a *ℤ x) +ℤ b) × FitsSigned w64 (c *ℤ y) × FitsSigned w64 (((a *ℤ x) +ℤ b) +ℤ (c *ℤ y))
+    → Read (Read (Read (Read a *ℤ Read x) +ℤ Read b) +ℤ Read (Read c *ℤ Read y)) ≡ (((a *ℤ x) +ℤ b) +ℤ (c *ℤ y))
+read_sum a x b c y fits_a fits_x fits_b fits_c fits_y (fits_first, fits_sum, fits_second, fits_total) =
+    ap (λ n. Read (Read (Read (n *ℤ Read x) +ℤ Read b) +ℤ Read (Read c *ℤ Read y))) (to_z-of_z w64 a fits_a)
+    ∙ ap (λ n. Read (Read (Read (a *ℤ n) +ℤ Read b) +ℤ Read (Read c *ℤ Read y))) (to_z-of_z w64 x fits_x)
+    ∙ ap (λ n. Read (Read (n +ℤ Read b) +ℤ Read (Read c *ℤ Read y))) (to_z-of_z w64 (a *ℤ x) fits_first)
+    ∙ ap (λ n. Read (Read ((a *ℤ x) +ℤ n) +ℤ Read (Read c *ℤ Read y))) (to_z-of_z w64 b fits_b)
+    ∙ ap (λ n. Read (n +ℤ Read (Read c *ℤ Read y))) (to_z-of_z w64 ((a *ℤ x) +ℤ b) fits_sum)
+    ∙ ap (λ n. Read (((a *ℤ x) +ℤ b) +ℤ Read (n *ℤ Read y))) (to_z-of_z w64 c fits_c)
+    ∙ ap (λ n. Read (((a *ℤ x) +ℤ b) +ℤ Read (c *ℤ n))) (to_z-of_z w64 y fits_y)
+    ∙ ap (λ n. Read (((a *ℤ x) +ℤ b) +ℤ n)) (to_z-of_z w64 (c *ℤ y) fits_second)
+    ∙ to_z-of_z w64 (((a *ℤ x) +ℤ b) +ℤ (c *ℤ y)) fits_total
 
 pub returns-clause-greatest : goal.returns-clause-greatest
 returns-clause-greatest c =
     let at = (goal.at.returns-clause-greatest c).After-answer_is_unique in
-    let first = c.args.line.now.arguments.first_factor *ℤ c.in-Some.first in
-    let second = c.args.line.now.arguments.second_factor *ℤ c.in-Some-value_among.second in
-    let between = c.between_total-between.result in
-    let it = parts at c.in-Some.first between c.in-Some-value_among.second c.in-Some.ensures c.between_total-between.ensures c.in-Some-value_among.ensures in
-    let fits_first_factor : FitsSigned w64 c.args.line.now.arguments.first_factor = search rules in
-    let fits_first_value : FitsSigned w64 c.in-Some.first = search rules in
-    let fits_second_factor : FitsSigned w64 c.args.line.now.arguments.second_factor = search rules in
-    let fits_second_value : FitsSigned w64 c.in-Some-value_among.second = search rules in
-    let fits_between : FitsSigned w64 between = search rules in
-    let fits_first : FitsSigned w64 first = fits_below first it.0 in
-    let fits_sum : FitsSigned w64 (first +ℤ between) = fits_below (first +ℤ between) it.1 in
-    let fits_second : FitsSigned w64 second = fits_below second it.2 in
-    let fits_total : FitsSigned w64 ((first +ℤ between) +ℤ second) = fits_below ((first +ℤ between) +ℤ second) it.3 in
-    let greatest : IsGreatestOf (HasLineTotal c.args.lines.now c.args.line.now c.args.place) (Some ((first +ℤ between) +ℤ second)) =
-    greatest_here c.args.lines.now c.args.line.now c.requires.opened c.args.place c.requires.stands (sound at)
-    c.in-Some.first between c.in-Some-value_among.second c.in-Some.ensures c.between_total-between.ensures c.in-Some-value_among.ensures in
-    simp to_z-of_z greatest
+    let it = parts at c.in-Some.first c.between_total-between.result c.in-Some-value_among.second c.in-Some.ensures c.between_total-between.ensures c.in-Some-value_among.ensures in
+    let T : ℤ → Type 0 = λ total. IsGreatestOf (HasLineTotal c.args.lines.now c.args.line.now c.args.place) (Some total) in
+    subst T (sym (read_sum c.args.line.now.arguments.first_factor c.in-Some.first c.between_total-between.result c.args.line.now.arguments.second_factor c.in-Some-value_among.second (search rules) (search rules) (search rules) (search rules) (search rules) it))
+    (greatest_here c.args.lines.now c.args.line.now c.requires.opened c.args.place c.requires.stands (sound at)
+    c.in-Some.first c.between_total-between.result c.in-Some-value_among.second c.in-Some.ensures c.between_total-between.ensures c.in-Some-value_among.ensures)
 
 pub returns-clause-only : goal.returns-clause-only
 returns-clause-only c =
     let at = (goal.at.returns-clause-only c).After-answer_is_unique in
-    let first = c.args.line.now.arguments.first_factor *ℤ c.in-Some.first in
-    let second = c.args.line.now.arguments.second_factor *ℤ c.in-Some-value_among.second in
-    let between = c.between_total-between.result in
-    let it = parts at c.in-Some.first between c.in-Some-value_among.second c.in-Some.ensures c.between_total-between.ensures c.in-Some-value_among.ensures in
-    let fits_first_factor : FitsSigned w64 c.args.line.now.arguments.first_factor = search rules in
-    let fits_first_value : FitsSigned w64 c.in-Some.first = search rules in
-    let fits_second_factor : FitsSigned w64 c.args.line.now.arguments.second_factor = search rules in
-    let fits_second_value : FitsSigned w64 c.in-Some-value_among.second = search rules in
-    let fits_between : FitsSigned w64 between = search rules in
-    let fits_first : FitsSigned w64 first = fits_below first it.0 in
-    let fits_sum : FitsSigned w64 (first +ℤ between) = fits_below (first +ℤ between) it.1 in
-    let fits_second : FitsSigned w64 second = fits_below second it.2 in
-    let fits_total : FitsSigned w64 ((first +ℤ between) +ℤ second) = fits_below ((first +ℤ between) +ℤ second) it.3 in
-    let only : (other : ℤ) → HasLineTotal c.args.lines.now c.args.line.now c.args.place other → other ≡ ((first +ℤ between) +ℤ second) =
-    one_here c.args.lines.now c.args.line.now c.requires.opened c.args.place c.requires.stands (sound at)
-    c.in-Some.first between c.in-Some-value_among.second c.in-Some.ensures c.between_total-between.ensures c.in-Some-value_among.ensures in
-    simp to_z-of_z only
+    let it = parts at c.in-Some.first c.between_total-between.result c.in-Some-value_among.second c.in-Some.ensures c.between_total-between.ensures c.in-Some-value_among.ensures in
+    let T : ℤ → Type 0 = λ total. (other : ℤ) → HasLineTotal c.args.lines.now c.args.line.now c.args.place other → other ≡ total in
+    subst T (sym (read_sum c.args.line.now.arguments.first_factor c.in-Some.first c.between_total-between.result c.args.line.now.arguments.second_factor c.in-Some-value_among.second (search rules) (search rules) (search rules) (search rules) (search rules) it))
+    (one_here c.args.lines.now c.args.line.now c.requires.opened c.args.place c.requires.stands (sound at)
+    c.in-Some.first c.between_total-between.result c.in-Some-value_among.second c.in-Some.ensures c.between_total-between.ensures c.in-Some-value_among.ensures)
