@@ -3,7 +3,7 @@ use Rattle.std.proofs.Common.{ℕ, ℤ, List, ◌∷◌, ◌++◌, get_or, sym, 
 use Rattle.std.specs.List.{Contains}
 use Rattle.adp_model.specs.declared.grammar.Arg.{Arg}
 use Rattle.adp_model.specs.PosedProblem.{PosedProblem}
-use Rattle.yield_sizes.specs.Placing.{Cover}
+use Rattle.viable_splits.specs.Placing.{Cover}
 use Rattle.cell_tables.specs.Tables.{Table}
 use Rattle.cell_answers.specs.declared.opened.OpenedLine.{OpenedLine}
 use Rattle.cell_answers.specs.Opened.{IsOpenedOn}
