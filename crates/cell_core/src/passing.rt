@@ -1,6 +1,6 @@
 //! Alternatives all of whose cells are noted.
 
-ghost use Rattle.std.specs.Prelude.{ℕ, ◌<◌, ◌≤◌, IfSome, true, drop, length};
+ghost use Rattle.std.specs.Prelude.{◌≡◌, ℕ, ◌<◌, ◌≤◌, IfSome, true, drop, length};
 ghost use Rattle.std.specs.Bool.{OnTrue};
 ghost use Rattle.std.specs.List.{AllByRecursion};
 ghost use Rattle.std.specs.Option.{option_copied};
@@ -11,15 +11,39 @@ ghost use Rattle.adp_model.specs.WellFormed.{IsKnown};
 ghost use Rattle.split_lines.specs.Kept.{IsAlternative};
 ghost use Rattle.split_lines.specs.Laid.{IsCellOf};
 ghost use Rattle.split_lines.specs.Lines.{IsLine};
+ghost use Rattle.cell_core.specs.declared.passing.Depth.TheVariants.{OneLine};
 ghost use Rattle.cell_core.specs.Seeking.{AreAllNoted};
 ghost use Rattle.cell_core.specs.Skipping.{AreNotedIfLaid, AreNotedOn};
 
 use crate::noted_cells::NotedCells;
 use crate::skipping::{OpenPair, both_noted};
 use adp_model::laws::well_formed::{alternatives_fit, arguments_are_few_and_known};
-use adp_model::{Arg, Cell};
+use adp_model::{Arg, Cell, Position};
 use split_lines::{KeptAlternative, Line, Lines, is_fixed, line_here};
 use std::ops::Range;
+
+/// How far it is looked whether the cells of an alternative are noted.
+#[derive(Clone, Copy)]
+pub enum Depth {
+    /// In the time of one line: not where arguments of open length stand before the line of the alternative, and not
+    /// where it has but one and that isn't the last.
+    OneLine,
+    /// At all places where its arguments may end.
+    Whole,
+}
+
+impl Depth {
+    /// The depth behind a position that the search comes to: one line from the first argument of a split on.
+    pub(crate) fn behind(self, position: Position) -> Depth
+        ensures first { position.number ≡ 0 → result ≡ OneLine }
+        ensures later { 0 < position.number → result ≡ self }
+    {
+        match position.number {
+            0 => Depth::OneLine,
+            _ => self,
+        }
+    }
+}
 
 /// Whether the cell of an argument between two places is noted, where the argument is a rule.
 fn is_noted<N: NotedCells>(noted: &N, argument: &Arg, from: u16, to: u16) -> bool
@@ -129,14 +153,14 @@ fn are_arguments_noted<N: NotedCells>(
 }
 
 /// Whether each cell is noted that the arguments behind the tokens in front of an alternative may demand between two
-/// places. Unless `whole`, this is told of one argument alone and of those that begin with their line.
+/// places, as far as the depth lets it be told.
 fn are_others_noted<N: NotedCells>(
     lines: &Lines<'_>,
     noted: &N,
     cell: Cell,
     alternative: &KeptAlternative<'_>,
     alt: u8,
-    whole: bool,
+    depth: Depth,
     from: u16,
 ) -> bool
     requires in_range { alt < length (alternatives_of lines.now.grammar cell.rule) }
@@ -154,8 +178,9 @@ fn are_others_noted<N: NotedCells>(
     if let Some(line) = line_here(line.as_ref(), ahead) {
         return is_line_noted(lines, noted, *line, others, true, from, cell.to);
     }
-    whole
-        && are_arguments_noted(
+    match depth {
+        Depth::OneLine => false,
+        Depth::Whole => are_arguments_noted(
             lines,
             noted,
             line.as_ref(),
@@ -165,18 +190,17 @@ fn are_others_noted<N: NotedCells>(
             from,
             cell.to,
             &(0..0),
-        )
+        ),
+    }
 }
 
-/// Whether each cell that the splits of an alternative ask for is noted. Unless `whole`, this is told in the time of one
-/// line alone: not where arguments of open length stand before the line of the alternative, and not where it has but one
-/// and that isn't the last.
+/// Whether each cell that the splits of an alternative ask for is noted, as far as the depth lets it be told.
 pub(crate) fn are_all_noted<N: NotedCells>(
     lines: &Lines<'_>,
     noted: &N,
     cell: Cell,
     alt: u8,
-    whole: bool,
+    depth: Depth,
 ) -> bool
     requires span { IsSpan lines.now.word cell.from cell.to }
     requires alternative { alt < length (alternatives_of lines.now.grammar cell.rule) }
@@ -190,7 +214,7 @@ pub(crate) fn are_all_noted<N: NotedCells>(
         return true;
     }
     match lines.front_end(alternative, cell.from, cell.to) {
-        Some(end) => are_others_noted(lines, noted, cell, alternative, alt, whole, end),
+        Some(end) => are_others_noted(lines, noted, cell, alternative, alt, depth, end),
         None => true,
     }
 }

@@ -7,6 +7,7 @@ ghost use Rattle.adp_model.specs.Visits.{argument_at, IsWalk};
 ghost use Rattle.cell_core.specs.Seeking.{IsNextSought, IsNoneSought};
 
 use crate::noted_cells::NotedCells;
+use crate::passing::Depth;
 use crate::walk::{asked, next_position};
 use adp_model::laws::well_formed::{alternatives_fit, arguments_are_few_and_known};
 use adp_model::{Cell, Position, Problem, Visit};
@@ -32,7 +33,7 @@ pub fn seek<N: NotedCells>(
     alternatives_fit();
     arguments_are_few_and_known();
     let mut at = visit.at;
-    let mut whole = true;
+    let mut depth = Depth::Whole;
     loop {
         let turns = visit.turns;
         let now = Visit {
@@ -41,10 +42,10 @@ pub fn seek<N: NotedCells>(
             turns,
             at,
         };
-        let Some(position) = next_position(lines, problem, noted, now, whole) else {
+        let Some(position) = next_position(lines, problem, noted, now, depth) else {
             return None;
         };
-        whole &= position.number > 0;
+        depth = depth.behind(position);
         if let Some(cell) = asked(problem, visit.cell, position) {
             if !noted.has(cell) {
                 return Some((position, cell));

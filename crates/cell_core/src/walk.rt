@@ -13,7 +13,7 @@ ghost use Rattle.adp_model.specs.Walk.{IsFirstVisited};
 ghost use Rattle.cell_core.specs.Seeking.{AreAllNoted, IsFirstLeft, IsNextLeft, IsNoneLeft, IsNoneSought, turned_of};
 
 use crate::noted_cells::NotedCells;
-use crate::passing::are_all_noted;
+use crate::passing::{Depth, are_all_noted};
 use crate::skipping::reached;
 use adp_model::laws::splits::ranks_tell_splits_apart;
 use adp_model::laws::well_formed::alternatives_fit;
@@ -33,8 +33,8 @@ fn alternative_behind(first: u32, count: u32, turned: u32) -> u32
     rotated(first, count, turned)
 }
 
-/// Whether an alternative has a viable split of the cell, unless all cells that its splits ask for are seen to be noted;
-/// if so, `cuts` are then the one that is visited first.
+/// Whether an alternative has a viable split of the cell, unless all cells that its splits ask for are seen to be
+/// noted; if so, `cuts` are then the one that is visited first.
 fn first_left<N: NotedCells>(
     lines: &Lines<'_>,
     problem: &Problem<'_>,
@@ -51,7 +51,7 @@ fn first_left<N: NotedCells>(
     ensures first { OnTrue result (IsFirstVisited problem.now cell alt turns cuts.new.at) }
     ensures none { OnFalse result (AreAllNoted problem.now (N.is_noted noted.now) cell alt) }
 {
-    if are_all_noted(lines, noted, cell, alt, true) {
+    if are_all_noted(lines, noted, cell, alt, Depth::Whole) {
         return false;
     }
     lines.first_viable(cell, alt, turns, cuts)
@@ -122,14 +122,14 @@ fn first_behind<N: NotedCells>(
 }
 
 /// The argument that the visit comes to next, but for some whose cells are noted: those of whole alternatives, and those
-/// along a line of splits. Unless `whole`, the rest of the alternative at hand is passed over only where it takes the time
-/// of one line to see that its cells are noted. Takes no memory.
+/// along a line of splits. The rest of the alternative at hand is passed over where its cells are seen to be noted at
+/// this depth. Takes no memory.
 pub(crate) fn next_position<N: NotedCells>(
     lines: &Lines<'_>,
     problem: &Problem<'_>,
     noted: &N,
     visit: Visit,
-    whole: bool,
+    depth: Depth,
 ) -> Option<Position>
     requires same { lines.now ≡ problem.now }
     requires span { IsSpan problem.now.word visit.cell.from visit.cell.to }
@@ -145,7 +145,7 @@ pub(crate) fn next_position<N: NotedCells>(
     ranks_tell_splits_apart();
     let count = problem.arguments(visit.cell.rule, at.alternative).len();
     if at.number as usize + 1 == count
-        && are_all_noted(lines, noted, visit.cell, at.alternative, whole)
+        && are_all_noted(lines, noted, visit.cell, at.alternative, depth)
     {
         return first_behind(lines, problem, noted, visit, at.alternative);
     }

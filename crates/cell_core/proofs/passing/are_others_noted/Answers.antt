@@ -18,7 +18,7 @@ returns-in-Some g c =
     told_of_laid c.args.lines.now (g.N.NotedCells.is_noted c.args.noted.now) c.args.alternative.now.others.now true
     c.args.from c.args.cell.to c.is_line_noted.result c.is_line_noted.ensures
 
-pub returns-then-whole : goal.returns-then-whole
-returns-then-whole g c =
+pub returns-in-Whole : goal.returns-in-Whole
+returns-in-Whole g c =
     told_of_laid c.args.lines.now (g.N.NotedCells.is_noted c.args.noted.now) c.args.alternative.now.others.now true
     c.args.from c.args.cell.to c.are_arguments_noted.result c.are_arguments_noted.ensures
