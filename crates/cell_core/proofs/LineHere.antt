@@ -1,15 +1,16 @@
 -- The line of a split at hand: where it begins, and where its boundary may stand.
-use Rattle.std.proofs.Common.{◌≡◌, ℕ, zero, suc, ◌+◌, ◌<◌, ◌≤◌, List, [], ◌∷◌, ◌++◌, length, slice_index, slice_index_or, get_or, drop, refl, sym, ap, subst, ◌∙◌, arith}
+use Rattle.std.proofs.Common.{◌≡◌, ℕ, zero, suc, ◌+◌, ◌-◌, ◌<◌, ◌≤◌, List, [], ◌∷◌, ◌++◌, length, slice_index, slice_index_or, get_or, drop, refl, sym, ap, subst, ◌∙◌, arith}
 use Rattle.std.specs.List.{AllByRecursion, Contains}
 use Rattle.std.proofs.lemmas.List.{get_or_read}
 use Rattle.adp_model.specs.declared.grammar.Arg.{Arg}
 use Rattle.adp_model.specs.declared.grammar.Arg.TheVariants.{Rule}
 use Rattle.adp_model.specs.declared.cell.Cell.{Cell}
+use Rattle.adp_model.specs.declared.visit.Position.{Position}
 use Rattle.adp_model.specs.PosedProblem.{PosedProblem}
 use Rattle.adp_model.specs.Splits.{ends_by, FitsSpan, Placed}
 use Rattle.viable_splits.specs.Placing.{on_span, Cover}
 use Rattle.split_lines.specs.Laid.{LineParts, AreBoundaries}
-use Rattle.split_lines.specs.Lines.{parts_by}
+use Rattle.split_lines.specs.Lines.{parts_by, HasLine}
 use Rattle.cell_core.proofs.LineOrder.{AreWithin}
 
 each : (P : ℕ → Type 0) (xs : List ℕ) → AllByRecursion P xs → (k : ℕ) → k < length xs → P (slice_index xs k)
@@ -21,6 +22,19 @@ front_at : (xs : List ℕ) (last n : ℕ) → n < length xs → slice_index (xs 
 front_at [] last n l = absurd (omega arith)
 front_at (x ∷ xs) last zero l = refl
 front_at (x ∷ xs) last (suc n) l = front_at xs last n (omega arith)
+
+pub length_drop : {X : Type 0} (n : ℕ) (xs : List X) → length (drop n xs) ≡ length xs - n
+length_drop zero xs = omega arith
+length_drop (suc n) [] = omega arith
+length_drop (suc n) (x ∷ xs) = length_drop n xs ∙ omega arith
+
+-- the line's arguments are among the four
+pub few_before : (arguments : List Arg) (n between : ℕ) → HasLine (drop n arguments) between → length arguments ≤ 4
+    → (n + between < 3) × (n < length arguments)
+few_before arguments n between has few =
+    let l = length_drop n arguments in
+    let m = has.several in
+    (omega arith, omega arith)
 
 -- the cuts lie within the cell
 pub cut_within : (cell : Cell) (cuts : List ℕ) → AreWithin cell cuts → (n : ℕ) → n < length cuts
@@ -42,14 +56,6 @@ cover_forward p [] from to cover = omega (arith, cover)
 cover_forward p (argument ∷ arguments) from to (cut, fits, cover) =
     omega (arith, fits.0.in_order, cover_forward p arguments cut to cover)
 
-pub boundaries_here : (p q : PosedProblem) (given arguments : List Arg) (between from to letters last : ℕ)
-    (places : List ℕ) → q ≡ p → given ≡ arguments
-    → AreBoundaries q (parts_by given between) from to letters last places
-    → AreBoundaries p (parts_by arguments between) from to letters last places
-boundaries_here p q given arguments between from to letters last places same alike h =
-    subst (λ r. AreBoundaries r (parts_by arguments between) from to letters last places) same
-    (subst (λ xs. AreBoundaries q (parts_by xs between) from to letters last places) alike h)
-
 -- a place lies between where the line begins and where it ends, and so do the letters behind it
 pub place_within : (p : PosedProblem) (parts : LineParts) (from to letters last : ℕ) (places : List ℕ)
     → AreBoundaries p parts from to letters last places → (place : ℕ) → Contains places place
@@ -57,11 +63,6 @@ pub place_within : (p : PosedProblem) (parts : LineParts) (from to letters last 
 place_within p parts from to letters last places boundaries place contains =
     let all = (boundaries.exact place).0 contains in
     (all.0.0.in_order, omega (arith, all.2.0.in_order, cover_forward p parts.tail last to all.3))
-
-pub read_at : (given arguments : List Arg) (k : ℕ) (argument : Arg) → given ≡ arguments → k < length arguments
-    → argument ≡ get_or given k argument → argument ≡ slice_index_or arguments k (Rule 0)
-read_at given arguments k argument alike l read =
-    get_or_read arguments k argument l (subst (λ xs. argument ≡ get_or xs k argument) alike read) (Rule 0)
 
 dropped_at : (xs : List Arg) (n k : ℕ) (d : Arg) → slice_index_or (drop n xs) k d ≡ slice_index_or xs (n + k) d
 dropped_at xs zero k d = let same : 0 + k ≡ k = omega arith in ap (λ j. slice_index_or xs j d) (sym same)
@@ -89,3 +90,11 @@ spans_there p arguments n between from to letters last places boundaries place c
       subst (λ (x : Placed). FitsSpan p x) (λ i. on_span (first i) (begins i) (sym cuts i)) all.0,
       subst (λ (x : Placed). FitsSpan p x) (λ i. on_span (second i) (sym cuts i + letters) last) all.2,
     )
+
+-- the argument with this number of a split that was moved
+pub at_moved : (there first : Position) (alternative : ℕ) (cuts : List ℕ) (number : ℕ)
+    → there ≡ record { alternative = first.alternative; cuts = first.cuts; number = number }
+    → first ≡ record { alternative = alternative; cuts = cuts; number = 0 }
+    → there ≡ record { alternative = alternative; cuts = cuts; number = number }
+at_moved there first alternative cuts number it is =
+    it ∙ ap (λ (b : Position). record { alternative = b.alternative; cuts = b.cuts; number = number }) is

@@ -22,7 +22,7 @@ use Rattle.cell_core.proofs.Walks.{turned_same, lex_end}
 use Rattle.cell_core.proofs.WalkEnds.{places_length}
 use Rattle.cell_core.proofs.PlacedArguments.{length_ends}
 use Rattle.cell_core.proofs.LineOrder.{at_index, squeeze, AreWithin, RanksApart, same_front, front_ranks, rank_at, front_at, take_front, less_at}
-use Rattle.cell_core.proofs.LineHere.{cut_within}
+use Rattle.cell_core.proofs.LineHere.{cut_within, length_drop}
 use Rattle.cell_core.proofs.SameCuts.{same_behind, same_by_parts, same_before}
 use Rattle.cell_core.proofs.LineSplits.{AreAt, IsCell, drop_placed, drop_fits, front_placed, same_start, on_line}
 
@@ -43,11 +43,6 @@ drop_drop m (suc n) [] = drop_nil m ∙ sym (drop_nil (suc n + m))
 drop_drop m (suc n) (x ∷ xs) =
     let same : suc n + m ≡ suc (n + m) = omega arith in
     drop_drop m n xs ∙ ap (λ k. drop k (x ∷ xs)) (sym same)
-
-pub length_drop : {X : Type 0} (n : ℕ) (xs : List X) → length (drop n xs) ≡ length xs - n
-length_drop zero xs = omega arith
-length_drop (suc n) [] = omega arith
-length_drop (suc n) (x ∷ xs) = length_drop n xs ∙ omega arith
 
 take_more : (n : ℕ) (xs ys : List ℕ) → n < length xs → n < length ys → take n xs ≡ take n ys
     → slice_index xs n ≡ slice_index ys n → take (suc n) xs ≡ take (suc n) ys

@@ -11,7 +11,9 @@ use Rattle.adp_model.specs.Visits.{argument_at, is_before}
 use Rattle.adp_model.specs.Walk.{rank_of}
 use Rattle.adp_model.specs.declared.grammar.Arg.{Arg}
 use Rattle.viable_splits.specs.Placing.{Cover}
-use Rattle.split_lines.specs.Laid.{IsCellOf, Demands}
+use Rattle.split_lines.specs.Flags.{AreBitsAmong}
+use Rattle.split_lines.specs.Laid.{IsCellOf, Demands, AreBoundaries}
+use Rattle.split_lines.specs.Lines.{parts_by}
 use Rattle.cell_core.specs.declared.skipping.Ahead.{Ahead}
 use Rattle.cell_core.specs.declared.skipping.OpenPair.{OpenPair}
 
@@ -38,6 +40,15 @@ AreNotedBefore p Noted cell at count =
     (number : ℕ) (child : Cell) → number < count
     → AsksFor p (record { cell = cell; alternative = at.alternative; cuts = at.cuts; number = number }) child
     → Noted child
+
+-- the two arguments of the line of these arguments between two places, and the places of its boundary
+pub record IsPairOf (p : PosedProblem) (arguments : List Arg) (between from to : ℕ) (pair : OpenPair) : Type 0 where
+  pub begins : pair.from ≡ from
+  pub first : pair.first.now ≡ (parts_by arguments between).first
+  pub second : pair.second.now ≡ (parts_by arguments between).second
+  pub boundaries : AreBoundaries p (parts_by arguments between) pair.from to pair.letters pair.last pair.places.now
+  pub here : AreBitsAmong pair.places.now 0 pair.here.now
+  pub behind : AreBitsAmong pair.places.now pair.letters pair.behind.now
 
 -- with the boundary here, the cells of both arguments of a line are noted
 pub record IsNotedAt (Noted : Cell → Type 0) (pair : OpenPair) (place : ℕ) : Type 0 where

@@ -7,6 +7,7 @@ mod noted_cells;
 mod notes;
 mod passing;
 mod plain_memo;
+mod positions;
 mod seeking;
 mod skipping;
 mod walk;

@@ -76,24 +76,14 @@ fn is_line_noted<N: NotedCells>(
     ensures { OnTrue result (AreNotedIfLaid lines.now (N.is_noted noted.now) arguments.now so_far from to) }
 {
     lines.problem().admissible();
-    let boundary = lines.boundary(line, arguments, from, to);
-    let places = boundary.places;
+    let pair = OpenPair::on(lines, line, arguments, from, to);
+    let places = pair.places;
     if places.is_empty() {
         return true;
     }
     if !so_far {
         return false;
     }
-    let pair = OpenPair {
-        first: &arguments[0],
-        second: &arguments[line.between as usize + 1],
-        from,
-        places,
-        here: boundary.here,
-        behind: boundary.behind,
-        letters: boundary.letters,
-        last: boundary.last,
-    };
     let (first, last) = (places[0], places[places.len() - 1]);
     both_noted(noted, pair, first, last + 1) > last
 }

@@ -1,8 +1,8 @@
 //! Where a visit comes to along a line of splits whose cells are noted.
 
-ghost use Rattle.std.specs.Prelude.{◌≡◌, ◌+◌, ◌-◌, ◌<◌, ◌≤◌, ℕ, ◌∷◌, IfSome, MatchOption, length, slice_index, slice_index_or, take};
+ghost use Rattle.std.specs.Prelude.{◌≡◌, ◌+◌, ◌-◌, ◌<◌, ◌≤◌, ℕ, ◌∷◌, IfSome, MatchOption, length, slice_index, slice_index_or, take, drop};
 ghost use Rattle.std.specs.Bool.{OnTrue, OnFalse};
-ghost use Rattle.std.specs.List.{AllAdjacentBelow, Contains};
+ghost use Rattle.std.specs.List.{AllAdjacentBelow, AllByRecursion, Contains};
 ghost use Rattle.adp_model.specs.declared.cell.Cell.{Cell as AnyCell};
 ghost use Rattle.adp_model.specs.PosedProblem.{IsSpan};
 ghost use Rattle.adp_model.specs.Parts.{alternatives_of, arguments_of};
@@ -10,13 +10,16 @@ ghost use Rattle.adp_model.specs.declared.grammar.Arg.TheVariants.{Rule};
 ghost use Rattle.adp_model.specs.Splits.{ends_by, FitsSpan, IsViable};
 ghost use Rattle.adp_model.specs.SplitArguments.{IsSplitArgument};
 ghost use Rattle.adp_model.specs.Visits.{argument_at, IsWalk};
+ghost use Rattle.adp_model.specs.WellFormed.{IsKnown};
 ghost use Rattle.viable_splits.specs.Placing.{on_span};
 ghost use Rattle.split_lines.specs.Laid.{IsCellOf};
 ghost use Rattle.split_lines.specs.Flags.{AreBitsAmong};
-ghost use Rattle.cell_core.specs.Skipping.{AreNotedBefore, AreNotedBetween, EndsByAPlace, IsFirstBetween, IsLeftBetween, IsNotedAt, IsNotedUpTo, IsReached, IsSkipped};
+ghost use Rattle.split_lines.specs.Lines.{IsLine};
+ghost use Rattle.cell_core.specs.Skipping.{AreNotedBefore, AreNotedBetween, EndsByAPlace, IsFirstBetween, IsLeftBetween, IsNotedAt, IsNotedUpTo, IsPairOf, IsReached, IsSkipped};
 
 use crate::noted_cells::NotedCells;
-use crate::walk::{asked, end_of, start_of};
+use crate::positions::{at_number, end_of, first_of, start_of};
+use crate::walk::asked;
 use adp_model::laws::splits::{ranks_begin_at_the_turn, viable_cuts_lie_within_the_cell};
 use adp_model::laws::well_formed::arguments_are_few_and_known;
 use adp_model::{Arg, Cell, Position, Problem, Visit};
@@ -35,6 +38,36 @@ pub struct OpenPair<'s> {
     pub behind: &'s [u64],
     pub letters: u16,
     pub last: u16,
+}
+
+impl<'s> OpenPair<'s> {
+    /// The two arguments of a line between two places; the first of them is the first of the arguments. Takes constant
+    /// time, but for literals behind the second one, and no memory.
+    #[inline(always)]
+    pub(crate) fn on(
+        lines: &Lines<'_>,
+        line: Line<'s>,
+        arguments: &'s [Arg],
+        from: u16,
+        to: u16,
+    ) -> OpenPair<'s>
+        requires line { IsLine lines.now arguments.now line }
+        requires known { AllByRecursion (IsKnown lines.now.grammar) arguments.now }
+        requires span { IsSpan lines.now.word from to }
+        ensures { IsPairOf lines.now arguments.entry.now line.entry.between from to result }
+    {
+        let boundary = lines.boundary(line, arguments, from, to);
+        OpenPair {
+            first: &arguments[0],
+            second: &arguments[line.between as usize + 1],
+            from,
+            places: boundary.places,
+            here: boundary.here,
+            behind: boundary.behind,
+            letters: boundary.letters,
+            last: boundary.last,
+        }
+    }
 }
 
 /// A place of a line that a visit comes to, and whether the cells of both arguments are noted there too.
@@ -95,13 +128,7 @@ fn are_noted_before<N: NotedCells>(
     ensures { OnTrue result (AreNotedBefore problem.now (N.is_noted noted.now) cell at count) }
 {
     for number in 0..count {
-        let cuts = at.cuts;
-        let argument = Position {
-            alternative: at.alternative,
-            cuts,
-            number,
-        };
-        if let Some(child) = asked(problem, cell, argument) {
+        if let Some(child) = asked(problem, cell, at_number(at, number)) {
             if !noted.has(child) {
                 return false;
             }
@@ -290,24 +317,16 @@ fn is_viable(
         (Rule 0)) (slice_index cuts line.first + pair.letters) pair.last) }
     ensures { OnTrue result (IsViable problem.now cell at.alternative cuts) }
 {
-    let alternative = at.alternative;
-    let arguments = problem.arguments(cell.rule, alternative);
+    let arguments = problem.arguments(cell.rule, at.alternative);
+    let moved = first_of(at.alternative, cuts);
     let second = line.first + line.between + 1;
-    let behind = Position {
-        alternative,
-        cuts,
-        number: second,
-    };
+    let behind = at_number(moved, second);
     let start = cuts[line.first as usize] + pair.letters;
     if start_of(cell, behind) != start || end_of(cell, behind) != pair.last {
         return false;
     }
     for number in line.first + 1..second {
-        let token = Position {
-            alternative,
-            cuts,
-            number,
-        };
+        let token = at_number(moved, number);
         let (from, to) = (start_of(cell, token), end_of(cell, token));
         if from > to || to > cell.to || !lines.fits(&arguments[number as usize], from, to) {
             return false;
@@ -321,6 +340,32 @@ fn is_viable(
 /// when a visit comes to its first argument.
 fn goes_along(at: Position, line: Line<'_>, count: usize) -> bool {
     at.number as usize + 1 == count || at.number == 0 && line.first > 0
+}
+
+/// The two arguments of the line of a split, where the others stand as they do there.
+fn pair_of<'s>(
+    lines: &Lines<'_>,
+    problem: &'s Problem<'_>,
+    cell: Cell,
+    at: Position,
+    line: Line<'s>,
+) -> OpenPair<'s>
+    requires same { lines.now ≡ problem.now }
+    requires span { IsSpan problem.now.word cell.from cell.to }
+    requires viable { IsViable problem.now cell at.alternative at.cuts }
+    requires line { IsLine problem.now
+        (drop line.first (arguments_of problem.now.grammar cell.rule at.alternative)) line }
+    ensures { IsPairOf problem.now
+        (drop line.entry.first (arguments_of problem.now.grammar cell.rule at.alternative)) line.entry.between
+        (slice_index (cell.from ∷ ends_by cell at.cuts) line.entry.first) cell.to result }
+{
+    problem.admissible();
+    arguments_are_few_and_known();
+    viable_cuts_lie_within_the_cell();
+    let arguments = &problem.arguments(cell.rule, at.alternative)[line.first as usize..];
+    let begin = at_number(at, line.first);
+    let from = start_of(cell, begin);
+    OpenPair::on(lines, line, arguments, from, cell.to)
 }
 
 /// Goes on from an argument along the line of its split while the cells that are asked for are noted: where one isn't,
@@ -346,39 +391,22 @@ pub(crate) fn reached<N: NotedCells>(
     ranks_begin_at_the_turn();
     let at = *position;
     let cell = visit.cell;
-    let all = problem.arguments(cell.rule, at.alternative);
+    let count = problem.arguments(cell.rule, at.alternative).len();
     let Some(line) = lines.line(cell.rule, at.alternative) else {
         return false;
     };
-    if !goes_along(at, line, all.len()) || !are_noted_before(problem, noted, cell, at, line.first) {
+    if !goes_along(at, line, count) || !are_noted_before(problem, noted, cell, at, line.first) {
         return false;
     }
     let first = line.first as usize;
     let between = line.between as usize;
-    let arguments = &all[first..];
     let cuts = at.cuts;
-    let begin = Position {
-        alternative: at.alternative,
-        cuts,
-        number: line.first,
-    };
-    let from = start_of(cell, begin);
-    let boundary = lines.boundary(line, arguments, from, cell.to);
-    let pair = OpenPair {
-        first: &arguments[0],
-        second: &arguments[between + 1],
-        from,
-        places: boundary.places,
-        here: boundary.here,
-        behind: boundary.behind,
-        letters: boundary.letters,
-        last: boundary.last,
-    };
+    let pair = pair_of(lines, problem, cell, at, line);
     let Some(ahead) = next_place(noted, cell, visit.turns[first], pair, cuts[first]) else {
         return false;
     };
     let number = if ahead.is_noted {
-        (all.len() - 1) as u8
+        (count - 1) as u8
     } else {
         line.first
     };
@@ -389,10 +417,7 @@ pub(crate) fn reached<N: NotedCells>(
     if !is_viable(lines, problem, cell, at, line, pair, cuts) {
         return false;
     }
-    *position = Position {
-        alternative: at.alternative,
-        cuts,
-        number,
-    };
+    let there = first_of(at.alternative, cuts);
+    *position = at_number(there, number);
     !ahead.is_noted
 }

@@ -14,6 +14,7 @@ ghost use Rattle.cell_core.specs.Seeking.{AreAllNoted, IsFirstLeft, IsNextLeft, 
 
 use crate::noted_cells::NotedCells;
 use crate::passing::{Depth, are_all_noted};
+use crate::positions::{at_number, end_of, first_of, start_of};
 use crate::skipping::reached;
 use adp_model::laws::splits::ranks_tell_splits_apart;
 use adp_model::laws::well_formed::alternatives_fit;
@@ -89,12 +90,7 @@ fn first_from<N: NotedCells>(
             turns,
             &mut cuts,
         ) {
-            let cuts = cuts.at;
-            return Some(Position {
-                alternative,
-                cuts,
-                number: 0,
-            });
+            return Some(first_of(alternative, cuts.at));
         }
     }
     None
@@ -121,9 +117,9 @@ fn first_behind<N: NotedCells>(
     first_from(lines, problem, noted, visit, turned + 1)
 }
 
-/// The argument that the visit comes to next, but for some whose cells are noted: those of whole alternatives, and those
-/// along a line of splits. The rest of the alternative at hand is passed over where its cells are seen to be noted at
-/// this depth. Takes no memory.
+/// The argument that the visit comes to next, but for some whose cells are noted: those of whole alternatives, and
+/// those along a line of splits. The rest of the alternative at hand is passed over where its cells are seen to be
+/// noted at this depth. Takes no memory.
 pub(crate) fn next_position<N: NotedCells>(
     lines: &Lines<'_>,
     problem: &Problem<'_>,
@@ -153,47 +149,15 @@ pub(crate) fn next_position<N: NotedCells>(
         return Some(at);
     }
     if at.number as usize + 1 < problem.arguments(visit.cell.rule, at.alternative).len() {
-        let cuts = at.cuts;
-        return Some(Position {
-            alternative: at.alternative,
-            cuts,
-            number: at.number + 1,
-        });
+        return Some(at_number(at, at.number + 1));
     }
     let here = at.cuts;
     let turns = visit.turns;
     let mut cuts = Cuts { at: here, turns };
     if lines.next_viable(visit.cell, at.alternative, &mut cuts) {
-        let cuts = cuts.at;
-        return Some(Position {
-            alternative: at.alternative,
-            cuts,
-            number: 0,
-        });
+        return Some(first_of(at.alternative, cuts.at));
     }
     first_behind(lines, problem, noted, visit, at.alternative)
-}
-
-/// Where an argument of a split begins, as a position in the word.
-pub(crate) fn start_of(cell: Cell, at: Position) -> u16
-    requires { at.number ≤ 3 }
-    ensures { result ≡ slice_index (cell.from ∷ ends_by cell at.cuts) at.number }
-{
-    if at.number == 0 {
-        return cell.from;
-    }
-    at.cuts[at.number as usize - 1]
-}
-
-/// Where it ends.
-pub(crate) fn end_of(cell: Cell, at: Position) -> u16
-    requires { at.number ≤ 3 }
-    ensures { result ≡ slice_index (ends_by cell at.cuts) at.number }
-{
-    if at.number == 3 {
-        return cell.to;
-    }
-    at.cuts[at.number as usize]
 }
 
 /// The cell of an argument, where that is a rule. Takes no memory.

@@ -1,6 +1,7 @@
-use Rattle.std.proofs.Common.{◌≡◌, ◌<◌, length, subst, ap, arith}
+use Rattle.std.proofs.Common.{◌≡◌, ◌<◌, length, sym, subst, ap, arith}
+use Rattle.adp_model.specs.declared.visit.Position.{Position}
 use Rattle.adp_model.specs.Visits.{turned_number}
-use Rattle.cell_core.specs.Seeking.{turned_of}
+use Rattle.cell_core.specs.Seeking.{turned_of, IsFirstLeft}
 use Rattle.cell_core.proofs.Walks.{first_from_is, noted_more}
 use Rattle.cell_core.proofs.walk.first_from.Goals as goal
 
@@ -33,7 +34,9 @@ returns-then-first_left g c =
     subst (λ n. turned_number n v.first c.alternative_behind-alternative.result ≡ c.loop-number.number) e
     c.alternative_behind-alternative.ensures.turned in
     let first = c.if-first_left.ensures.first in
-    first_from_is p (g.N.NotedCells.is_noted c.args.noted.now) v c.requires.walk c.requires.walk.three
+    subst (λ (to : Position). IsFirstLeft p (g.N.NotedCells.is_noted c.args.noted.now) v c.args.turned to)
+    (sym c.first_of.ensures)
+    (first_from_is p (g.N.NotedCells.is_noted c.args.noted.now) v c.requires.walk c.requires.walk.three
     (c.ranks_tell_splits_apart.ensures p formed v.cell v.turns c.requires.span.in_order c.requires.walk.three
     c.requires.walk.turns)
     c.args.turned c.alternative_behind-alternative.result c.first_left.new.cuts.at first
@@ -41,7 +44,7 @@ returns-then-first_left g c =
     first.viable.in_range)
     (let l = c.loop-number.auto.number in omega arith)
     (λ a child here asks l m. c.loop-number.invariant.noted a child here asks l
-    (subst (λ n. turned_of p v a.alternative < n) at m))
+    (subst (λ n. turned_of p v a.alternative < n) at m)))
 
 pub loop-number-preserved : goal.loop-number-preserved
 loop-number-preserved g c =

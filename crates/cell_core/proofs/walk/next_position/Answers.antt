@@ -1,8 +1,9 @@
 use Rattle.std.proofs.Common.{◌+◌, length, refl, sym, subst, ap, arith}
+use Rattle.adp_model.specs.declared.visit.Position.{Position}
 use Rattle.adp_model.specs.PosedProblem.{PosedProblem}
 use Rattle.adp_model.specs.Splits.{IsViable}
 use Rattle.adp_model.specs.Walk.{IsNextVisited}
-use Rattle.cell_core.specs.Seeking.{moved_to, turned_of, AreAllNoted}
+use Rattle.cell_core.specs.Seeking.{moved_to, turned_of, AreAllNoted, IsNextLeft}
 use Rattle.cell_core.proofs.SeekSteps.{walk_to}
 use Rattle.cell_core.proofs.SkipSteps.{next_on, option_on, option_first}
 use Rattle.cell_core.proofs.Walks.{next_in_split, next_in_alternative, next_reached, later_from}
@@ -21,8 +22,8 @@ returns-then-are_all_noted g c =
     later_from p Noted v c.requires.walk c.requires.walk.three
     (c.ranks_tell_splits_apart.ensures p formed v.cell v.turns c.requires.span.in_order c.requires.walk.three
     c.requires.walk.turns)
-    at c.in-Some.is (λ cuts number child behind asks. all cuts number child asks) (omega (arith, e, c.if-at-count.true)) c.first_behind.result
-    c.first_behind.ensures
+    at c.in-Some.is (λ cuts number child behind asks. all cuts number child asks)
+    (omega (arith, e, c.if-at-count.true)) c.first_behind.result c.first_behind.ensures
 
 pub returns-then-reached : goal.returns-then-reached
 returns-then-reached g c =
@@ -34,8 +35,8 @@ returns-then-reached g c =
     c.requires.walk.turns)
     c.in-Some.at c.in-Some.is c.reached.new.position c.if-reached.ensures.next
 
-pub overflow_add-result : goal.overflow_add-result
-overflow_add-result g c =
+pub overflow_add-at-then-at-arguments : goal.overflow_add-at-then-at-arguments
+overflow_add-at-then-at-arguments g c =
     let e = ap length c.arguments.ensures.arguments in
     let few = c.arguments.ensures.few in
     let l = c.if-at-arguments.true in
@@ -52,11 +53,12 @@ returns-then-at-arguments g c =
     let formed = c.admissible.ensures.checked.well_formed in
     let e = ap length c.arguments.ensures.arguments in
     let l = c.if-at-arguments.true in
-    next_on p Noted v c.in-Some.at at c.in-Some.is on _
+    subst (λ (to : Position). IsNextLeft p Noted v to) (sym c.at_number.ensures)
+    (next_on p Noted v c.in-Some.at at c.in-Some.is on _
     (next_in_split p Noted (moved_to v at) walk walk.three
     (c.ranks_tell_splits_apart.ensures p formed v.cell v.turns c.requires.span.in_order c.requires.walk.three
     c.requires.walk.turns)
-    at refl (omega arith))
+    at refl (omega arith)))
 
 pub returns-then-next_viable : goal.returns-then-next_viable
 returns-then-next_viable g c =
@@ -72,13 +74,14 @@ returns-then-next_viable g c =
     let first = subst
     (λ (q : PosedProblem). IsNextVisited q v.cell at.alternative v.turns at.cuts c.next_viable.new.cuts.at)
     c.requires.same c.if-next_viable.ensures.next in
-    next_on p Noted v c.in-Some.at at c.in-Some.is on _
+    subst (λ (to : Position). IsNextLeft p Noted v to) (sym c.first_of.ensures)
+    (next_on p Noted v c.in-Some.at at c.in-Some.is on _
     (next_in_alternative p Noted (moved_to v at) walk walk.three
     (c.ranks_tell_splits_apart.ensures p formed v.cell v.turns c.requires.span.in_order c.requires.walk.three
     c.requires.walk.turns)
     at refl c.next_viable.new.cuts.at first
     (c.alternatives_fit.ensures.arguments p.grammar formed v.cell.rule at.alternative first.viable.in_range)
-    (omega arith))
+    (omega arith)))
 
 pub returns : goal.returns
 returns g c =
