@@ -19,7 +19,7 @@ use crate::noted_cells::NotedCells;
 use crate::skipping::{OpenPair, both_noted};
 use adp_model::laws::well_formed::{alternatives_fit, arguments_are_few_and_known};
 use adp_model::{Arg, Cell, Position};
-use split_lines::{KeptAlternative, Line, Lines, is_fixed, line_here};
+use split_lines::{KeptAlternative, Line, Lines, is_fixed, line_begins_later, line_here};
 use std::ops::Range;
 
 /// How far it is looked whether the cells of an alternative are noted.
@@ -110,6 +110,7 @@ fn are_arguments_noted<N: NotedCells>(
         → AreNotedIfLaid lines.now (N.is_noted noted.now) (drop 1 arguments.now) true end to }
     ensures { OnTrue result (AreNotedIfLaid lines.now (N.is_noted noted.now) arguments.now so_far from to) }
 {
+    line_begins_later();
     let Some((argument, others)) = arguments.split_first() else {
         return so_far || from != to;
     };

@@ -8,7 +8,6 @@ use Rattle.adp_model.specs.PosedProblem.{IsSpan}
 use Rattle.adp_model.specs.WellFormed.{IsKnown}
 use Rattle.split_lines.specs.Ends.{IsEndTold}
 use Rattle.split_lines.specs.Lines.{IsLine}
-use Rattle.cell_answers.proofs.LineStarts.{line_later}
 use Rattle.cell_core.specs.Skipping.{AreNotedIfLaid}
 use Rattle.cell_core.proofs.NotedArguments.{laid_behind, laid_nowhere, laid_from}
 use Rattle.cell_core.proofs.passing.+are_arguments_noted.Given.{Over}
@@ -30,7 +29,7 @@ others_are g t c =
     let Later : ℕ → Type 0 = λ n. IfSome line (λ line. IsLine p (drop n others) line) in
     let less : c.args.ahead - 1 ≡ c.saturating_sub-ahead.result = sym c.saturating_sub-ahead.ensures in (
       subst Later less
-          (line_later p c.in-Some.argument.now others line (option_copied c.line_here.result) c.args.ahead
+          (c.line_begins_later.ensures p c.in-Some.argument.now others line (option_copied c.line_here.result) c.args.ahead
           c.line_here.ensures (ap option_copied c.in_default-line_here.is) (subst Begins split c.requires.line)),
       (subst (AllByRecursion (IsKnown p.grammar)) split c.requires.known).1,
       omega (arith, fewer, c.requires.few),
