@@ -19,7 +19,7 @@ use Rattle.adp_model.specs.SplitArguments.{SplitArgument, AsksFor, IsSplitArgume
 use Rattle.adp_model.specs.Visits.{argument_at, is_before, is_behind, is_behind_position, IsWalk}
 use Rattle.adp_model.specs.Memos.{Meaning, StayKnown, AddsNothing, AddsAtMost, IsAdded}
 use Rattle.adp_model.specs.Machines.{IsVisit, AreFrames, IsInHand, IsFollowing, IsWaiting, AreProbes, IsGoing}
-use Rattle.cell_core.specs.Seeking.{moved_to, IsNextSought, IsNoneSought}
+use Rattle.argument_search.specs.Seeking.{moved_to, IsNextSought, IsNoneSought}
 use Rattle.cell_core.proofs.Frames.{sought_below}
 
 some_same : {X : Type 0} (x y : X) → Some x ≡ Some y → x ≡ y

@@ -1,8 +1,3 @@
-pub mod VisitOrder
-pub mod PlacedArguments
-pub mod Walks
-pub mod WalkEnds
-pub mod SeekSteps
 pub mod Counts
 pub mod Knowing
 pub mod LeftArguments
@@ -16,16 +11,6 @@ pub mod Opening
 pub mod Changes
 pub mod Closing
 pub mod PlainRecords
-pub mod LineOrder
-pub mod LineSplits
-pub mod SameCuts
-pub mod Reached
-pub mod NotedPlaces
-pub mod ViableCuts
-pub mod LineHere
-pub mod SkipSteps
 pub mod FreshMachines
 pub mod PassingNone
 pub mod Stepped
-pub mod Demanded
-pub mod NotedArguments

@@ -7,7 +7,7 @@ use Rattle.adp_model.specs.declared.visit.Visit.{Visit}
 use Rattle.adp_model.specs.PosedProblem.{PosedProblem}
 use Rattle.adp_model.specs.SplitArguments.{IsSplitArgument}
 use Rattle.adp_model.specs.Visits.{argument_at}
-use Rattle.cell_core.specs.Seeking.{IsNextSought, IsNoneSought}
+use Rattle.argument_search.specs.Seeking.{IsNextSought, IsNoneSought}
 
 abbrev Nothing : Cell → Type 0
 Nothing cell = ⊥

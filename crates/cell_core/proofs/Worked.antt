@@ -13,16 +13,15 @@ use Rattle.adp_model.specs.PosedProblem.{PosedProblem, axiom_cell}
 use Rattle.adp_model.specs.Answers.{IsAnswer}
 use Rattle.adp_model.specs.Demand.{IsDemanded, IsDemandedChild}
 use Rattle.adp_model.specs.SplitArguments.{SplitArgument, AsksFor, IsSplitArgument, AreRuleArguments}
-use Rattle.adp_model.specs.Visits.{argument_at, IsWalk}
+use Rattle.adp_model.specs.Visits.{argument_at, is_behind, IsWalk}
 use Rattle.adp_model.specs.Memos.{Meaning, IsScoreOf, StayKnown, AddsNothing, AddsAtMost, IsAdded}
 use Rattle.adp_model.specs.Machines.{AreFrames, IsInHand, IsFollowing, IsWaiting, IsGoing, AreFewOpened, KnowsSoMany}
 use Rattle.adp_model.specs.StepBound.{steps_left}
 use Rattle.cell_core.specs.declared.work.Work.{Work}
-use Rattle.cell_core.specs.Seeking.{moved_to, IsNextSought, IsNoneSought}
+use Rattle.argument_search.specs.Seeking.{moved_to, IsNextSought, IsNoneSought}
 use Rattle.cell_core.specs.Working.{frames_of, HasRoom, IsSound, work_left}
 use Rattle.cell_core.proofs.Heights.{Heights}
 use Rattle.cell_core.proofs.Frames.{sought_demanded, sought_below, few_frames, child_of}
-use Rattle.cell_core.proofs.VisitOrder.{behind_moved, not_behind_itself}
 use Rattle.cell_core.proofs.Kept.{children_noted, first_begun as first_kept, begun as begun_kept, readied, look_goes, look_opens, look_finds, publish_goes, publish_leaves, noted_known}
 use Rattle.cell_core.proofs.Few.{so_many, one_more, few_stay, few_with_one_more, few_without}
 use Rattle.cell_core.proofs.StepsFall as fall
@@ -184,15 +183,19 @@ module _ {Pass Probe : Type 0} (memo : Meaning Pass Probe) (p : PosedProblem) (h
 
         pub next_left : (m : ℕ) (arguments : List SplitArgument) → AreRuleArguments p arguments → (hand : Hand Probe) (position : Position)
             → IsAt work' (Some hand) (record { visit = moved_to top.visit position; probe = top.probe } ∷ below) None
-            → IsNextSought p Noted top.visit position hand.cell → memo.remaining m hand.probe ≡ 2 * m + 5
+            → IsNextSought p Noted top.visit position hand.cell
+            → ((argument : SplitArgument) → is_behind p (moved_to top.visit position) argument ≡ true
+            → is_behind p top.visit argument ≡ true)
+            → is_behind p (moved_to top.visit position) (argument_at top.visit.cell position) ≡ false
+            → memo.remaining m hand.probe ≡ 2 * m + 5
             → work_left memo p m arguments work' pass ≤ work_left memo p m arguments work pass
-        next_left m arguments all hand position is next fresh =
+        next_left m arguments all hand position is next on_more not_itself fresh =
             let top' : Frame Probe = record { visit = moved_to top.visit position; probe = top.probe } in
             let at : SplitArgument = argument_at top.visit.cell position in
             let l = fall.begun memo p m arguments pass hand top top' below at refl refl
-            (λ argument here e. behind_moved p top.visit position next.behind argument e)
+            (λ argument here e. on_more argument e)
             (all.all at (top_demanded pass work top below was sound) (hand.cell, next.asks)) refl next.behind
-            (not_behind_itself p top.visit position next.behind) fresh in
+            not_itself fresh in
             let e = left_at m arguments work None (top ∷ below) None pass was in
             let f = left_at m arguments work' (Some hand) (top' ∷ below) None pass is in
             omega arith

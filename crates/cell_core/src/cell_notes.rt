@@ -5,41 +5,16 @@ ghost use Rattle.std.specs.Arc.{arc_value};
 ghost use Rattle.adp_model.specs.declared.cell.Cell.{Cell as AnyCell};
 ghost use Rattle.cell_tables.specs.Noted.{IsNoted};
 
-use crate::noted_cells::NotedCells;
 use crate::notes::Notes;
-use crate::seeking::seek;
 use adp_model::laws::demand::demanded_cells_are_counted;
 use adp_model::{Answer, Cell, Position, Problem, Visit};
+use argument_search::{NotedCells, seek};
 use cell_answers::{Scores, cell_answer};
 use cell_tables::Noted;
 use split_lines::{Lines, Prepared};
 use std::alloc::{AllocError, Global};
 use std::marker::Model;
 use std::sync::Arc;
-
-impl<'a> NotedCells for Noted<'a> {
-    ghost use Rattle.cell_tables.specs.Noted.{IsNoted};
-
-    ghost is_noted = { IsNoted };
-
-    fn has(&self, cell: Cell) -> bool {
-        Noted::has(self, cell)
-    }
-
-    fn noted_ends(&self, rule: u32, from: u16, first: u16, past: u16, bits: &[u64]) -> u16 {
-        match self.first_missing_end(rule, from, first, past, bits) {
-            Some(missing) => missing,
-            None => past,
-        }
-    }
-
-    fn noted_starts(&self, rule: u32, to: u16, first: u16, past: u16, bits: &[u64]) -> u16 {
-        match self.first_missing_start(rule, to, first, past, bits) {
-            Some(missing) => missing,
-            None => past,
-        }
-    }
-}
 
 /// Tells of no cell that it is noted.
 struct NothingNoted;

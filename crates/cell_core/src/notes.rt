@@ -10,7 +10,7 @@ pub(crate) trait Notes {
     ghost use Rattle.adp_model.specs.SplitArguments.{IsSplitArgument};
     ghost use Rattle.adp_model.specs.Visits.{argument_at, IsWalk};
     ghost use Rattle.adp_model.specs.Memos.{IsScoreOf};
-    ghost use Rattle.cell_core.specs.Seeking.{IsNextSought, IsNoneSought};
+    ghost use Rattle.argument_search.specs.Seeking.{IsNextSought, IsNoneSought};
 
     ghost problem: { Self → PosedProblem };
 

@@ -20,6 +20,7 @@ use adp_model::laws::existence::demanded_cells_are_listed;
 use adp_model::laws::heights::heights_fall;
 use adp_model::laws::well_formed::numbers_fit_together;
 use adp_model::{Answer, Cell, Frame, Hand, Look, Memo, Problem, Publish, Steps, Visit};
+use argument_search::walks_move_on;
 use random_orders::Orders;
 use std::alloc::{AllocError, Global};
 use std::sync::ledger::Ledger;
@@ -153,6 +154,7 @@ fn advance<M: Memo, N: Notes>(
 {
     problem.admissible();
     heights_fall();
+    walks_move_on();
     let Some(top) = &mut work.top else {
         unreachable!();
     };

@@ -3,7 +3,7 @@ use Rattle.std.specs.Prelude.{MatchOption}
 use Rattle.adp_model.specs.SplitArguments.{IsSplitArgument}
 use Rattle.adp_model.specs.Visits.{argument_at}
 use Rattle.cell_tables.specs.Noted.{Notes, IsNoted}
-use Rattle.cell_core.specs.Seeking.{IsNextSought, IsNoneSought}
+use Rattle.argument_search.specs.Seeking.{IsNextSought, IsNoneSought}
 use Rattle.cell_core.proofs.PassingNone.{nothing_passed}
 use Rattle.cell_core.proofs.cell_notes.CellNotesNotes.next_argument.Goals as goal
 

@@ -1,0 +1,15 @@
+pub mod VisitOrder
+pub mod PlacedArguments
+pub mod Walks
+pub mod WalkEnds
+pub mod SeekSteps
+pub mod LineOrder
+pub mod LineSplits
+pub mod SameCuts
+pub mod Reached
+pub mod NotedPlaces
+pub mod ViableCuts
+pub mod LineHere
+pub mod SkipSteps
+pub mod Demanded
+pub mod NotedArguments

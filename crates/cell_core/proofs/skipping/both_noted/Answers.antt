@@ -1,8 +1,0 @@
-use Rattle.std.proofs.Common.{arith}
-use Rattle.cell_core.proofs.skipping.both_noted.Goals as goal
-
-pub returns-clause-noted : goal.returns-clause-noted
-returns-clause-noted g c = λ place contains low high. record {
-  first = c.first_noted-past.ensures.noted place contains low (omega (arith, high, c.second_noted.ensures.high));
-  second = c.second_noted.ensures.noted place contains low high;
-}

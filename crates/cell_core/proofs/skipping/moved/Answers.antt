@@ -1,8 +1,0 @@
-use Rattle.std.proofs.Common.{arith}
-use Rattle.cell_core.proofs.ViableCuts.{index_set}
-use Rattle.cell_core.proofs.skipping.moved.Goals as goal
-
-pub returns-clause-there : goal.returns-clause-there
-returns-clause-there c =
-    index_set c.loop-number.moved c.args.first c.args.place
-    (let few = c.requires in let size = c.loop-number.invariant.size in omega arith)
