@@ -3,7 +3,7 @@ use Rattle.std.specs.List.{Contains}
 use Rattle.std.proofs.lemmas.Bool.{OnTrue_from, eqb-true, ltb-true}
 use Rattle.adp_model.specs.declared.grammar.Arg.{Arg}
 use Rattle.adp_model.specs.PosedProblem.{PosedProblem}
-use Rattle.yield_sizes.specs.Placing.{Cover}
+use Rattle.viable_splits.specs.Placing.{Cover}
 use Rattle.split_lines.specs.Laid.{IsCellOf}
 use Rattle.split_lines.specs.Lines.{parts_by}
 use Rattle.argument_search.specs.Skipping.{AreNotedOn, IsNotedAt}

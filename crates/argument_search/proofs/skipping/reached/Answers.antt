@@ -8,7 +8,7 @@ use Rattle.adp_model.specs.declared.visit.Position.{Position}
 use Rattle.adp_model.specs.PosedProblem.{PosedProblem}
 use Rattle.adp_model.specs.Parts.{arguments_of}
 use Rattle.adp_model.specs.Splits.{ends_by, FitsSpan}
-use Rattle.yield_sizes.specs.Placing.{on_span}
+use Rattle.viable_splits.specs.Placing.{on_span}
 use Rattle.split_lines.specs.Lines.{parts_by, IsLine}
 use Rattle.argument_search.specs.Skipping.{IsReached, IsSkipped}
 use Rattle.argument_search.proofs.LineHere.{cut_within, start_within, few_before, place_within, spans_there, at_moved}
