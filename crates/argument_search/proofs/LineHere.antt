@@ -1,5 +1,5 @@
 -- The line of a split at hand: where it begins, and where its boundary may stand.
-use Rattle.std.proofs.Common.{◌≡◌, ℕ, zero, suc, ◌+◌, ◌-◌, ◌<◌, ◌≤◌, List, [], ◌∷◌, ◌++◌, length, slice_index, slice_index_or, drop, refl, sym, ap, subst, ◌∙◌, arith}
+use Rattle.std.proofs.Common.{◌≡◌, ℕ, zero, suc, ◌+◌, ◌-◌, ◌<◌, ◌≤◌, List, [], ◌∷◌, length, slice_index, slice_index_or, drop, refl, sym, ap, subst, ◌∙◌, arith}
 use Rattle.std.specs.List.{AllByRecursion, Contains}
 use Rattle.adp_model.specs.declared.grammar.Arg.{Arg}
 use Rattle.adp_model.specs.declared.grammar.Arg.TheVariants.{Rule}
@@ -10,17 +10,12 @@ use Rattle.adp_model.specs.Splits.{ends_by, FitsSpan, Placed}
 use Rattle.viable_splits.specs.Placing.{on_span, Cover}
 use Rattle.split_lines.specs.Laid.{LineParts, AreBoundaries}
 use Rattle.split_lines.specs.Lines.{parts_by, HasLine}
-use Rattle.argument_search.proofs.LineOrder.{AreWithin}
+use Rattle.argument_search.proofs.LineOrder.{AreWithin, front_at}
 
 each : (P : ℕ → Type 0) (xs : List ℕ) → AllByRecursion P xs → (k : ℕ) → k < length xs → P (slice_index xs k)
 each P [] all k l = absurd (omega arith)
 each P (x ∷ xs) all zero l = all.0
 each P (x ∷ xs) all (suc k) l = each P xs all.1 k (omega arith)
-
-front_at : (xs : List ℕ) (last n : ℕ) → n < length xs → slice_index (xs ++ last ∷ []) n ≡ slice_index xs n
-front_at [] last n l = absurd (omega arith)
-front_at (x ∷ xs) last zero l = refl
-front_at (x ∷ xs) last (suc n) l = front_at xs last n (omega arith)
 
 pub length_drop : {X : Type 0} (n : ℕ) (xs : List X) → length (drop n xs) ≡ length xs - n
 length_drop zero xs = omega arith

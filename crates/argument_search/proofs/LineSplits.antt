@@ -2,6 +2,7 @@
 -- of its two arguments with the boundary at one of its places.
 use Rattle.std.proofs.Common.{◌≡◌, ℕ, zero, suc, ◌+◌, ◌-◌, ◌<◌, ◌≤◌, ◌⊎◌, inl, inr, Some, List, [], ◌∷◌, ◌++◌, length, take, drop, slice_get, slice_index, refl, sym, ap, subst, ◌∙◌, arith}
 use Rattle.std.specs.List.{AllByRecursion, Contains}
+use Rattle.std.proofs.lemmas.Option.{same_Some}
 use Rattle.adp_model.specs.declared.grammar.Arg.{Arg}
 use Rattle.adp_model.specs.declared.grammar.Arg.TheVariants.{Rule, Literal, Letter, Run}
 use Rattle.adp_model.specs.declared.cell.Cell.{Cell}
@@ -158,15 +159,12 @@ none_asked (token ∷ tokens) start (end ∷ ends) fixed (suc k) child e = none_
 pub cell_of : (argument : Arg) (from to : ℕ) (child : Cell) → Some (on_span argument from to) ≡ Some (IsCell child)
     → IsCellOf argument from to child
 cell_of argument from to child e =
-    let same : on_span argument from to ≡ IsCell child = some_same (on_span argument from to) (IsCell child) e in
+    let same : on_span argument from to ≡ IsCell child = same_Some (on_span argument from to) (IsCell child) e in
     record {
       rule = ap (λ (x : Placed). x.argument) same;
       begins = ap (λ (x : Placed). x.from) same;
       ends = ap (λ (x : Placed). x.to) same;
     }
-  where
-    some_same : (a b : Placed) → Some a ≡ Some b → a ≡ b
-    some_same a b e = cc
 
 -- ---- a split of a line
 

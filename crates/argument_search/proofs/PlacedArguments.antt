@@ -1,6 +1,7 @@
 -- Where an argument of a split stands.
 use Rattle.std.proofs.Common.{◌≡◌, ℕ, zero, suc, ◌+◌, ◌<◌, Some, List, [], ◌∷◌, ◌++◌, length, get_or, slice_index, refl, sym, ap, ◌∙◌, arith}
 use Rattle.std.specs.Prelude.{slice_get}
+use Rattle.std.proofs.lemmas.Option.{same_Some}
 use Rattle.adp_model.specs.declared.grammar.Arg.{Arg}
 use Rattle.adp_model.specs.declared.grammar.Arg.TheVariants.{Rule}
 use Rattle.adp_model.specs.PosedProblem.{PosedProblem}
@@ -66,10 +67,7 @@ asks_rule p argument child d is within asks =
           get_or (ends_by argument.cell argument.cuts) argument.number 0;
     } in
     let f : Some other ≡ Some it = sym e ∙ asks.there in
-    ap (λ (x : Placed). x.argument) (same other it f)
-  where
-    same : {X : Type 0} (x y : X) → Some x ≡ Some y → x ≡ y
-    same x y e = cc
+    ap (λ (x : Placed). x.argument) (same_Some other it f)
 
 pub length_ends : (cuts : List ℕ) (to : ℕ) → length (cuts ++ to ∷ []) ≡ length cuts + 1
 length_ends [] to = omega arith

@@ -2,6 +2,7 @@
 use Rattle.std.proofs.Common.{◌≡◌, ℕ, zero, suc, ◌<◌, ◌⊎◌, inl, inr, Bool, true, false, Option, Some, List, [], ◌∷◌, length, refl, sym, subst, ap, ◌∙◌, arith}
 use Rattle.std.specs.Prelude.{slice_get}
 use Rattle.std.proofs.lemmas.Bool.{false≢true}
+use Rattle.std.proofs.lemmas.Option.{same_Some}
 use Rattle.adp_model.specs.declared.grammar.Arg.{Arg}
 use Rattle.adp_model.specs.declared.grammar.Arg.TheVariants.{Rule}
 use Rattle.adp_model.specs.declared.cell.Cell.{Cell}
@@ -14,9 +15,6 @@ use Rattle.adp_model.specs.SplitArguments.{SplitArgument, AsksFor, IsSplitArgume
 use Rattle.adp_model.specs.Visits.{visited_at, is_before, is_behind, is_behind_position, argument_at, IsWalk}
 use Rattle.argument_search.specs.Seeking.{moved_to, IsNextLeft, IsNextSought, IsNoneSought}
 use Rattle.argument_search.proofs.VisitOrder.{behind_moved, less_transitive, less_irreflexive}
-
-pub some_same : {X : Type 0} (x y : X) → Some x ≡ Some y → x ≡ y
-some_same x y e = cc
 
 placed_within : (arguments : List Arg) (from : ℕ) (ends : List ℕ) (k : ℕ) (it : Placed)
     → slice_get (place arguments from ends) k ≡ Some it → k < length arguments
@@ -39,7 +37,7 @@ pub asks_one : (p : PosedProblem) (argument : SplitArgument) (a b : Cell) → As
 asks_one p argument a b asks asks' =
     let x : Placed = record { argument = Rule a.rule; from = a.from; to = a.to } in
     let y : Placed = record { argument = Rule b.rule; from = b.from; to = b.to } in
-    let e : x ≡ y = some_same x y (sym asks.there ∙ asks'.there) in
+    let e : x ≡ y = same_Some x y (sym asks.there ∙ asks'.there) in
     let r : a.rule ≡ b.rule = rules_same a.rule b.rule (ap (λ (z : Placed). z.argument) e) in
     let f : a.from ≡ b.from = ap (λ (z : Placed). z.from) e in
     let t : a.to ≡ b.to = ap (λ (z : Placed). z.to) e in
@@ -55,7 +53,7 @@ walk_to p visit walk position is = record {
   first = walk.first;
   three = walk.three;
   turns = walk.turns;
-  at = λ q e. subst (λ (x : Position). IsSplitArgument p (argument_at visit.cell x)) (some_same position q e) is;
+  at = λ q e. subst (λ (x : Position). IsSplitArgument p (argument_at visit.cell x)) (same_Some position q e) is;
 }
 
 module _ (p : PosedProblem) (Noted : Cell → Type 0) (visit : Visit) (at : Option Position) where

@@ -2,6 +2,7 @@
 use Rattle.std.proofs.Common.{◌≡◌, ◌≢◌, ◌↔◌, ℕ, ◌+◌, ◌<◌, ◌≤◌, ◌⊎◌, inl, inr, true, false, Option, Some, None, List, [], ◌∷◌, sym, subst, ap, ◌∙◌, arith}
 use Rattle.std.specs.Prelude.{reverse, ℤ}
 use Rattle.std.proofs.lemmas.Bool.{false≢true}
+use Rattle.std.proofs.lemmas.Option.{none-some}
 use Rattle.adp_model.specs.declared.cell.Answer.{Answer}
 use Rattle.adp_model.specs.declared.cell.Cell.{Cell}
 use Rattle.adp_model.specs.declared.visit.Frame.{Frame}
@@ -31,9 +32,6 @@ with_wins work wins = record {
   score = work.score;
 }
 
-none_some : {X : Type 0} (x : X) → None ≡ Some x → ⊥
-none_some x e = cc
-
 module _ {Pass Probe : Type 0} (memo : Meaning Pass Probe) (p : PosedProblem) (high : Heights p) (Noted : Cell → Type 0) (pass pass' : Pass)
     (on : (probe : Probe) → memo.stage probe ≢ Publishing → memo.follows probe pass → memo.follows probe pass')
     (stay : StayKnown (memo.known pass) (memo.known pass'))
@@ -57,7 +55,7 @@ module _ {Pass Probe : Type 0} (memo : Meaning Pass Probe) (p : PosedProblem) (h
       go : ((next : Frame Probe) × (work'.top ≡ Some next) × (reverse work.below.items ≡ next ∷ reverse work'.below.items) × (work'.ended ≡ work.ended))
           ⊎ ((work'.top ≡ None) × (reverse work.below.items ≡ []) × (work'.ended ≡ true) × (work'.score ≡ score))
           → work'.ended ≡ false → work'.top ≡ None → work'.below.items ≡ []
-      go (inl next) e f = absurd (none_some next.0 (sym f ∙ next.1))
+      go (inl next) e f = absurd (none-some next.0 (sym f ∙ next.1))
       go (inr end) e f = absurd (false≢true (sym e ∙ end.2))
 
   at_next : (next : Frame Probe) → work'.top ≡ Some next → work'.ended ≡ work.ended → IsAt work' None (next ∷ reverse work'.below.items) None

@@ -2,6 +2,7 @@
 use Rattle.std.proofs.Common.{◌≡◌, ℕ, zero, suc, ◌+◌, ◌<◌, ◌≤◌, List, [], ◌∷◌, length, refl, sym, subst, ap, arith}
 use Rattle.std.specs.Prelude.{Some, slice_get}
 use Rattle.std.specs.List.{Contains, AllByRecursion}
+use Rattle.std.proofs.lemmas.Option.{same_Some}
 use Rattle.adp_model.specs.declared.cell.Cell.{Cell}
 use Rattle.adp_model.specs.PosedProblem.{PosedProblem, axiom_cell}
 use Rattle.adp_model.specs.Splits.{placed}
@@ -13,10 +14,7 @@ use Rattle.adp_model.specs.Machines.{IsVisit, AreFrames}
 
 contains_at : {X : Type 0} (xs : List X) (i : ℕ) (x : X) → slice_get xs i ≡ Some x → Contains xs x
 contains_at [] i x e = cc
-contains_at (y ∷ ys) zero x e = (zero, omega arith, some_same y x e)
-  where
-    some_same : {X : Type 0} (y x : X) → Some y ≡ Some x → y ≡ x
-    some_same y x e = cc
+contains_at (y ∷ ys) zero x e = (zero, omega arith, same_Some y x e)
 contains_at (y ∷ ys) (suc i) x e = let h = contains_at ys i x e in (suc h.0, omega (arith, h.1), h.2)
 
 pub child_of : (p : PosedProblem) (argument : SplitArgument) (child : Cell) → AsksFor p argument child → IsDemandedChild p argument.cell child

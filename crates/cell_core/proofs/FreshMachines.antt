@@ -1,5 +1,6 @@
 -- What holds of a fresh machine.
-use Rattle.std.proofs.Common.{◌≡◌, ℕ, ◌-◌, ◌≤◌, Bool, true, false, Option, Some, None, List, [], length, refl, sym, subst, ap, arith}
+use Rattle.std.proofs.Common.{◌≡◌, ℕ, ◌-◌, ◌≤◌, Bool, true, false, Option, None, List, [], length, refl, sym, subst, ap, arith}
+use Rattle.std.proofs.lemmas.Option.{none-some}
 use Rattle.adp_model.specs.declared.cell.Cell.{Cell}
 use Rattle.adp_model.specs.PosedProblem.{PosedProblem, axiom_cell}
 use Rattle.adp_model.specs.Cells.{IsCounted}
@@ -23,9 +24,6 @@ axiom_within p counted demanded =
     let same : length p.word - 0 ≡ length p.word = omega arith in
     subst (IsWithinSizes p.grammar p.grammar.axiom) same (counted (axiom_cell p) demanded).size
 
-none_some : {X : Type 0} (x : X) → None ≡ Some x → ⊥
-none_some x e = cc
-
 module _ {Pass Probe : Type 0} (memo : Meaning Pass Probe) (p : PosedProblem) (notes : Option Notes) (work : Work Probe) (fresh : IsFreshWork p work) where
   no_frames : frames_of work.top work.below.items ≡ []
   no_frames = ap (λ t. frames_of t work.below.items) fresh.top
@@ -38,8 +36,8 @@ module _ {Pass Probe : Type 0} (memo : Meaning Pass Probe) (p : PosedProblem) (n
         (subst (λ ready. IsGoing memo p (IsNotedIn notes) None [] ready pass) (sym fresh.ready)
         (record {
           demanded = fresh.going e;
-          visits = λ child f. absurd (none_some child f);
-          in_hand = λ it f. absurd (none_some it f);
+          visits = λ child f. absurd (none-some child f);
+          in_hand = λ it f. absurd (none-some it f);
           probes = tt;
           ready_is = tt;
         })));

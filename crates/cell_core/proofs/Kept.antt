@@ -1,7 +1,7 @@
 -- Each kind of step keeps what holds of a machine that goes on.
 use Rattle.std.proofs.Common.{◌≡◌, ◌≢◌, ◌↔◌, ℕ, ◌<◌, ◌⊎◌, inl, inr, Bool, true, false, Option, Some, None, List, [], ◌∷◌, length, refl, sym, subst, ap, ◌∙◌, arith}
 use Rattle.std.specs.List.{AllByRecursion}
-use Rattle.std.proofs.lemmas.Option.{slice_get_read}
+use Rattle.std.proofs.lemmas.Option.{slice_get_read, same_Some, none-some}
 use Rattle.adp_model.specs.declared.grammar.Arg.TheVariants.{Rule}
 use Rattle.adp_model.specs.declared.cell.Answer.{Answer}
 use Rattle.adp_model.specs.declared.cell.Cell.{Cell}
@@ -21,12 +21,6 @@ use Rattle.adp_model.specs.Memos.{Meaning, StayKnown, AddsNothing, AddsAtMost, I
 use Rattle.adp_model.specs.Machines.{IsVisit, AreFrames, IsInHand, IsFollowing, IsWaiting, AreProbes, IsGoing}
 use Rattle.argument_search.specs.Seeking.{moved_to, IsNextSought, IsNoneSought}
 use Rattle.cell_core.proofs.Frames.{sought_below}
-
-some_same : {X : Type 0} (x y : X) → Some x ≡ Some y → x ≡ y
-some_same x y e = cc
-
-none_some : {X : Type 0} (x : X) → None ≡ Some x → ⊥
-none_some x e = cc
 
 not_publishing : (stage : Stage) → stage ≡ Unpublished → stage ≢ Publishing
 not_publishing stage e f = apart (sym e ∙ f)
@@ -58,7 +52,7 @@ module _ (p : PosedProblem) (Noted : Cell → Type 0) where
     where
       done : Noted child ⊎ (None ≡ Some child) → Noted child
       done (inl noted) = noted
-      done (inr e) = absurd (none_some child e)
+      done (inr e) = absurd (none-some child e)
 
       go : (argument : SplitArgument) → argument.cell ≡ visit.cell → AsksFor p argument child
           → (b : Bool) → is_behind p visit argument ≡ b → Noted child
@@ -75,22 +69,22 @@ module _ (p : PosedProblem) (Noted : Cell → Type 0) where
       three = is.walk.three;
       turns = is.walk.turns;
       at = λ other e.
-          subst (λ (q : Position). IsSplitArgument p (argument_at visit.cell q)) (some_same position other e) is_argument;
+          subst (λ (q : Position). IsSplitArgument p (argument_at visit.cell q)) (same_Some position other e) is_argument;
     };
     not_known = is.not_known;
     at_hand = λ other e.
-        (position, refl, subst (AsksFor p (argument_at visit.cell position)) (some_same child other e) next.asks);
+        (position, refl, subst (AsksFor p (argument_at visit.cell position)) (same_Some child other e) next.asks);
     before = λ other argument cell e here asks l.
         let same : is_before p visit argument (argument_at visit.cell position) ≡ true =
         subst (λ (q : Position). is_before p visit argument (argument_at visit.cell q) ≡ true)
-        (sym (some_same position other e)) l in
+        (sym (same_Some position other e)) l in
         was_before argument cell here asks same (is_behind p visit argument) refl;
     passed = λ argument cell here asks l. was_passed argument cell here asks l (is_behind p visit argument) refl;
   }
     where
       done : (cell : Cell) → Noted cell ⊎ (None ≡ Some cell) → Noted cell
       done cell (inl noted) = noted
-      done cell (inr e) = absurd (none_some cell e)
+      done cell (inr e) = absurd (none-some cell e)
 
       was_before : (argument : SplitArgument) (cell : Cell) → argument.cell ≡ visit.cell → AsksFor p argument cell
           → is_before p visit argument (argument_at visit.cell position) ≡ true
@@ -130,14 +124,14 @@ visit_found : (p : PosedProblem) (Known Noted : Cell → Type 0) (cell : Cell) (
 visit_found p Known Noted cell visit noted is = record {
   walk = is.walk;
   not_known = is.not_known;
-  at_hand = λ child e. absurd (none_some child e);
+  at_hand = λ child e. absurd (none-some child e);
   before = is.before;
   passed = λ argument child here asks e. on child (is.passed argument child here asks e);
 }
   where
     on : (child : Cell) → Noted child ⊎ (Some cell ≡ Some child) → Noted child ⊎ (None ≡ Some child)
     on child (inl h) = inl h
-    on child (inr e) = inl (subst Noted (some_same cell child e) noted)
+    on child (inr e) = inl (subst Noted (same_Some cell child e) noted)
 
 module _ {Pass Probe : Type 0} (memo : Meaning Pass Probe) (p : PosedProblem) (height : Cell → ℕ) (falls : (cell child : Cell) → IsDemandedChild p cell child → height child < height cell) where
   -- all frames lie above the cell
@@ -200,8 +194,8 @@ module _ {Pass Probe : Type 0} (memo : Meaning Pass Probe) (p : PosedProblem) (h
     pub fresh_going : (pass : Pass) → IsDemanded p (axiom_cell p) → Going None [] None pass
     fresh_going pass demanded = record {
       demanded = demanded;
-      visits = λ child e. absurd (none_some child e);
-      in_hand = λ it e. absurd (none_some it e);
+      visits = λ child e. absurd (none-some child e);
+      in_hand = λ it e. absurd (none-some it e);
       probes = tt;
       ready_is = tt;
     }
@@ -212,8 +206,8 @@ module _ {Pass Probe : Type 0} (memo : Meaning Pass Probe) (p : PosedProblem) (h
         → Going None [] None pass → Going (Some hand) [] None pass
     first_begun pass hand root own is = record {
       demanded = is.demanded;
-      visits = λ child e. sym (some_same hand.cell child e) ∙ root;
-      in_hand = λ it e. subst (IsInHand memo pass) (some_same hand it e) own;
+      visits = λ child e. sym (same_Some hand.cell child e) ∙ root;
+      in_hand = λ it e. subst (IsInHand memo pass) (same_Some hand it e) own;
       probes = tt;
       ready_is = tt;
     }
@@ -228,7 +222,7 @@ module _ {Pass Probe : Type 0} (memo : Meaning Pass Probe) (p : PosedProblem) (h
         visit_moved p Noted (memo.known pass) top.visit position hand.cell is.visits.0 is_argument next,
         is.visits.1,
       );
-      in_hand = λ it e. subst (IsInHand memo pass) (some_same hand it e) own;
+      in_hand = λ it e. subst (IsInHand memo pass) (same_Some hand it e) own;
       probes = (
         record {
           following = record { cell = is.probes.0.following.cell; follows = is.probes.0.following.follows };
@@ -264,7 +258,7 @@ module _ {Pass Probe : Type 0} (memo : Meaning Pass Probe) (p : PosedProblem) (h
             (frames_on (memo.known pass) (memo.known pass') Noted Noted hand.cell (λ other noted. noted) only
             (Some hand.cell) frames
             (sought_below p (memo.known pass) Noted height falls hand.cell frames is.visits) is.visits);
-        in_hand = λ it e. subst (IsInHand memo pass') (some_same hand' it e) own;
+        in_hand = λ it e. subst (IsInHand memo pass') (same_Some hand' it e) own;
         probes = probes_on pass pass' on frames is.probes;
         ready_is = tt;
       }
@@ -281,14 +275,14 @@ module _ {Pass Probe : Type 0} (memo : Meaning Pass Probe) (p : PosedProblem) (h
             record {
               walk = walk;
               not_known = λ has. unknown (subst (memo.known pass) cell (nothing top.visit.cell has));
-              at_hand = λ child e. absurd (none_some child e);
-              before = λ position argument child e here asks l. absurd (none_some position (sym fresh ∙ e));
+              at_hand = λ child e. absurd (none-some child e);
+              before = λ position argument child e here asks l. absurd (none-some position (sym fresh ∙ e));
               passed = λ argument child here asks e. absurd (all_behind argument e);
             },
             frames_as_they_were (memo.known pass) (memo.known pass') Noted nothing (Some top.visit.cell) below
                 (subst (λ c. AreFrames p (memo.known pass) Noted (Some c) below) (sym cell) is.visits),
           );
-          in_hand = λ it e. absurd (none_some it e);
+          in_hand = λ it e. absurd (none-some it e);
           probes = (own, waiting below (probes_on pass pass' on below is.probes));
           ready_is = tt;
         }
@@ -316,7 +310,7 @@ module _ {Pass Probe : Type 0} (memo : Meaning Pass Probe) (p : PosedProblem) (h
               IsVisit p (memo.known pass') Noted None v × AreFrames p (memo.known pass') Noted (Some v.cell) below)
               (sym visit)
               (frames_as_they_were (memo.known pass) (memo.known pass') Noted nothing None (top ∷ below) is.visits);
-          in_hand = λ it e. absurd (none_some it e);
+          in_hand = λ it e. absurd (none-some it e);
           probes = ((own, inr publishing), all_on pass pass' on below is.probes.1);
           ready_is = (
             refl,
@@ -355,7 +349,7 @@ module _ {Pass Probe : Type 0} (memo : Meaning Pass Probe) (p : PosedProblem) (h
         visits =
             found_visits top below
             (subst (λ c. AreFrames p (memo.known pass) Noted (Some c) (top ∷ below)) here is.visits);
-        in_hand = λ it e. absurd (none_some it e);
+        in_hand = λ it e. absurd (none-some it e);
         probes = probes_on pass pass' on (top ∷ below) is.probes;
         ready_is = tt;
       }
@@ -369,7 +363,7 @@ module _ {Pass Probe : Type 0} (memo : Meaning Pass Probe) (p : PosedProblem) (h
         visits =
             found_visits next below
             (subst (λ c. AreFrames p (memo.known pass) Noted (Some c) (next ∷ below)) here is.visits.1);
-        in_hand = λ it e. absurd (none_some it e);
+        in_hand = λ it e. absurd (none-some it e);
         probes = (waiting_on pass pass' on next is.probes.1.0, all_on pass pass' on below is.probes.1.1);
         ready_is = tt;
       }

@@ -1,6 +1,7 @@
 -- Records at their places, and what a new one changes.
 use Rattle.std.proofs.Common.{◌≡◌, ℕ, pos, negsuc, zero, suc, ◌+◌, ◌<◌, ◌⊎◌, inl, inr, Option, Some, None, List, [], ◌∷◌, length, slice_get, slice_set, replicate, refl, sym, ap, subst, ◌∙◌, arith}
 use Rattle.std.proofs.lemmas.List.{length-replicate}
+use Rattle.std.proofs.lemmas.Option.{same_Some}
 use Rattle.adp_model.specs.declared.cell.Answer.{Answer}
 use Rattle.adp_model.specs.declared.cell.Answer.TheVariants.{NoCandidate, Best}
 use Rattle.adp_model.specs.declared.cell.Cell.{Cell}
@@ -127,11 +128,8 @@ value_is pass cell place value found last (word, at, access) = same word value (
     same word value e =
         let it : Access = record { word = word; found = value } in
         let other : Access = record { word = place; found = value_of found } in
-        let f : it ≡ other = some_same it other e in
+        let f : it ≡ other = same_Some it other e in
         ap (λ (x : Access). x.found) f
-      where
-        some_same : (a b : Access) → Some a ≡ Some b → a ≡ b
-        some_same a b e = cc
 
 pub some_value : (answer : Answer) → 0 < value_of (Some answer)
 some_value NoCandidate = omega arith

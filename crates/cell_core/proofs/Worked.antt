@@ -3,6 +3,7 @@ use Rattle.std.proofs.Common.{◌≡◌, ◌≢◌, ◌↔◌, ℕ, ◌+◌, ◌
 use Rattle.std.specs.Prelude.{vec_capacity, ℤ}
 use Rattle.std.specs.List.{AllByRecursion}
 use Rattle.std.proofs.lemmas.Bool.{false≢true}
+use Rattle.std.proofs.lemmas.Option.{none-some}
 use Rattle.adp_model.specs.declared.cell.Answer.{Answer}
 use Rattle.adp_model.specs.declared.cell.Cell.{Cell}
 use Rattle.adp_model.specs.declared.visit.Position.{Position}
@@ -25,9 +26,6 @@ use Rattle.cell_core.proofs.Frames.{sought_demanded, sought_below, few_frames, c
 use Rattle.cell_core.proofs.Kept.{children_noted, first_begun as first_kept, begun as begun_kept, readied, look_goes, look_opens, look_finds, publish_goes, publish_leaves, noted_known}
 use Rattle.cell_core.proofs.Few.{so_many, one_more, few_stay, few_with_one_more, few_without}
 use Rattle.cell_core.proofs.StepsFall as fall
-
-some_same : {X : Type 0} (x y : X) → Some x ≡ Some y → x ≡ y
-some_same x y e = cc
 
 -- the work goes on, with this look, these frames and this answer
 pub record IsAt {Probe : Type 0} (work : Work Probe) (hand : Option (Hand Probe)) (frames : List (Frame Probe)) (ready : Option Answer) : Type 0 where
@@ -432,15 +430,12 @@ module _ {Pass Probe : Type 0} (memo : Meaning Pass Probe) (p : PosedProblem) (h
 
 -- ---- room
 
-none_some : {X : Type 0} (x : X) → None ≡ Some x → ⊥
-none_some x e = cc
-
 module _ {Probe : Type 0} (p : PosedProblem) (work work' : Work Probe) (room : HasRoom p work) (capacity : vec_capacity work.below ≤ vec_capacity work'.below) where
   -- a frame is on top
   pub room_under : (top : Frame Probe) → work'.top ≡ Some top → HasRoom p work'
   room_under top is = record {
     room = let r = room.room in omega arith;
-    nothing_below = λ _ e. absurd (none_some top (sym e ∙ is));
+    nothing_below = λ _ e. absurd (none-some top (sym e ∙ is));
   }
 
   -- it has ended
@@ -461,7 +456,7 @@ module _ {Probe : Type 0} (p : PosedProblem) (work : Work Probe) (room : HasRoom
   -- a frame is on top of those below
   pub room_top : (top : Frame Probe) (ended : Bool)
       → HasRoom p (record { hand = hand; top = Some top; below = work.below; ready = ready; opened = opened; wins = wins; moves = moves; ended = ended; score = score })
-  room_top top ended = record { room = room.room; nothing_below = λ _ e. absurd (none_some top (sym e)) }
+  room_top top ended = record { room = room.room; nothing_below = λ _ e. absurd (none-some top (sym e)) }
 
   -- all frames are as before
   pub room_kept : HasRoom p (record { hand = hand; top = work.top; below = work.below; ready = ready; opened = opened; wins = wins; moves = moves; ended = work.ended; score = score })

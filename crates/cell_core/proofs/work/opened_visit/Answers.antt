@@ -1,4 +1,5 @@
-use Rattle.std.proofs.Common.{◌≡◌, ◌+◌, ℕ, List, [], ◌∷◌, length, None, Some, refl, subst, ap, arith}
+use Rattle.std.proofs.Common.{◌≡◌, ◌+◌, ℕ, List, [], ◌∷◌, length, refl, subst, ap, arith}
+use Rattle.std.proofs.lemmas.Option.{none-some}
 use Rattle.adp_model.specs.Parts.{alternatives_of}
 use Rattle.rand_pcg.specs.Lcg.{Lcg}
 use Rattle.random_orders.specs.Draws.{drawn_turn, drawn_turns}
@@ -17,11 +18,8 @@ returns-clause-walk c =
       first = omega arith;
       three = refl;
       turns = (omega arith, (omega arith, (omega arith, tt)));
-      at = λ position e. absurd (none_some position e);
+      at = λ position e. absurd (none-some position e);
     }
-  where
-    none_some : {X : Type 0} (x : X) → None ≡ Some x → ⊥
-    none_some x e = cc
 
 pub returns-clause-drawn : goal.returns-clause-drawn
 returns-clause-drawn c =
