@@ -4,6 +4,7 @@ pub mod Spreads
 pub mod Sweeps
 pub mod RulePlans
 pub mod RankSteps
+pub mod Fillable
 pub mod Kept
 pub mod KeptPlanSteps
 pub mod PlanLists

@@ -1,6 +1,7 @@
 -- What a table of bounds has, once it is filled for some rules and lengths.
-use Rattle.std.specs.Prelude.{◌≡◌, ℕ, ◌+◌, ◌<◌, ◌≤◌, List, [], length, map, slice_index, slice_index_or}
+use Rattle.std.specs.Prelude.{◌≡◌, ℕ, ◌+◌, ◌<◌, ◌≤◌, List, [], length, map, slice_index, slice_index_or, Vec, vec_len}
 use Rattle.std.specs.List.{All}
+use Rattle.std.specs.Global.{Global}
 use Rattle.adp_model.specs.LimitFaults.{told}
 use Rattle.grammar_check.specs.declared.part.Part.{Part}
 use Rattle.grammar_check.specs.declared.part.Worth.{Worth}
@@ -73,6 +74,24 @@ IsKeptRanked ranks plan =
     → (kept_entry plan rule alternative).1 + lows (kept_entry plan rule alternative).2
     ≤ (part_at (kept_entry plan rule alternative).2 place).low
     → NamesLesser ranks rule (part_at (kept_entry plan rule alternative).2 place).worth
+
+-- there are a row and a rank for each plan, whose parts name rows and whose alternatives are as wide as the table
+pub record AreFillable (ranked : List ℕ) (table : Table) (plans : Vec RulePlan Global) : Type 0 where
+  pub rows : table.rows ≡ vec_len plans
+  pub ranks : length ranked ≡ vec_len plans
+  pub readable : All (IsRuleReadable (vec_len plans)) plans.items
+  pub columns : All (IsRuleWide table.width) plans.items
+
+-- a table and plans as they were, but for the bounds and the rows of alternatives that are written
+pub record StayFillable (old : Table) (before : Vec RulePlan Global) (new : Table) (after : Vec RulePlan Global)
+    : Type 0 where
+  pub rows : new.rows ≡ old.rows
+  pub width : new.width ≡ old.width
+  pub each : vec_len after ≡ vec_len before
+  pub plan : rules_plan after.items ≡ rules_plan before.items
+  pub tokens : map plan_tokens after.items ≡ map plan_tokens before.items
+  pub readable : All (IsRuleReadable (vec_len before)) after.items
+  pub columns : All (IsRuleWide old.width) after.items
 
 -- the table has the bounds at all lesser lengths, cut, and the rows of all alternatives are as far
 pub record IsFilledTo (bound : ℕ → ℕ → ℕ) (table : Table) (plans : List RulePlan) (len : ℕ) : Type 0 where

@@ -1,25 +1,15 @@
-ghost use Rattle.std.specs.Prelude.{◌≡◌, ℕ, ◌+◌, ◌^◌, ◌<◌, ◌≤◌, length, map, slice_index, vec_len};
-ghost use Rattle.std.specs.List.{All};
-ghost use Rattle.grammar_check.specs.Fills.{plan_tokens, IsRuleReadable, IsRuleWide, rules_plan, IsKept, IsKeptRanked, IsFilledTo, IsRankFilled};
+ghost use Rattle.std.specs.Prelude.{ℕ, ◌+◌, ◌^◌, ◌<◌, ◌≤◌, slice_index, vec_len};
+ghost use Rattle.grammar_check.specs.Fills.{rules_plan, AreFillable, StayFillable, IsKept, IsKeptRanked, IsFilledTo, IsRankFilled};
 
 use crate::rule_plan::RulePlan;
 use crate::table::Table;
 
 /// Writes the bounds at this length of the rules of this rank, once those of all lesser ranks are written.
 fn fill_rank(plans: &mut Vec<RulePlan>, ranks: &[u32], table: &mut Table, len: usize, rank: usize)
-    requires rows { table.old.rows ≡ vec_len plans.old }
-    requires ranks { length ranks.now ≡ vec_len plans.old }
+    requires fillable { AreFillable ranks.now table.old plans.old }
     requires within { len < table.old.width }
     requires short { len < 2 ^ 32 }
-    requires readable { All (λ plan. IsRuleReadable (vec_len plans.old) plan) plans.old.items }
-    requires columns { All (λ plan. IsRuleWide table.old.width plan) plans.old.items }
-    ensures rows { table.new.rows ≡ table.old.rows }
-    ensures width { table.new.width ≡ table.old.width }
-    ensures each { vec_len plans.new ≡ vec_len plans.old }
-    ensures plan { rules_plan plans.new.items ≡ rules_plan plans.old.items }
-    ensures tokens { map plan_tokens plans.new.items ≡ map plan_tokens plans.old.items }
-    ensures readable { All (λ plan. IsRuleReadable (vec_len plans.old) plan) plans.new.items }
-    ensures columns { All (λ plan. IsRuleWide table.old.width plan) plans.new.items }
+    ensures stay { StayFillable table.old plans.old table.new plans.new }
     ensures filled { (bound : ℕ → ℕ → ℕ) → IsKept bound (rules_plan plans.old.items) len
         → IsKeptRanked ranks.now (rules_plan plans.old.items)
         → IsRankFilled bound ranks.now table.old plans.old.items len rank
@@ -36,20 +26,11 @@ fn fill_rank(plans: &mut Vec<RulePlan>, ranks: &[u32], table: &mut Table, len: u
 
 /// Writes the bounds of all rules at this length, once those at all lesser lengths are written.
 fn fill_length(plans: &mut Vec<RulePlan>, ranks: &[u32], table: &mut Table, len: usize)
-    requires rows { table.old.rows ≡ vec_len plans.old }
-    requires ranks { length ranks.now ≡ vec_len plans.old }
+    requires fillable { AreFillable ranks.now table.old plans.old }
     requires fits { (rule : ℕ) → rule < vec_len plans.old → slice_index ranks.now rule < vec_len plans.old }
     requires within { len < table.old.width }
     requires short { len < 2 ^ 32 }
-    requires readable { All (λ plan. IsRuleReadable (vec_len plans.old) plan) plans.old.items }
-    requires columns { All (λ plan. IsRuleWide table.old.width plan) plans.old.items }
-    ensures rows { table.new.rows ≡ table.old.rows }
-    ensures width { table.new.width ≡ table.old.width }
-    ensures each { vec_len plans.new ≡ vec_len plans.old }
-    ensures plan { rules_plan plans.new.items ≡ rules_plan plans.old.items }
-    ensures tokens { map plan_tokens plans.new.items ≡ map plan_tokens plans.old.items }
-    ensures readable { All (λ plan. IsRuleReadable (vec_len plans.old) plan) plans.new.items }
-    ensures columns { All (λ plan. IsRuleWide table.old.width plan) plans.new.items }
+    ensures stay { StayFillable table.old plans.old table.new plans.new }
     ensures filled { (bound : ℕ → ℕ → ℕ) → IsKept bound (rules_plan plans.old.items) len
         → IsKeptRanked ranks.now (rules_plan plans.old.items)
         → IsFilledTo bound table.old plans.old.items len → IsFilledTo bound table.new plans.new.items (len + 1) }
@@ -61,21 +42,14 @@ fn fill_length(plans: &mut Vec<RulePlan>, ranks: &[u32], table: &mut Table, len:
 
 /// Writes the bounds of all rules at all lengths up to `most`.
 pub fn fill(plans: &mut Vec<RulePlan>, ranks: &[u32], table: &mut Table, most: usize)
-    requires rows { table.old.rows ≡ vec_len plans.old }
-    requires ranks { length ranks.now ≡ vec_len plans.old }
+    requires fillable { AreFillable ranks.now table.old plans.old }
     requires fits { (rule : ℕ) → rule < vec_len plans.old → slice_index ranks.now rule < vec_len plans.old }
     requires within { most < table.old.width }
     requires short { most < 2 ^ 32 }
-    requires readable { All (λ plan. IsRuleReadable (vec_len plans.old) plan) plans.old.items }
-    requires columns { All (λ plan. IsRuleWide table.old.width plan) plans.old.items }
-    ensures rows { table.new.rows ≡ table.old.rows }
-    ensures width { table.new.width ≡ table.old.width }
+    ensures stay { StayFillable table.old plans.old table.new plans.new }
     ensures filled { (bound : ℕ → ℕ → ℕ) → ((len : ℕ) → len ≤ most → IsKept bound (rules_plan plans.old.items) len)
         → IsKeptRanked ranks.now (rules_plan plans.old.items)
         → IsFilledTo bound table.old plans.old.items 0 → IsFilledTo bound table.new plans.new.items (most + 1) }
-    ensures each { vec_len plans.new ≡ vec_len plans.old }
-    ensures plan { rules_plan plans.new.items ≡ rules_plan plans.old.items }
-    ensures tokens { map plan_tokens plans.new.items ≡ map plan_tokens plans.old.items }
 {
     for len in 0..most + 1 {
         fill_length(plans, ranks, table, len);

@@ -1,17 +1,10 @@
-use Rattle.std.proofs.Common.{◌≡◌, ℕ, map, vec_len}
-use Rattle.std.specs.List.{All}
-use Rattle.grammar_check.specs.Fills.{plan_tokens, IsRuleReadable, IsRuleWide, rules_plan, IsKept, IsKeptRanked, IsFilledTo, IsRankFilled}
+use Rattle.std.proofs.Common.{ℕ}
+use Rattle.grammar_check.specs.Fills.{rules_plan, StayFillable, IsKept, IsKeptRanked, IsFilledTo, IsRankFilled}
 use Rattle.grammar_check.proofs.fill.fill_length.Given as goal
 
 abbrev pub invariant-loop-rank : goal.invariant-loop-rank
 invariant-loop-rank l = record {
-  rows : l.table.rows ≡ l.initial.table.rows;
-  width : l.table.width ≡ l.initial.table.width;
-  each : vec_len l.plans ≡ vec_len l.initial.plans;
-  plan : rules_plan l.plans.items ≡ rules_plan l.initial.plans.items;
-  tokens : map plan_tokens l.plans.items ≡ map plan_tokens l.initial.plans.items;
-  readable : All (IsRuleReadable (vec_len l.initial.plans)) l.plans.items;
-  columns : All (IsRuleWide l.initial.table.width) l.plans.items;
+  stay : StayFillable l.initial.table l.initial.plans l.table l.plans;
   filled : (bound : ℕ → ℕ → ℕ) → IsKept bound (rules_plan l.initial.plans.items) l.len → IsKeptRanked l.ranks (rules_plan l.initial.plans.items)
       → IsFilledTo bound l.initial.table l.initial.plans.items l.len
       → IsRankFilled bound l.ranks l.table l.plans.items l.len l.rank;

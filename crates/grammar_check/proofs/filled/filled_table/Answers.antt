@@ -6,15 +6,15 @@ use Rattle.grammar_check.specs.CheckedGrammar.{CheckedGrammar}
 use Rattle.grammar_check.specs.Tables.{entry}
 use Rattle.grammar_check.specs.MeasuredBounds.{AreBoundsOf}
 use Rattle.grammar_check.specs.GrammarPlans.{grammar_plan, lengths_of}
-use Rattle.grammar_check.specs.Fills.{plan_tokens, IsRuleReadable, rules_plan, IsKeptRanked}
+use Rattle.grammar_check.specs.Fills.{plan_tokens, IsRuleReadable, IsRuleWide, rules_plan, IsKeptRanked}
 use Rattle.grammar_check.specs.TokenNumbers.{greatest_of, token_number, tokens_number}
 use Rattle.grammar_check.specs.KeptPlans.{rule_tokens}
 use Rattle.grammar_check.proofs.KeptPlanSteps.{kept, kept_ranked, kept_readable, kept_tokens, greatest_of-map}
 use Rattle.grammar_check.proofs.MeasuredPlans.{sound_arguments, planned, ranked, readable, none_filled}
 use Rattle.grammar_check.proofs.filled.filled_table.Goals as goal
 
-pub fill-requires-clause-readable : goal.fill-requires-clause-readable
-fill-requires-clause-readable c =
+pub fill-requires-clause-fillable : goal.fill-requires-clause-fillable
+fill-requires-clause-fillable c =
     let fields = c.checked.inside in
     let found = c.checked.invariant.found in
     let grammar = fields.grammar in
@@ -23,9 +23,14 @@ fill-requires-clause-readable c =
     let plans = c.in_ok-plans.plans.items in
     let plan = c.in_ok-plans.ensures.plan in
     let count : length grammar.rules ≡ vec_len c.in_ok-plans.plans = omega (arith, plan.each, c.in_ok-plans.plans.ok.0) in
-    subst (λ n. All (IsRuleReadable n) plans) count
-    (kept_readable grammar c.args.measure (lengths_of fields.sizes c.args.most) plans plan (length grammar.rules)
-    (readable grammar fields.algebra fields.sizes.least fields.sizes.greatest fields.ranks found between sound c.args.measure c.args.most))
+    record {
+      rows = c.in_ok-table.ensures.rows ∙ c.len.ensures;
+      ranks = ap length c.as_slice.ensures ∙ found.ranks_each ∙ count;
+      readable = subst (λ n. All (IsRuleReadable n) plans) count
+          (kept_readable grammar c.args.measure (lengths_of fields.sizes c.args.most) plans plan (length grammar.rules)
+          (readable grammar fields.algebra fields.sizes.least fields.sizes.greatest fields.ranks found between sound c.args.measure c.args.most));
+      columns = subst (λ n. All (IsRuleWide n) plans) (sym c.in_ok-table.ensures.width) c.in_ok-plans.ensures.columns;
+    }
 
 pub returns-clause-tokens : goal.returns-clause-tokens
 returns-clause-tokens c =
@@ -34,7 +39,7 @@ returns-clause-tokens c =
     let plans = c.in_ok-plans.plans.items in
     let after = c.fill.new.plans.items in
     subst (λ (g : CheckedGrammar). (len : ℕ) → greatest_of (rule_tokens len) after ≡ tokens_number len (grammar_plan g.grammar c.args.measure (lengths_of g.sizes c.args.most))) c.checked.view_is
-    (λ len. greatest_of-map (greatest_of (token_number len)) plan_tokens after ∙ ap (greatest_of (greatest_of (token_number len))) c.fill.ensures.tokens
+    (λ len. greatest_of-map (greatest_of (token_number len)) plan_tokens after ∙ ap (greatest_of (greatest_of (token_number len))) c.fill.ensures.stay.tokens
     ∙ sym (greatest_of-map (greatest_of (token_number len)) plan_tokens plans)
     ∙ kept_tokens grammar c.args.measure (lengths_of fields.sizes c.args.most) plans c.in_ok-plans.ensures.plan len)
 
@@ -54,4 +59,4 @@ returns-clause-entries c =
     (λ l low. kept grammar c.args.measure lengths plans plan bound l (omega (arith, c.requires)) (planned grammar fields.algebra fields.sizes.least fields.sizes.greatest fields.ranks found between sound c.args.measure c.args.most bound bounds l low))
     (subst (λ rs. IsKeptRanked rs (rules_plan plans)) (sym c.as_slice.ensures) (kept_ranked grammar c.args.measure lengths plans plan fields.ranks (ranked grammar fields.algebra fields.sizes.least fields.sizes.greatest fields.ranks found between sound c.args.measure c.args.most)))
     (none_filled bound c.in_ok-table.table plans) in
-    filled.entries rule len (omega (arith, plan.each, c.fill.ensures.each, c.fill.new.plans.ok.0, c.in_ok-plans.plans.ok.0)) (omega arith))
+    filled.entries rule len (omega (arith, plan.each, c.fill.ensures.stay.each, c.fill.new.plans.ok.0, c.in_ok-plans.plans.ok.0)) (omega arith))
