@@ -1,6 +1,6 @@
 //! The search for the next argument of a visit whose cell isn't noted.
 
-ghost use Rattle.std.specs.Prelude.{◌≡◌, MatchOption};
+ghost use Rattle.std.specs.Prelude.{◌≡◌, IfSome, MatchOption};
 ghost use Rattle.adp_model.specs.PosedProblem.{IsSpan};
 ghost use Rattle.adp_model.specs.SplitArguments.{IsSplitArgument};
 ghost use Rattle.adp_model.specs.Visits.{argument_at, IsWalk};
@@ -25,9 +25,10 @@ pub fn seek<N: NotedCells>(
     requires same { lines.now ≡ problem.now }
     requires span { IsSpan problem.now.word visit.cell.from visit.cell.to }
     requires walk { IsWalk problem.now visit }
-    ensures { MatchOption result (IsNoneSought problem.now (N.is_noted noted.now) visit)
+    ensures next { MatchOption result (IsNoneSought problem.now (N.is_noted noted.now) visit)
         (λ found. IsSplitArgument problem.now (argument_at visit.cell found.0)
         × IsNextSought problem.now (N.is_noted noted.now) visit found.0 found.1) }
+    ensures missing { IfSome result (λ found. N.is_noted noted.now found.1 → ⊥) }
 {
     problem.admissible();
     alternatives_fit();

@@ -6,14 +6,14 @@ use Rattle.argument_search.proofs.WalkEnds.{places_fall}
 use Rattle.argument_search.proofs.SeekSteps.{asks_one, walk_to, none_sought, on_more, passed_more, next_sought}
 use Rattle.argument_search.proofs.seeking.seek.Goals as goal
 
-pub returns-in_default : goal.returns-in_default
-returns-in_default g c =
+pub returns-in_default-clause-next : goal.returns-in_default-clause-next
+returns-in_default-clause-next g c =
     none_sought c.args.problem.now
     (g.N.NotedCells.is_noted c.args.noted.now) c.args.visit c.loop-position.at c.in_default.ensures
     c.loop-position.invariant.passed
 
-pub returns-then-not-has : goal.returns-then-not-has
-returns-then-not-has g c = (
+pub returns-then-not-has-clause-next : goal.returns-then-not-has-clause-next
+returns-then-not-has-clause-next g c = (
   c.in-Some.ensures.is_argument,
   next_sought c.args.problem.now
       (g.N.NotedCells.is_noted c.args.noted.now) c.args.visit c.loop-position.at c.in-Some.position c.in-Some.ensures

@@ -20,7 +20,7 @@ returns-then-self c =
     MatchOption c.seek.result (IsNoneSought q (IsNoted c.noted-noted.result.now) c.args.visit)
     (λ found. IsSplitArgument q (argument_at c.args.visit.cell found.0)
     × IsNextSought q (IsNoted c.noted-noted.result.now) c.args.visit found.0 found.1))
-    c.problem-problem.ensures c.seek.ensures)
+    c.problem-problem.ensures c.seek.ensures.next)
 
 pub returns : goal.returns
 returns c =
@@ -30,4 +30,4 @@ returns c =
     MatchOption c.seek-2.result (IsNoneSought q (λ _. ⊥) c.args.visit)
     (λ found. IsSplitArgument q (argument_at c.args.visit.cell found.0)
     × IsNextSought q (λ _. ⊥) c.args.visit found.0 found.1))
-    c.problem-problem.ensures c.seek-2.ensures)
+    c.problem-problem.ensures c.seek-2.ensures.next)
