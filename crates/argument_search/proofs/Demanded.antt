@@ -153,12 +153,12 @@ module _ (p : PosedProblem) where
 
   -- ---- a line
 
-  module _ (parts : LineParts) (from to letters last : ℕ) (places : List ℕ)
-      (boundaries : AreBoundaries p parts from to letters last places) where
-    place_found : (at : ℕ) → FitsSpan p (on_span parts.first from at) → (middle end : ℕ)
+  module _ (parts : LineParts) (from to letters last : ℕ) (positions : List ℕ)
+      (boundaries : AreBoundaries p parts from to letters last positions) where
+    position_found : (at : ℕ) → FitsSpan p (on_span parts.first from at) → (middle end : ℕ)
         → Cover p parts.middle at middle → FitsSpan p (on_span parts.second middle end) → Cover p parts.tail end to
-        → Contains places at × (middle ≡ at + letters) × (end ≡ last)
-    place_found at first middle end tokens second tail =
+        → Contains positions at × (middle ≡ at + letters) × (end ≡ last)
+    position_found at first middle end tokens second tail =
         let same = boundaries.one_middle at middle tokens in
         let closed = boundaries.one_tail end tail in
         let moved : FitsSpan p (on_span parts.second (at + letters) last) =
@@ -174,32 +174,32 @@ module _ (p : PosedProblem) where
           closed,
         )
 
-    place_of_cover : Cover p (parts.first ∷ parts.middle ++ parts.second ∷ parts.tail) from to
-        → (place : ℕ) × Contains places place
-    place_of_cover (at, first, cover) =
+    position_of_cover : Cover p (parts.first ∷ parts.middle ++ parts.second ∷ parts.tail) from to
+        → (place : ℕ) × Contains positions place
+    position_of_cover (at, first, cover) =
         let behind = cover_behind parts.middle (parts.second ∷ parts.tail) at to cover in
-        (at, (place_found at first behind.0 behind.2.0 behind.1 behind.2.1 behind.2.2).0)
+        (at, (position_found at first behind.0 behind.2.0 behind.1 behind.2.1 behind.2.2).0)
 
   -- where its arguments are laid, its boundary has a place
-  pub line_stands : (arguments : List Arg) (between from to letters last : ℕ) (places : List ℕ)
+  pub line_stands : (arguments : List Arg) (between from to letters last : ℕ) (positions : List ℕ)
       → HasLine arguments between
-      → AreBoundaries p (parts_by arguments between) from to letters last places → Cover p arguments from to
-      → (place : ℕ) × Contains places place
-  line_stands arguments between from to letters last places has boundaries cover =
-      place_of_cover (parts_by arguments between) from to letters last places boundaries
+      → AreBoundaries p (parts_by arguments between) from to letters last positions → Cover p arguments from to
+      → (place : ℕ) × Contains positions place
+  line_stands arguments between from to letters last positions has boundaries cover =
+      position_of_cover (parts_by arguments between) from to letters last positions boundaries
       (subst (λ (xs : List Arg). Cover p xs from to) has.parts.are cover)
 
-  module _ (Noted : Cell → Type 0) (parts : LineParts) (from to letters last : ℕ) (places : List ℕ)
+  module _ (Noted : Cell → Type 0) (parts : LineParts) (from to letters last : ℕ) (positions : List ℕ)
       (middle_fixed : AllByRecursion IsFixed parts.middle) (tail_fixed : AllByRecursion IsFixed parts.tail)
-      (boundaries : AreBoundaries p parts from to letters last places)
-      (first_noted : (place : ℕ) → Contains places place → (child : Cell) → IsCellOf parts.first from place child
+      (boundaries : AreBoundaries p parts from to letters last positions)
+      (first_noted : (place : ℕ) → Contains positions place → (child : Cell) → IsCellOf parts.first from place child
       → Noted child)
-      (second_noted : (place : ℕ) → Contains places place → (child : Cell)
+      (second_noted : (place : ℕ) → Contains positions place → (child : Cell)
       → IsCellOf parts.second (place + letters) last child → Noted child) where
     pub noted_along : AreNotedOn p Noted (parts.first ∷ parts.middle ++ parts.second ∷ parts.tail) from to
     noted_along child (at, first, inl (is, cover)) =
         let behind = cover_behind parts.middle (parts.second ∷ parts.tail) at to cover in
-        let found = place_found parts from to letters last places boundaries at first behind.0 behind.2.0 behind.1 behind.2.1 behind.2.2 in
+        let found = position_found parts from to letters last positions boundaries at first behind.0 behind.2.0 behind.1 behind.2.1 behind.2.2 in
         first_noted at found.0 child is
     noted_along child (at, first, inr later) =
         let behind = demands_behind parts.middle (parts.second ∷ parts.tail) at to child middle_fixed later in
@@ -208,7 +208,7 @@ module _ (p : PosedProblem) where
         go : (middle : ℕ) → Cover p parts.middle at middle → Demands p (parts.second ∷ parts.tail) middle to child
             → Noted child
         go middle tokens (end, second, inl (is, tail)) =
-            let found = place_found parts from to letters last places boundaries at first middle end tokens second tail in
+            let found = position_found parts from to letters last positions boundaries at first middle end tokens second tail in
             second_noted at found.0 child
             (subst (λ x. IsCellOf parts.second x last child) found.1
             (subst (λ x. IsCellOf parts.second middle x child) found.2 is))
@@ -216,16 +216,16 @@ module _ (p : PosedProblem) where
             absurd (none_demanded parts.tail end to child tail_fixed none)
 
   pub line_noted : (Noted : Cell → Type 0) (arguments : List Arg) (between from to letters last : ℕ)
-      (places : List ℕ) → HasLine arguments between
-      → AreBoundaries p (parts_by arguments between) from to letters last places
-      → ((place : ℕ) → Contains places place → (child : Cell)
+      (positions : List ℕ) → HasLine arguments between
+      → AreBoundaries p (parts_by arguments between) from to letters last positions
+      → ((place : ℕ) → Contains positions place → (child : Cell)
       → IsCellOf (parts_by arguments between).first from place child → Noted child)
-      → ((place : ℕ) → Contains places place → (child : Cell)
+      → ((place : ℕ) → Contains positions place → (child : Cell)
       → IsCellOf (parts_by arguments between).second (place + letters) last child → Noted child)
       → AreNotedOn p Noted arguments from to
-  line_noted Noted arguments between from to letters last places has boundaries first second =
+  line_noted Noted arguments between from to letters last positions has boundaries first second =
       subst (λ (xs : List Arg). AreNotedOn p Noted xs from to) (sym has.parts.are)
-      (noted_along Noted (parts_by arguments between) from to letters last places has.parts.middle_fixed
+      (noted_along Noted (parts_by arguments between) from to letters last positions has.parts.middle_fixed
       has.parts.tail_fixed boundaries first second)
 
 -- ---- lists

@@ -7,7 +7,7 @@ pub mod LineOrder
 pub mod LineSplits
 pub mod SameCuts
 pub mod Reached
-pub mod NotedPlaces
+pub mod NotedPositions
 pub mod ViableCuts
 pub mod LineHere
 pub mod SkipSteps

@@ -50,12 +50,12 @@ cover_forward p [] from to cover = omega (arith, cover)
 cover_forward p (argument ∷ arguments) from to (cut, fits, cover) =
     omega (arith, fits.0.in_order, cover_forward p arguments cut to cover)
 
--- a place lies between where the line begins and where it ends, and so do the letters behind it
-pub place_within : (p : PosedProblem) (parts : LineParts) (from to letters last : ℕ) (places : List ℕ)
-    → AreBoundaries p parts from to letters last places → (place : ℕ) → Contains places place
-    → (from ≤ place) × (place + letters ≤ to)
-place_within p parts from to letters last places boundaries place contains =
-    let all = (boundaries.exact place).0 contains in
+-- a position lies between where the line begins and where it ends, and so do the letters behind it
+pub position_within : (p : PosedProblem) (parts : LineParts) (from to letters last : ℕ) (positions : List ℕ)
+    → AreBoundaries p parts from to letters last positions → (position : ℕ) → Contains positions position
+    → (from ≤ position) × (position + letters ≤ to)
+position_within p parts from to letters last positions boundaries position contains =
+    let all = (boundaries.exact position).0 contains in
     (all.0.0.in_order, omega (arith, all.2.0.in_order, cover_forward p parts.tail last to all.3))
 
 dropped_at : (xs : List Arg) (n k : ℕ) (d : Arg) → slice_index_or (drop n xs) k d ≡ slice_index_or xs (n + k) d
@@ -65,14 +65,14 @@ dropped_at (x ∷ xs) (suc n) k d =
     let same : suc n + k ≡ suc (n + k) = omega arith in
     dropped_at xs n k d ∙ ap (λ j. slice_index_or (x ∷ xs) j d) (sym same)
 
--- the spans of a line's two arguments where its boundary stands at one of its places
-pub spans_there : (p : PosedProblem) (arguments : List Arg) (n between from to letters last : ℕ) (places : List ℕ)
-    → AreBoundaries p (parts_by (drop n arguments) between) from to letters last places → (place : ℕ)
-    → Contains places place → (begin cut : ℕ) → from ≡ begin → cut ≡ place
+-- the spans of a line's two arguments where its boundary stands at one of its positions
+pub spans_there : (p : PosedProblem) (arguments : List Arg) (n between from to letters last : ℕ) (positions : List ℕ)
+    → AreBoundaries p (parts_by (drop n arguments) between) from to letters last positions → (position : ℕ)
+    → Contains positions position → (begin cut : ℕ) → from ≡ begin → cut ≡ position
     → FitsSpan p (on_span (slice_index_or arguments n (Rule 0)) begin cut)
     × FitsSpan p (on_span (slice_index_or arguments (n + between + 1) (Rule 0)) (cut + letters) last)
-spans_there p arguments n between from to letters last places boundaries place contains begin cut begins cuts =
-    let all = (boundaries.exact place).0 contains in
+spans_there p arguments n between from to letters last positions boundaries position contains begin cut begins cuts =
+    let all = (boundaries.exact position).0 contains in
     let first : slice_index_or (drop n arguments) 0 (Rule 0) ≡ slice_index_or arguments n (Rule 0) =
     dropped_at arguments n 0 (Rule 0)
     ∙ (let same : n + 0 ≡ n = omega arith in ap (λ j. slice_index_or arguments j (Rule 0)) same) in

@@ -1,5 +1,5 @@
 -- What the splits of a line ask for: the cells of the arguments before the line, which are the same along it, and those
--- of its two arguments with the boundary at one of its places.
+-- of its two arguments with the boundary at one of its positions.
 use Rattle.std.proofs.Common.{◌≡◌, ℕ, zero, suc, ◌+◌, ◌-◌, ◌<◌, ◌≤◌, ◌⊎◌, inl, inr, Some, List, [], ◌∷◌, ◌++◌, length, take, drop, slice_get, slice_index, refl, sym, ap, subst, ◌∙◌, arith}
 use Rattle.std.specs.List.{AllByRecursion, Contains}
 use Rattle.std.proofs.lemmas.Option.{same_Some}
@@ -168,9 +168,9 @@ cell_of argument from to child e =
 
 -- ---- a split of a line
 
-module _ (p : PosedProblem) (parts : LineParts) (from to letters last : ℕ) (places : List ℕ)
+module _ (p : PosedProblem) (parts : LineParts) (from to letters last : ℕ) (positions : List ℕ)
     (middle_fixed : AllByRecursion IsFixed parts.middle) (tail_fixed : AllByRecursion IsFixed parts.tail)
-    (boundaries : AreBoundaries p parts from to letters last places) where
+    (boundaries : AreBoundaries p parts from to letters last positions) where
   abbrev line : List Arg
   line = parts.first ∷ parts.middle ++ parts.second ∷ parts.tail
 
@@ -180,7 +180,7 @@ module _ (p : PosedProblem) (parts : LineParts) (from to letters last : ℕ) (pl
       IsCellOf parts.first from boundary child ⊎ IsCellOf parts.second (boundary + letters) last child
 
   pub record IsOnLine (boundary : ℕ) (ends : List ℕ) : Type 0 where
-    pub there : Contains places boundary
+    pub there : Contains positions boundary
     pub asks : (k : ℕ) (child : Cell) → slice_get (place line from (boundary ∷ ends)) k ≡ Some (IsCell child)
         → Asks boundary child
 

@@ -1,4 +1,4 @@
--- Arguments that are laid between two places only where each cell is noted that they may demand there.
+-- Arguments that are laid between two positions only where each cell is noted that they may demand there.
 use Rattle.std.proofs.Common.{◌≡◌, ℕ, ◌<◌, ◌≤◌, Bool, true, false, IsTrue, Some, None, List, [], ◌∷◌, drop, refl, subst, inl, inr}
 use Rattle.std.specs.Bool.{OnTrue}
 use Rattle.std.specs.declared.ops.Range.{Range}
@@ -6,7 +6,7 @@ use Rattle.adp_model.specs.declared.grammar.Arg.{Arg}
 use Rattle.adp_model.specs.declared.cell.Cell.{Cell}
 use Rattle.adp_model.specs.PosedProblem.{PosedProblem}
 use Rattle.adp_model.specs.Splits.{FitsSpan}
-use Rattle.viable_splits.specs.Placing.{on_span, ArePlaces, Cover}
+use Rattle.viable_splits.specs.Placing.{on_span, ArePositions, Cover}
 use Rattle.split_lines.specs.Ends.{IsEndTold}
 use Rattle.split_lines.specs.Laid.{IsFixed, IsCellOf, Demands}
 use Rattle.argument_search.specs.Skipping.{AreNotedIfLaid, AreNotedOn}
@@ -54,12 +54,12 @@ module _ (p : PosedProblem) (Noted : Cell → Type 0) where
   -- ---- arguments behind the first one
 
   -- from where the first of the arguments may end on
-  pub told_behind : (arguments : List Arg) (so : Bool) (from to : ℕ) (places : Range ℕ)
-      → ((first : Arg) (later : List Arg) → arguments ≡ first ∷ later → ArePlaces p first later from to places)
-      → AreNotedIfLaid p Noted arguments so from to → (end : ℕ) → places.start ≤ end → end < places.end
+  pub told_behind : (arguments : List Arg) (so : Bool) (from to : ℕ) (positions : Range ℕ)
+      → ((first : Arg) (later : List Arg) → arguments ≡ first ∷ later → ArePositions p first later from to positions)
+      → AreNotedIfLaid p Noted arguments so from to → (end : ℕ) → positions.start ≤ end → end < positions.end
       → AreNotedIfLaid p Noted (drop 1 arguments) true end to
-  told_behind [] so from to places are laid end l m cover = (refl, λ child none. absurd none)
-  told_behind (first ∷ later) so from to places are laid end l m cover = (
+  told_behind [] so from to positions are laid end l m cover = (refl, λ child none. absurd none)
+  told_behind (first ∷ later) so from to positions are laid end l m cover = (
     refl,
     λ child demands.
         let fits = (are first later refl).fit end l m in
@@ -84,10 +84,10 @@ module _ (p : PosedProblem) (Noted : Cell → Type 0) where
         → AreNotedFrom argument others so from to end
     unlaid_at_end end laid cover = let e = (laid cover).0 in absurd cc
 
-    pub laid_from : (places : Range ℕ) → ArePlaces p argument others from to places
-        → ((end : ℕ) → places.start ≤ end → end < places.end → AreNotedFrom argument others so from to end)
+    pub laid_from : (positions : Range ℕ) → ArePositions p argument others from to positions
+        → ((end : ℕ) → positions.start ≤ end → end < positions.end → AreNotedFrom argument others so from to end)
         → AreNotedIfLaid p Noted (argument ∷ others) so from to
-    laid_from places are each (at, fits, cover) = ((noted at fits cover).0, λ child demands. behind child demands)
+    laid_from positions are each (at, fits, cover) = ((noted at fits cover).0, λ child demands. behind child demands)
       where
         noted : (end : ℕ) → FitsSpan p (on_span argument from end) → Cover p others end to
             → IsTrue so × ((child : Cell) → IsCellOf argument from end child → Noted child)

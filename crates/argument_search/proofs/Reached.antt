@@ -19,7 +19,7 @@ use Rattle.argument_search.specs.declared.skipping.OpenPair.{OpenPair}
 use Rattle.argument_search.specs.Skipping.{IsReached, IsSkipped, AreNotedBefore, IsNotedAt, IsNotedUpTo}
 use Rattle.argument_search.proofs.VisitOrder.{lex_from, less_from, lex_transitive, lex_irreflexive}
 use Rattle.argument_search.proofs.Walks.{turned_same, lex_end}
-use Rattle.argument_search.proofs.WalkEnds.{places_length}
+use Rattle.argument_search.proofs.WalkEnds.{positions_length}
 use Rattle.argument_search.proofs.PlacedArguments.{length_ends}
 use Rattle.argument_search.proofs.LineOrder.{at_index, squeeze, AreWithin, RanksApart, same_front, front_ranks, rank_at, front_at, take_front, less_at}
 use Rattle.argument_search.proofs.LineHere.{cut_within, length_drop}
@@ -62,16 +62,16 @@ turn_low zero (turn ∷ turns) low l = low.0
 turn_low (suc n) (turn ∷ turns) low l = turn_low n turns low.1 (omega arith)
 
 module _ (p : PosedProblem) (Noted : Cell → Type 0) (visit : Visit) (walk : IsWalk p visit) (at : Position)
-    (cuts : List ℕ) (n place' number : ℕ) (apart : RanksApart)
+    (cuts : List ℕ) (n position' number : ℕ) (apart : RanksApart)
     (within : (alternative : ℕ) (cuts : List ℕ) → IsViable p visit.cell alternative cuts → AreWithin visit.cell cuts)
     (few : (alternative : ℕ) → length (arguments_of p.grammar visit.cell.rule alternative) ≤ 4)
     (is : IsSplitArgument p (argument_at visit.cell at)) (viable : IsViable p visit.cell at.alternative cuts)
-    (low : n < 3) (front : take n cuts ≡ take n at.cuts) (there : slice_index cuts n ≡ place')
+    (low : n < 3) (front : take n cuts ≡ take n at.cuts) (there : slice_index cuts n ≡ position')
     (upper : AreNotedBefore p Noted visit.cell at n) (pair : OpenPair)
-    (noted : IsNotedUpTo Noted visit.cell (slice_index visit.turns n) pair (slice_index at.cuts n) place')
-    (later : slice_index at.cuts n ≡ place' → at.number < number)
+    (noted : IsNotedUpTo Noted visit.cell (slice_index visit.turns n) pair (slice_index at.cuts n) position')
+    (later : slice_index at.cuts n ≡ position' → at.number < number)
     (parts : LineParts) (has : HasParts (drop n (arguments_of p.grammar visit.cell.rule at.alternative)) parts)
-    (boundaries : AreBoundaries p parts pair.from visit.cell.to pair.letters pair.last pair.places.now)
+    (boundaries : AreBoundaries p parts pair.from visit.cell.to pair.letters pair.last pair.positions.now)
     (begins : pair.from ≡ slice_index (visit.cell.from ∷ ends_by visit.cell at.cuts) n)
     (first_is : pair.first.now ≡ parts.first) (second_is : pair.second.now ≡ parts.second)
     (inside : n < length (arguments_of p.grammar visit.cell.rule at.alternative))
@@ -96,7 +96,7 @@ module _ (p : PosedProblem) (Noted : Cell → Type 0) (visit : Visit) (walk : Is
 
   length_ranks : (others : List ℕ) (k : ℕ) → length others ≡ 3
       → length (ranks_of cell visit.turns others ++ k ∷ []) ≡ 4
-  length_ranks others k three = omega (arith, places_length cell visit.turns others k (walk.three ∙ sym three), three)
+  length_ranks others k three = omega (arith, positions_length cell visit.turns others k (walk.three ∙ sym three), three)
 
   ranks_three : (others : List ℕ) → length others ≡ 3 → length (ranks_of cell visit.turns others) ≡ 3
   ranks_three others three =
@@ -128,7 +128,7 @@ module _ (p : PosedProblem) (Noted : Cell → Type 0) (visit : Visit) (walk : Is
     same : alternative ≡ at.alternative
     alike : take n others ≡ take n at.cuts
     after : rank_of cell turn (slice_index at.cuts n) ≤ rank_of cell turn (slice_index others n)
-    before : rank_of cell turn (slice_index others n) ≤ rank_of cell turn place'
+    before : rank_of cell turn (slice_index others n) ≤ rank_of cell turn position'
 
   between : (alternative : ℕ) (others : List ℕ) (k : ℕ) → IsViable p cell alternative others
       → is_before p visit (argument_at cell at) (it alternative others k) ≡ true
@@ -196,7 +196,7 @@ module _ (p : PosedProblem) (Noted : Cell → Type 0) (visit : Visit) (walk : Is
 
   asked : (others : List ℕ) (k : ℕ) (child : Cell) → IsViable p cell at.alternative others
       → slice_get (placed p cell at.alternative others) k ≡ Some (IsCell child) → take n others ≡ take n at.cuts
-      → (Contains pair.places.now (slice_index others n) → IsNotedAt Noted pair (slice_index others n)) → Noted child
+      → (Contains pair.positions.now (slice_index others n) → IsNotedAt Noted pair (slice_index others n)) → Noted child
   asked others k child viable' e alike there_noted = go (cases_lt k n)
     where
       along : n ≤ k → Noted child
@@ -227,7 +227,7 @@ module _ (p : PosedProblem) (Noted : Cell → Type 0) (visit : Visit) (walk : Is
           subst (λ j. AreAt visit.cell.to (drop j ends)) m viable'.last)) in
           let enough : length line ≤ length (boundary ∷ drop (suc n) ends) =
           omega (arith, count, counted, few at.alternative, length_drop n ends, ap length ends_are) in
-          let on = on_line p parts pair.from visit.cell.to pair.letters pair.last pair.places.now has.middle_fixed
+          let on = on_line p parts pair.from visit.cell.to pair.letters pair.last pair.positions.now has.middle_fixed
           has.tail_fixed boundaries boundary (drop (suc n) ends) fits closed enough in
           let here : slice_get (place line pair.from (boundary ∷ drop (suc n) ends)) (k - n) ≡ Some (IsCell child) =
           subst (λ xs. slice_get xs (k - n) ≡ Some (IsCell child)) moved
@@ -292,7 +292,7 @@ module _ (p : PosedProblem) (Noted : Cell → Type 0) (visit : Visit) (walk : Is
       some_behind (token ∷ tokens) = omega arith
 
   same_boundary : (others : List ℕ) → IsViable p cell at.alternative others
-      → rank_of cell turn (slice_index others n) ≡ rank_of cell turn place' → slice_index others n ≡ slice_index cuts n
+      → rank_of cell turn (slice_index others n) ≡ rank_of cell turn position' → slice_index others n ≡ slice_index cuts n
   same_boundary others viable' same_rank =
       let a = cut_within cell others (within at.alternative others viable') n (omega (arith, viable'.three)) in
       let b = cut_within cell cuts (within at.alternative cuts viable) n (omega (arith, viable.three)) in
@@ -302,7 +302,7 @@ module _ (p : PosedProblem) (Noted : Cell → Type 0) (visit : Visit) (walk : Is
 
   -- a split with the same boundary is the same
   same_cuts : (others : List ℕ) → IsViable p cell at.alternative others → take n others ≡ take n at.cuts
-      → rank_of cell turn (slice_index others n) ≡ rank_of cell turn place' → others ≡ cuts
+      → rank_of cell turn (slice_index others n) ≡ rank_of cell turn position' → others ≡ cuts
   same_cuts others viable' alike same_rank =
       let boundary : slice_index others n ≡ slice_index cuts n = same_boundary others viable' same_rank in
       let x = laid others viable' in
@@ -315,7 +315,7 @@ module _ (p : PosedProblem) (Noted : Cell → Type 0) (visit : Visit) (walk : Is
       let long = four others viable'.three in
       let long' = four cuts viable.three in
       let behind_same : drop (suc n) (ends_by cell others) ≡ drop (suc n) (ends_by cell cuts) =
-      same_behind p parts pair.from cell.to pair.letters pair.last pair.places.now has.tail_fixed boundaries
+      same_behind p parts pair.from cell.to pair.letters pair.last pair.positions.now has.tail_fixed boundaries
       parts.middle (slice_index others n) (drop (suc n) (ends_by cell others)) (drop (suc n) (ends_by cell cuts))
       has.middle_fixed
       (length_drop (suc n) (ends_by cell others) ∙ omega (arith, long, long')
@@ -333,13 +333,13 @@ module _ (p : PosedProblem) (Noted : Cell → Type 0) (visit : Visit) (walk : Is
   behind : is_before p visit (argument_at cell at) (argument_at cell to) ≡ true
   behind =
       less_from (visited at.alternative at.cuts at.number) (visited at.alternative cuts number)
-      (go (cases_lt (rank_of cell turn (slice_index at.cuts n)) (rank_of cell turn place')))
+      (go (cases_lt (rank_of cell turn (slice_index at.cuts n)) (rank_of cell turn position')))
     where
       Less : List ℕ → Type 0
       Less others = LexicographicallyLess (visited at.alternative others at.number) (visited at.alternative cuts number)
 
-      go : (rank_of cell turn (slice_index at.cuts n) < rank_of cell turn place')
-          ⊎ (rank_of cell turn place' ≤ rank_of cell turn (slice_index at.cuts n)) → Less at.cuts
+      go : (rank_of cell turn (slice_index at.cuts n) < rank_of cell turn position')
+          ⊎ (rank_of cell turn position' ≤ rank_of cell turn (slice_index at.cuts n)) → Less at.cuts
       go (inl less) =
           less_at (suc n) (visited at.alternative at.cuts at.number) (visited at.alternative cuts number)
           (omega (arith, length_ranks at.cuts at.number is.viable.three))
@@ -350,7 +350,7 @@ module _ (p : PosedProblem) (Noted : Cell → Type 0) (visit : Visit) (walk : Is
           let c = ap (rank_of cell turn) there in
           omega (arith, a, b, c, less))
       go (inr not) =
-          let same_rank : rank_of cell turn (slice_index at.cuts n) ≡ rank_of cell turn place' =
+          let same_rank : rank_of cell turn (slice_index at.cuts n) ≡ rank_of cell turn position' =
           omega (arith, not, noted.behind) in
           let same : at.cuts ≡ cuts = same_cuts at.cuts is.viable refl same_rank in
           let more = later (same_boundary at.cuts is.viable same_rank ∙ there) in
@@ -406,7 +406,7 @@ module _ (p : PosedProblem) (Noted : Cell → Type 0) (visit : Visit) (walk : Is
       → Noted child ⊎ Behind argument
   along_line at_first argument child found =
       subst (λ x. Noted child ⊎ Behind x) (sym found.same)
-      (elim (cases_lt (rank_of cell turn (slice_index argument.cuts n)) (rank_of cell turn place')) [
+      (elim (cases_lt (rank_of cell turn (slice_index argument.cuts n)) (rank_of cell turn position')) [
         | inl less ↦
             inl
             (asked argument.cuts argument.number child found.asks.viable found.asks.there found.split.alike
@@ -431,13 +431,13 @@ module _ (p : PosedProblem) (Noted : Cell → Type 0) (visit : Visit) (walk : Is
       go true c = inr (inr c)
       go false c = along_line at_first argument child (asked_between argument child here asks b c)
 
-  passed : IsNotedAt Noted pair place' → (argument : SplitArgument) (child : Cell) → argument.cell ≡ cell
+  passed : IsNotedAt Noted pair position' → (argument : SplitArgument) (child : Cell) → argument.cell ≡ cell
       → AsksFor p argument child → is_before p visit (argument_at cell at) argument ≡ true
       → is_before p visit (argument_at cell to) argument ≡ false → Noted child
   passed whole argument child here asks b c =
       let found = asked_between argument child here asks b c in
       asked argument.cuts argument.number child found.asks.viable found.asks.there found.split.alike
-      (λ contains. elim (cases_lt (rank_of cell turn (slice_index argument.cuts n)) (rank_of cell turn place')) [
+      (λ contains. elim (cases_lt (rank_of cell turn (slice_index argument.cuts n)) (rank_of cell turn position')) [
         | inl less ↦ noted.noted (slice_index argument.cuts n) contains found.split.after less
         | inr not ↦
             subst (IsNotedAt Noted pair)
@@ -451,15 +451,15 @@ module _ (p : PosedProblem) (Noted : Cell → Type 0) (visit : Visit) (walk : Is
     next = next at_first;
   }
 
-  is_skipped : IsNotedAt Noted pair place' → IsSkipped p Noted visit at to
+  is_skipped : IsNotedAt Noted pair position' → IsSkipped p Noted visit at to
   is_skipped whole = record {
     is_argument = record { viable = viable; within = numbered };
     on = inr behind;
     passed = passed whole;
   }
 
-  -- the next argument is told where the place's cells aren't noted, and else what the visit passes
-  pub is_told : (here : Bool) → (here ≡ false → number ≡ n) → OnTrue here (IsNotedAt Noted pair place')
+  -- the next argument is told where the position's cells aren't noted, and else what the visit passes
+  pub is_told : (here : Bool) → (here ≡ false → number ≡ n) → OnTrue here (IsNotedAt Noted pair position')
       → OnTrue (not here) (IsReached p Noted visit at to) × OnFalse (not here) (IsSkipped p Noted visit at to)
   is_told true at_first whole = (tt, is_skipped whole)
   is_told false at_first whole = (is_reached (at_first refl), tt)

@@ -69,9 +69,9 @@ same_tail p (token ∷ tokens) start to (end ∷ ends) (other ∷ others) fixed 
     (subst (λ at. AreAt to (drop (length tokens) (at ∷ others))) (sym same) closed') in
     λ i. same i ∷ later i
 
-module _ (p : PosedProblem) (parts : LineParts) (from to letters last : ℕ) (places : List ℕ)
+module _ (p : PosedProblem) (parts : LineParts) (from to letters last : ℕ) (positions : List ℕ)
     (tail_fixed : AllByRecursion IsFixed parts.tail)
-    (boundaries : AreBoundaries p parts from to letters last places) where
+    (boundaries : AreBoundaries p parts from to letters last positions) where
   abbrev back : List Arg
   back = parts.second ∷ parts.tail
 

@@ -54,58 +54,58 @@ left_falls (x ∷ xs) (y ∷ ys) e low (inr (f, l)) =
     let r = left_falls xs ys (omega arith) low.1 l in
     omega arith
 
--- how many places a walk has left at most
-abbrev pub places_left : PosedProblem → Visit → Option Position → ℕ
-places_left p visit None = power (0 ∷ 0 ∷ 0 ∷ 0 ∷ 0 ∷ []) + 1
-places_left p visit (Some at) = left_by (visited_at p visit (argument_at visit.cell at)) + 1
+-- how many positions a walk has left at most
+abbrev pub positions_left : PosedProblem → Visit → Option Position → ℕ
+positions_left p visit None = power (0 ∷ 0 ∷ 0 ∷ 0 ∷ 0 ∷ []) + 1
+positions_left p visit (Some at) = left_by (visited_at p visit (argument_at visit.cell at)) + 1
 
-places_low : (cell : Cell) (turns cuts : List ℕ) (number : ℕ) → cell.to - cell.from ≤ 4000 → number ≤ 4000
+positions_low : (cell : Cell) (turns cuts : List ℕ) (number : ℕ) → cell.to - cell.from ≤ 4000 → number ≤ 4000
     → AllByRecursion (λ y. y ≤ 4000) (ranks_of cell turns cuts ++ number ∷ [])
-places_low cell turns [] number l k = (k, tt)
-places_low cell [] (cut ∷ cuts) number l k = (k, tt)
-places_low cell (turn ∷ turns) (cut ∷ cuts) number l k = (
+positions_low cell turns [] number l k = (k, tt)
+positions_low cell [] (cut ∷ cuts) number l k = (k, tt)
+positions_low cell (turn ∷ turns) (cut ∷ cuts) number l k = (
   (let m = mod_below (cut - cell.from + (cell.to - cell.from + 1) - turn) (cell.to - cell.from + 1) (omega arith) in
       omega arith),
-  places_low cell turns cuts number l k,
+  positions_low cell turns cuts number l k,
 )
 
-pub places_length : (cell : Cell) (turns cuts : List ℕ) (number : ℕ) → length turns ≡ length cuts
+pub positions_length : (cell : Cell) (turns cuts : List ℕ) (number : ℕ) → length turns ≡ length cuts
     → length (ranks_of cell turns cuts ++ number ∷ []) ≡ length cuts + 1
-places_length cell [] [] number e = refl
-places_length cell [] (cut ∷ cuts) number e = absurd (omega arith)
-places_length cell (turn ∷ turns) [] number e = absurd (omega arith)
-places_length cell (turn ∷ turns) (cut ∷ cuts) number e =
-    omega (arith, places_length cell turns cuts number (omega arith))
+positions_length cell [] [] number e = refl
+positions_length cell [] (cut ∷ cuts) number e = absurd (omega arith)
+positions_length cell (turn ∷ turns) [] number e = absurd (omega arith)
+positions_length cell (turn ∷ turns) (cut ∷ cuts) number e =
+    omega (arith, positions_length cell turns cuts number (omega arith))
 
 module _ (p : PosedProblem) (visit : Visit) (three : length visit.turns ≡ 3)
     (first : visit.first < length (alternatives_of p.grammar visit.cell.rule))
     (few : length (alternatives_of p.grammar visit.cell.rule) ≤ 64)
     (short : visit.cell.to - visit.cell.from ≤ 4000) where
   -- from a position to one behind it
-  pub places_fall : (old : Option Position) (next : Position) → length next.cuts ≡ 3 → next.number ≤ 4
+  pub positions_fall : (old : Option Position) (next : Position) → length next.cuts ≡ 3 → next.number ≤ 4
       → ((at : Position) → old ≡ Some at
       → (length at.cuts ≡ 3) ×
       (is_less (visited_at p visit (argument_at visit.cell at))
       (visited_at p visit (argument_at visit.cell next)) ≡ true))
-      → places_left p visit (Some next) < places_left p visit old
-  places_fall None next three' low behind =
+      → positions_left p visit (Some next) < positions_left p visit old
+  positions_fall None next three' low behind =
       let l = left_low (visited_at p visit (argument_at visit.cell next)) in
       let e : length (visited_at p visit (argument_at visit.cell next)) ≡ 5 =
-      ap suc (places_length visit.cell visit.turns next.cuts next.number (three ∙ sym three')) ∙ omega
+      ap suc (positions_length visit.cell visit.turns next.cuts next.number (three ∙ sym three')) ∙ omega
       (arith, three') in
       let q : power (visited_at p visit (argument_at visit.cell next)) ≡ power (0 ∷ 0 ∷ 0 ∷ 0 ∷ 0 ∷ []) =
       power_same (visited_at p visit (argument_at visit.cell next)) (0 ∷ 0 ∷ 0 ∷ 0 ∷ 0 ∷ []) e in
       omega arith
-  places_fall (Some at) next three' low behind =
+  positions_fall (Some at) next three' low behind =
       let h = behind at refl in
       let m = mod_below (next.alternative + length (alternatives_of p.grammar visit.cell.rule) - visit.first)
       (length (alternatives_of p.grammar visit.cell.rule)) (omega arith) in
-      let a = places_length visit.cell visit.turns at.cuts at.number (three ∙ sym h.0) in
-      let b = places_length visit.cell visit.turns next.cuts next.number (three ∙ sym three') in
+      let a = positions_length visit.cell visit.turns at.cuts at.number (three ∙ sym h.0) in
+      let b = positions_length visit.cell visit.turns next.cuts next.number (three ∙ sym three') in
       let l = left_falls (visited_at p visit (argument_at visit.cell at))
       (visited_at p visit (argument_at visit.cell next))
       (ap suc a ∙ ap (λ n. suc (n + 1)) (h.0 ∙ sym three') ∙ sym (ap suc b))
-      (omega arith, places_low visit.cell visit.turns next.cuts next.number short (omega arith))
+      (omega arith, positions_low visit.cell visit.turns next.cuts next.number short (omega arith))
       (lex_from (visited_at p visit (argument_at visit.cell at))
       (visited_at p visit (argument_at visit.cell next)) h.1) in
       omega arith

@@ -41,58 +41,61 @@ AreNotedBefore p Noted cell at count =
     → AsksFor p (record { cell = cell; alternative = at.alternative; cuts = at.cuts; number = number }) child
     → Noted child
 
--- the two arguments of the line of these arguments between two places, and the places of its boundary
+-- the two arguments of the line of these arguments between two positions, and the positions of its boundary
 pub record IsPairOf (p : PosedProblem) (arguments : List Arg) (between from to : ℕ) (pair : OpenPair) : Type 0 where
   pub begins : pair.from ≡ from
   pub first : pair.first.now ≡ (parts_by arguments between).first
   pub second : pair.second.now ≡ (parts_by arguments between).second
-  pub boundaries : AreBoundaries p (parts_by arguments between) pair.from to pair.letters pair.last pair.places.now
-  pub here : AreBitsAmong pair.places.now 0 pair.here.now
-  pub behind : AreBitsAmong pair.places.now pair.letters pair.behind.now
+  pub boundaries : AreBoundaries p (parts_by arguments between) pair.from to pair.letters pair.last pair.positions.now
+  pub here : AreBitsAmong pair.positions.now 0 pair.here.now
+  pub behind : AreBitsAmong pair.positions.now pair.letters pair.behind.now
 
 -- with the boundary here, the cells of both arguments of a line are noted
-pub record IsNotedAt (Noted : Cell → Type 0) (pair : OpenPair) (place : ℕ) : Type 0 where
-  pub first : (child : Cell) → IsCellOf pair.first.now pair.from place child → Noted child
-  pub second : (child : Cell) → IsCellOf pair.second.now (place + pair.letters) pair.last child → Noted child
+pub record IsNotedAt (Noted : Cell → Type 0) (pair : OpenPair) (position : ℕ) : Type 0 where
+  pub first : (child : Cell) → IsCellOf pair.first.now pair.from position child → Noted child
+  pub second : (child : Cell) → IsCellOf pair.second.now (position + pair.letters) pair.last child → Noted child
 
--- at the boundary's places from `begin` on and before `past`, the cells of both arguments of a line are noted
+-- at the boundary's positions from `begin` on and before `past`, the cells of both arguments of a line are noted
 abbrev pub AreNotedBetween : (Cell → Type 0) → OpenPair → ℕ → ℕ → Type 0
 AreNotedBetween Noted pair begin past =
-    (place : ℕ) → Contains pair.places.now place → begin ≤ place → place < past → IsNotedAt Noted pair place
+    (position : ℕ) → Contains pair.positions.now position → begin ≤ position → position < past
+    → IsNotedAt Noted pair position
 
--- one of the places lies right before the end, or behind that
-abbrev pub EndsByAPlace : List ℕ → ℕ → Type 0
-EndsByAPlace places past = (last : ℕ) × Contains places last × (past ≤ last + 1)
+-- one of the positions lies right before the end, or behind that
+abbrev pub EndsByAPosition : List ℕ → ℕ → Type 0
+EndsByAPosition positions past = (last : ℕ) × Contains positions last × (past ≤ last + 1)
 
--- the place is the first of these from `begin` on, and before `past`
-pub record IsFirstBetween (places : List ℕ) (begin past place : ℕ) : Type 0 where
-  pub stands : Contains places place
-  pub low : begin ≤ place
-  pub high : place < past
-  pub first : (other : ℕ) → Contains places other → begin ≤ other → place ≤ other
+-- the position is the first of these from `begin` on, and before `past`
+pub record IsFirstBetween (positions : List ℕ) (begin past position : ℕ) : Type 0 where
+  pub stands : Contains positions position
+  pub low : begin ≤ position
+  pub high : position < past
+  pub first : (other : ℕ) → Contains positions other → begin ≤ other → position ≤ other
 
--- the place is one of the boundary's from `begin` on and before `past`; the cells of both arguments of a line are noted
--- before it, from `begin` on, and up to `past` where the place's own are
+-- the position is one of the boundary's from `begin` on and before `past`; the cells of both arguments of a line are
+-- noted before it, from `begin` on, and up to `past` where the position's own are
 pub record IsLeftBetween (Noted : Cell → Type 0) (pair : OpenPair) (begin past : ℕ) (ahead : Ahead) : Type 0 where
-  pub stands : Contains pair.places.now ahead.place
-  pub low : begin ≤ ahead.place
-  pub high : ahead.place < past
-  pub noted : AreNotedBetween Noted pair begin ahead.place
+  pub stands : Contains pair.positions.now ahead.position
+  pub low : begin ≤ ahead.position
+  pub high : ahead.position < past
+  pub noted : AreNotedBetween Noted pair begin ahead.position
   pub whole : OnTrue ahead.is_noted (AreNotedBetween Noted pair begin past)
 
--- the place is one of the boundary's, this one or one behind it, and from this one on, before it, the cells of both
+-- the position is one of the boundary's, this one or one behind it, and from this one on, before it, the cells of both
 -- arguments are noted
 pub record IsNotedUpTo (Noted : Cell → Type 0) (cell : Cell) (turn : ℕ) (pair : OpenPair) (from to : ℕ) : Type 0 where
-  pub stands : Contains pair.places.now to
+  pub stands : Contains pair.positions.now to
   pub behind : rank_of cell turn from ≤ rank_of cell turn to
-  pub noted : (place : ℕ) → Contains pair.places.now place → rank_of cell turn from ≤ rank_of cell turn place
-      → rank_of cell turn place < rank_of cell turn to → IsNotedAt Noted pair place
+  pub noted : (position : ℕ) → Contains pair.positions.now position
+      → rank_of cell turn from ≤ rank_of cell turn position → rank_of cell turn position < rank_of cell turn to
+      → IsNotedAt Noted pair position
 
--- each cell that the arguments may demand between two places is noted
+-- each cell that the arguments may demand between two positions is noted
 abbrev pub AreNotedOn : PosedProblem → (Cell → Type 0) → List Arg → ℕ → ℕ → Type 0
 AreNotedOn p Noted arguments from to = (child : Cell) → Demands p arguments from to child → Noted child
 
--- where the arguments may have the letters between two places, this is so, and each cell that they may demand is noted
+-- where the arguments may have the letters between two positions, this is so, and each cell that they may demand is
+-- noted
 abbrev pub AreNotedIfLaid : PosedProblem → (Cell → Type 0) → List Arg → Bool → ℕ → ℕ → Type 0
 AreNotedIfLaid p Noted arguments so from to =
     Cover p arguments from to → IsTrue so × AreNotedOn p Noted arguments from to

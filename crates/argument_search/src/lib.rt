@@ -1,5 +1,5 @@
 //! The search for the next argument of a visit whose cell isn't noted: past whole alternatives whose cells are noted,
-//! and along lines of splits by the bits of 64 places at a time.
+//! and along lines of splits by the bits of 64 positions at a time.
 #![tactic(auto)]
 
 mod laws;

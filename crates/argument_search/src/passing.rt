@@ -28,7 +28,7 @@ pub enum Depth {
     /// In the time of one line: not where arguments of open length stand before the line of the alternative, and not
     /// where it has but one and that isn't the last.
     OneLine,
-    /// At all places where its arguments may end.
+    /// At all positions where its arguments may end.
     Whole,
 }
 
@@ -45,7 +45,7 @@ impl Depth {
     }
 }
 
-/// Whether the cell of an argument between two places is noted, where the argument is a rule.
+/// Whether the cell of an argument between two positions is noted, where the argument is a rule.
 fn is_noted<N: NotedCells>(noted: &N, argument: &Arg, from: u16, to: u16) -> bool
     ensures { OnTrue result ((child : AnyCell) → IsCellOf argument.now from to child → N.is_noted noted.now child) }
 {
@@ -77,20 +77,20 @@ fn is_line_noted<N: NotedCells>(
 {
     lines.problem().admissible();
     let pair = OpenPair::on(lines, line, arguments, from, to);
-    let places = pair.places;
-    if places.is_empty() {
+    let positions = pair.positions;
+    if positions.is_empty() {
         return true;
     }
     if !so_far {
         return false;
     }
-    let (first, last) = (places[0], places[places.len() - 1]);
+    let (first, last) = (positions[0], positions[positions.len() - 1]);
     both_noted(noted, pair, first, last + 1) > last
 }
 
 /// Whether arguments can't have the letters from `from` to `to`, or all is noted `so_far` and so is each cell that they
 /// may demand there. If they have a line, `ahead` of them come before it. Those behind the first one are known to be so
-/// from the places that are `told` on.
+/// from the positions that are `told` on.
 fn are_arguments_noted<N: NotedCells>(
     lines: &Lines<'_>,
     noted: &N,
@@ -144,7 +144,7 @@ fn are_arguments_noted<N: NotedCells>(
 }
 
 /// Whether each cell is noted that the arguments behind the tokens in front of an alternative may demand between two
-/// places, as far as the depth lets it be told.
+/// positions, as far as the depth lets it be told.
 fn are_others_noted<N: NotedCells>(
     lines: &Lines<'_>,
     noted: &N,

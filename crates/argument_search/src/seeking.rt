@@ -13,8 +13,8 @@ use adp_model::laws::well_formed::{alternatives_fit, arguments_are_few_and_known
 use adp_model::{Cell, Position, Problem, Visit};
 use split_lines::Lines;
 
-/// The next argument of a visit whose cell isn't noted, with its cell; `None` where all are. Along a line of splits
-/// the notes of 64 places of its boundary are tested at a time. Whether all cells of an alternative are noted is looked
+/// The next argument of a visit whose cell isn't noted, with its cell; `None` where all are. Along a line of splits the
+/// notes of 64 positions of its boundary are tested at a time. Whether all cells of an alternative are noted is looked
 /// for when the search enters it, and once where it goes on in one. Takes no memory.
 pub fn seek<N: NotedCells>(
     lines: &Lines<'_>,

@@ -15,7 +15,7 @@ ghost use Rattle.viable_splits.specs.Placing.{on_span};
 ghost use Rattle.split_lines.specs.Laid.{IsCellOf};
 ghost use Rattle.split_lines.specs.Flags.{AreBitsAmong};
 ghost use Rattle.split_lines.specs.Lines.{IsLine};
-ghost use Rattle.argument_search.specs.Skipping.{AreNotedBefore, AreNotedBetween, EndsByAPlace, IsFirstBetween, IsLeftBetween, IsNotedAt, IsNotedUpTo, IsPairOf, IsReached, IsSkipped};
+ghost use Rattle.argument_search.specs.Skipping.{AreNotedBefore, AreNotedBetween, EndsByAPosition, IsFirstBetween, IsLeftBetween, IsNotedAt, IsNotedUpTo, IsPairOf, IsReached, IsSkipped};
 
 use crate::noted_cells::NotedCells;
 use crate::positions::{at_number, end_of, first_of, start_of};
@@ -25,7 +25,7 @@ use adp_model::laws::well_formed::arguments_are_few_and_known;
 use adp_model::{Arg, Cell, Position, Problem, Visit};
 use split_lines::{Line, Lines};
 
-/// The two arguments of a line on a span, and the places at which the boundary between them may stand: the first one
+/// The two arguments of a line on a span, and the positions at which the boundary between them may stand: the first one
 /// begins at `from`, the second one `letters` behind the boundary, and ends at `last`. Bits tell where the first one
 /// may end and where the second one may begin.
 #[derive(Clone, Copy)]
@@ -33,7 +33,7 @@ pub struct OpenPair<'s> {
     pub first: &'s Arg,
     pub second: &'s Arg,
     pub from: u16,
-    pub places: &'s [u16],
+    pub positions: &'s [u16],
     pub here: &'s [u64],
     pub behind: &'s [u64],
     pub letters: u16,
@@ -41,8 +41,8 @@ pub struct OpenPair<'s> {
 }
 
 impl<'s> OpenPair<'s> {
-    /// The two arguments of a line between two places; the first of them is the first of the arguments. Takes constant
-    /// time, but for literals behind the second one, and no memory.
+    /// The two arguments of a line between two positions; the first of them is the first of the arguments. Takes
+    /// constant time, but for literals behind the second one, and no memory.
     #[inline(always)]
     pub(crate) fn on(
         lines: &Lines<'_>,
@@ -61,7 +61,7 @@ impl<'s> OpenPair<'s> {
             first: &arguments[0],
             second: &arguments[line.between as usize + 1],
             from,
-            places: boundary.places,
+            positions: boundary.positions,
             here: boundary.here,
             behind: boundary.behind,
             letters: boundary.letters,
@@ -70,22 +70,23 @@ impl<'s> OpenPair<'s> {
     }
 }
 
-/// A place of a line that a visit comes to, and whether the cells of both arguments are noted there too.
+/// A position of a line that a visit comes to, and whether the cells of both arguments are noted there too.
 #[derive(Clone, Copy)]
 pub struct Ahead {
-    pub place: u16,
+    pub position: u16,
     pub is_noted: bool,
 }
 
-/// A place from `begin` up to `past` before which, from `begin` on, the cells of the first argument are noted.
+/// A position from `begin` up to `past` before which, from `begin` on, the cells of the first argument are noted.
 fn first_noted<N: NotedCells>(noted: &N, pair: OpenPair<'_>, begin: u16, past: u16) -> u16
     requires order { begin ≤ past }
-    requires up_to { EndsByAPlace pair.places.now past }
-    requires here { AreBitsAmong pair.places.now 0 pair.here.now }
+    requires up_to { EndsByAPosition pair.positions.now past }
+    requires here { AreBitsAmong pair.positions.now 0 pair.here.now }
     ensures low { begin ≤ result }
     ensures high { result ≤ past }
-    ensures noted { (place : ℕ) → Contains pair.entry.places.now place → begin ≤ place → place < result
-        → (child : AnyCell) → IsCellOf pair.entry.first.now pair.entry.from place child → N.is_noted noted.now child }
+    ensures noted { (position : ℕ) → Contains pair.entry.positions.now position → begin ≤ position → position < result
+        → (child : AnyCell) → IsCellOf pair.entry.first.now pair.entry.from position child
+        → N.is_noted noted.now child }
 {
     match pair.first {
         Arg::Rule(rule) => noted.noted_ends(*rule, pair.from, begin, past, pair.here),
@@ -96,13 +97,13 @@ fn first_noted<N: NotedCells>(noted: &N, pair: OpenPair<'_>, begin: u16, past: u
 /// The same of the second argument.
 fn second_noted<N: NotedCells>(noted: &N, pair: OpenPair<'_>, begin: u16, past: u16) -> u16
     requires order { begin ≤ past }
-    requires up_to { EndsByAPlace pair.places.now past }
+    requires up_to { EndsByAPosition pair.positions.now past }
     requires short { past + pair.letters ≤ 4001 }
-    requires behind { AreBitsAmong pair.places.now pair.letters pair.behind.now }
+    requires behind { AreBitsAmong pair.positions.now pair.letters pair.behind.now }
     ensures low { begin ≤ result }
     ensures high { result ≤ past }
-    ensures noted { (place : ℕ) → Contains pair.entry.places.now place → begin ≤ place → place < result
-        → (child : AnyCell) → IsCellOf pair.entry.second.now (place + pair.entry.letters) pair.entry.last child
+    ensures noted { (position : ℕ) → Contains pair.entry.positions.now position → begin ≤ position → position < result
+        → (child : AnyCell) → IsCellOf pair.entry.second.now (position + pair.entry.letters) pair.entry.last child
         → N.is_noted noted.now child }
 {
     let letters = pair.letters;
@@ -137,13 +138,13 @@ fn are_noted_before<N: NotedCells>(
     true
 }
 
-/// A place from `begin` up to `past` before which, from `begin` on, the cells of both arguments are noted.
+/// A position from `begin` up to `past` before which, from `begin` on, the cells of both arguments are noted.
 pub(crate) fn both_noted<N: NotedCells>(noted: &N, pair: OpenPair<'_>, begin: u16, past: u16) -> u16
     requires order { begin ≤ past }
-    requires up_to { EndsByAPlace pair.places.now past }
+    requires up_to { EndsByAPosition pair.positions.now past }
     requires short { past + pair.letters ≤ 4001 }
-    requires here { AreBitsAmong pair.places.now 0 pair.here.now }
-    requires behind { AreBitsAmong pair.places.now pair.letters pair.behind.now }
+    requires here { AreBitsAmong pair.positions.now 0 pair.here.now }
+    requires behind { AreBitsAmong pair.positions.now pair.letters pair.behind.now }
     ensures low { begin ≤ result }
     ensures high { result ≤ past }
     ensures noted { AreNotedBetween (N.is_noted noted.now) pair.entry begin result }
@@ -152,78 +153,78 @@ pub(crate) fn both_noted<N: NotedCells>(noted: &N, pair: OpenPair<'_>, begin: u1
     second_noted(noted, pair, begin, past)
 }
 
-/// The last of the places before `past`, where it isn't before `begin`.
-fn last_between(places: &[u16], begin: u16, past: u16) -> Option<u16>
-    ensures { IfSome result (λ last. Contains places.now last × (begin ≤ last) × (last < past)) }
+/// The last of the positions before `past`, where it isn't before `begin`.
+fn last_between(positions: &[u16], begin: u16, past: u16) -> Option<u16>
+    ensures { IfSome result (λ last. Contains positions.now last × (begin ≤ last) × (last < past)) }
 {
-    if past <= begin || places.is_empty() {
+    if past <= begin || positions.is_empty() {
         return None;
     }
-    let last = places[places.len() - 1];
+    let last = positions[positions.len() - 1];
     if last < begin {
         return None;
     }
     if last < past {
         return Some(last);
     }
-    let behind = match places.binary_search(&past) {
+    let behind = match positions.binary_search(&past) {
         Ok(index) => index,
         Err(index) => index,
     };
     if behind == 0 {
         return None;
     }
-    let last = places[behind - 1];
+    let last = positions[behind - 1];
     if last < begin || last >= past {
         return None;
     }
     Some(last)
 }
 
-/// The first of the places from `begin` on, where it is before `past`.
-fn first_between(places: &[u16], begin: u16, past: u16) -> Option<u16>
-    requires rising { AllAdjacentBelow (λ (a b : ℕ). a < b) places.now (length places.now) }
+/// The first of the positions from `begin` on, where it is before `past`.
+fn first_between(positions: &[u16], begin: u16, past: u16) -> Option<u16>
+    requires rising { AllAdjacentBelow (λ (a b : ℕ). a < b) positions.now (length positions.now) }
     ensures { MatchOption result
-        ((place : ℕ) → Contains places.now place → begin ≤ place → place < past → ⊥)
-        (IsFirstBetween places.now begin past) }
+        ((position : ℕ) → Contains positions.now position → begin ≤ position → position < past → ⊥)
+        (IsFirstBetween positions.now begin past) }
 {
     if past <= begin {
         return None;
     }
-    let index = match places.binary_search(&begin) {
+    let index = match positions.binary_search(&begin) {
         Ok(_) => return Some(begin),
         Err(index) => index,
     };
-    if index == places.len() {
+    if index == positions.len() {
         return None;
     }
-    let place = places[index];
-    if place >= past {
+    let position = positions[index];
+    if position >= past {
         return None;
     }
-    Some(place)
+    Some(position)
 }
 
-/// A place from `begin` on and before `past` such that from `begin` up to it the cells of both arguments are noted: the
-/// first one where they aren't, or the last one where all are.
+/// A position from `begin` on and before `past` such that from `begin` up to it the cells of both arguments are noted:
+/// the first one where they aren't, or the last one where all are.
 fn first_left<N: NotedCells>(noted: &N, pair: OpenPair<'_>, begin: u16, past: u16) -> Option<Ahead>
-    requires rising { AllAdjacentBelow (λ (a b : ℕ). a < b) pair.places.now (length pair.places.now) }
+    requires rising { AllAdjacentBelow (λ (a b : ℕ). a < b) pair.positions.now (length pair.positions.now) }
     requires order { begin ≤ past }
-    requires up_to { EndsByAPlace pair.places.now past }
+    requires up_to { EndsByAPosition pair.positions.now past }
     requires short { past + pair.letters ≤ 4001 }
-    requires here { AreBitsAmong pair.places.now 0 pair.here.now }
-    requires behind { AreBitsAmong pair.places.now pair.letters pair.behind.now }
+    requires here { AreBitsAmong pair.positions.now 0 pair.here.now }
+    requires behind { AreBitsAmong pair.positions.now pair.letters pair.behind.now }
     ensures { IfSome result (IsLeftBetween (N.is_noted noted.now) pair.entry begin past) }
 {
     let stop = both_noted(noted, pair, begin, past);
-    match first_between(pair.places, stop, past) {
-        Some(place) => Some(Ahead {
-            place,
+    match first_between(pair.positions, stop, past) {
+        Some(position) => Some(Ahead {
+            position,
             is_noted: false,
         }),
-        None => match last_between(pair.places, begin, past) {
-            Some(place) => Some(Ahead {
-                place,
+        None => match last_between(pair.positions, begin, past) {
+            Some(position) => Some(Ahead {
+                position,
                 is_noted: true,
             }),
             None => None,
@@ -231,41 +232,42 @@ fn first_left<N: NotedCells>(noted: &N, pair: OpenPair<'_>, begin: u16, past: u1
     }
 }
 
-/// The place of a line that the visit comes to first, from this one on, where the cells of one of its arguments aren't
-/// noted, or its last place where all are.
-fn next_place<N: NotedCells>(
+/// The position of a line that the visit comes to first, from this one on, where the cells of one of its arguments
+/// aren't noted, or its last position where all are.
+fn next_boundary<N: NotedCells>(
     noted: &N,
     cell: Cell,
     turn: u32,
     pair: OpenPair<'_>,
-    place: u16,
+    position: u16,
 ) -> Option<Ahead>
-    requires rising { AllAdjacentBelow (λ (a b : ℕ). a < b) pair.places.now (length pair.places.now) }
-    requires within { (other : ℕ) → Contains pair.places.now other → (cell.from ≤ other) × (other ≤ cell.to) }
-    requires short { (other : ℕ) → Contains pair.places.now other → other + pair.letters ≤ 4000 }
-    requires here { AreBitsAmong pair.places.now 0 pair.here.now }
-    requires behind { AreBitsAmong pair.places.now pair.letters pair.behind.now }
+    requires rising { AllAdjacentBelow (λ (a b : ℕ). a < b) pair.positions.now (length pair.positions.now) }
+    requires within { (other : ℕ) → Contains pair.positions.now other → (cell.from ≤ other) × (other ≤ cell.to) }
+    requires short { (other : ℕ) → Contains pair.positions.now other → other + pair.letters ≤ 4000 }
+    requires here { AreBitsAmong pair.positions.now 0 pair.here.now }
+    requires behind { AreBitsAmong pair.positions.now pair.letters pair.behind.now }
     requires turn { turn ≤ cell.to - cell.from }
     requires order { cell.from ≤ cell.to }
-    requires place { (cell.from ≤ place) × (place ≤ cell.to) }
-    ensures up_to { IfSome result (λ ahead. IsNotedUpTo (N.is_noted noted.now) cell turn pair.entry place ahead.place) }
+    requires position { (cell.from ≤ position) × (position ≤ cell.to) }
+    ensures up_to { IfSome result
+        (λ ahead. IsNotedUpTo (N.is_noted noted.now) cell turn pair.entry position ahead.position) }
     ensures noted { IfSome result
-        (λ ahead. OnTrue ahead.is_noted (IsNotedAt (N.is_noted noted.now) pair.entry ahead.place)) }
+        (λ ahead. OnTrue ahead.is_noted (IsNotedAt (N.is_noted noted.now) pair.entry ahead.position)) }
 {
     ranks_begin_at_the_turn();
-    let places = pair.places;
-    if places.is_empty() {
+    let positions = pair.positions;
+    if positions.is_empty() {
         return None;
     }
-    let (first, last) = (places[0], places[places.len() - 1]);
-    if last < place {
+    let (first, last) = (positions[0], positions[positions.len() - 1]);
+    if last < position {
         return None;
     }
     let pivot = cell.from + turn as u16;
-    if place < pivot {
-        return first_left(noted, pair, place, pivot.min(last + 1));
+    if position < pivot {
+        return first_left(noted, pair, position, pivot.min(last + 1));
     }
-    let Some(ahead) = first_left(noted, pair, place, last + 1) else {
+    let Some(ahead) = first_left(noted, pair, position, last + 1) else {
         return None;
     };
     if !ahead.is_noted || pivot <= first {
@@ -274,18 +276,18 @@ fn next_place<N: NotedCells>(
     first_left(noted, pair, first, pivot)
 }
 
-/// The cuts with the boundary of a line, and the tokens behind it, moved to a place.
-fn moved(cuts: [u16; 3], first: usize, between: usize, place: u16) -> [u16; 3]
+/// The cuts with the boundary of a line, and the tokens behind it, moved to a position.
+fn moved(cuts: [u16; 3], first: usize, between: usize, position: u16) -> [u16; 3]
     requires { first + between < 3 }
     ensures front { take first result ≡ take first cuts }
-    ensures there { slice_index result first ≡ place }
+    ensures there { slice_index result first ≡ position }
     ensures behind { (number : ℕ) → first + between < number → slice_index result number ≡ slice_index cuts number }
 {
     let mut moved = cuts;
     for number in first + 1..first + between + 1 {
-        moved[number] = place.saturating_add(cuts[number].saturating_sub(cuts[first]));
+        moved[number] = position.saturating_add(cuts[number].saturating_sub(cuts[first]));
     }
-    moved[first] = place;
+    moved[first] = position;
     moved
 }
 
@@ -370,26 +372,26 @@ fn pair_of<'s>(
 
 /// Goes on from an argument along the line of its split while the cells that are asked for are noted: where one isn't,
 /// to the first argument of the line there, and then that is the next one; where all are, to the last argument of the
-/// last split. Whether it is the next one; where that isn't told the position stays.
+/// last split. Whether it is the next one; where that isn't told it stays.
 pub(crate) fn reached<N: NotedCells>(
     lines: &Lines<'_>,
     problem: &Problem<'_>,
     noted: &N,
     visit: Visit,
-    position: &mut Position,
+    argument: &mut Position,
 ) -> bool
     requires same { lines.now ≡ problem.now }
     requires span { IsSpan problem.now.word visit.cell.from visit.cell.to }
     requires walk { IsWalk problem.now visit }
-    requires argument { IsSplitArgument problem.now (argument_at visit.cell position.old) }
-    ensures next { OnTrue result (IsReached problem.now (N.is_noted noted.now) visit position.old position.new) }
-    ensures past { OnFalse result (IsSkipped problem.now (N.is_noted noted.now) visit position.old position.new) }
+    requires argument { IsSplitArgument problem.now (argument_at visit.cell argument.old) }
+    ensures next { OnTrue result (IsReached problem.now (N.is_noted noted.now) visit argument.old argument.new) }
+    ensures past { OnFalse result (IsSkipped problem.now (N.is_noted noted.now) visit argument.old argument.new) }
 {
     problem.admissible();
     arguments_are_few_and_known();
     viable_cuts_lie_within_the_cell();
     ranks_begin_at_the_turn();
-    let at = *position;
+    let at = *argument;
     let cell = visit.cell;
     let count = problem.arguments(cell.rule, at.alternative).len();
     let Some(line) = lines.line(cell.rule, at.alternative) else {
@@ -402,7 +404,7 @@ pub(crate) fn reached<N: NotedCells>(
     let between = line.between as usize;
     let cuts = at.cuts;
     let pair = pair_of(lines, problem, cell, at, line);
-    let Some(ahead) = next_place(noted, cell, visit.turns[first], pair, cuts[first]) else {
+    let Some(ahead) = next_boundary(noted, cell, visit.turns[first], pair, cuts[first]) else {
         return false;
     };
     let number = if ahead.is_noted {
@@ -410,14 +412,14 @@ pub(crate) fn reached<N: NotedCells>(
     } else {
         line.first
     };
-    if ahead.place == cuts[first] && number <= at.number {
+    if ahead.position == cuts[first] && number <= at.number {
         return false;
     }
-    let cuts = moved(cuts, first, between, ahead.place);
+    let cuts = moved(cuts, first, between, ahead.position);
     if !is_viable(lines, problem, cell, at, line, pair, cuts) {
         return false;
     }
     let there = first_of(at.alternative, cuts);
-    *position = at_number(there, number);
+    *argument = at_number(there, number);
     !ahead.is_noted
 }

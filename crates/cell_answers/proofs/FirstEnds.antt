@@ -11,7 +11,7 @@ use Rattle.adp_model.specs.ProblemFields.{greatest_score}
 use Rattle.adp_model.specs.Splits.{AtRule, FitsSpan}
 use Rattle.adp_model.specs.FirstSplit.{IsValue}
 use Rattle.adp_model.specs.Bellman.{HasBestScore}
-use Rattle.viable_splits.specs.Placing.{on_span, Cover, ArePlaces}
+use Rattle.viable_splits.specs.Placing.{on_span, Cover, ArePositions}
 use Rattle.split_lines.specs.Laid.{Demands}
 use Rattle.cell_tables.specs.Tables.{Table}
 use Rattle.cell_answers.specs.Entries.{HasEntry}
@@ -112,14 +112,14 @@ module _ (p : PosedProblem) (table : Table ℤ) (argument : Arg) (others : List 
   untotalled_more none before is =
       before_none (λ it. HasTotalAt p (HasBestScore p) argument others factor factors from it to) end before is (λ number it. none it.others it.have_others)
 
-module _ (p : PosedProblem) (argument : Arg) (others : List Arg) (factor : ℤ) (factors : List ℤ) (from to : ℕ) (places : Range ℕ) (are : ArePlaces p argument others from to places) where
-  -- before the first place there is no total
-  pub none_first : (number : ℤ) → HasTotalBefore p (HasBestScore p) argument others factor factors from to places.start number → ⊥
+module _ (p : PosedProblem) (argument : Arg) (others : List Arg) (factor : ℤ) (factors : List ℤ) (from to : ℕ) (positions : Range ℕ) (are : ArePositions p argument others from to positions) where
+  -- before the first position there is no total
+  pub none_first : (number : ℤ) → HasTotalBefore p (HasBestScore p) argument others factor factors from to positions.start number → ⊥
   none_first number it =
       let missed = are.none_missed it.0 it.2.fits (values_cover p (HasBestScore p) others it.0 to it.2.have_others.0 it.2.have_others.1) in
       omega (arith, missed.0, it.1)
 
   -- and behind the last one neither
-  pub all_found : (bound : ℕ) (greatest : Option ℤ) → places.end ≤ bound → IsGreatestOf (HasTotalBefore p (HasBestScore p) argument others factor factors from to bound) greatest → IsGreatestOf (HasTotal p (HasBestScore p) (argument ∷ others) (factor ∷ factors) from to) greatest
+  pub all_found : (bound : ℕ) (greatest : Option ℤ) → positions.end ≤ bound → IsGreatestOf (HasTotalBefore p (HasBestScore p) argument others factor factors from to bound) greatest → IsGreatestOf (HasTotal p (HasBestScore p) (argument ∷ others) (factor ∷ factors) from to) greatest
   all_found bound greatest l before =
       before_all p (HasBestScore p) argument others factor factors from to bound greatest (λ end fits cover. omega (arith, (are.none_missed end fits cover).1)) before

@@ -14,7 +14,7 @@ use Rattle.score_numbers.specs.Greatest.{IsGreatestOf}
 use Rattle.cell_answers.proofs.Dividing.{cover_forward}
 use Rattle.cell_answers.proofs.WholeLines.{demands_back}
 use Rattle.cell_answers.proofs.FirstEnds.{AreLaid, AreSound, total_low}
-use Rattle.cell_answers.proofs.FrontPlaces.{weighted_front, weighted_back}
+use Rattle.cell_answers.proofs.FrontPositions.{weighted_front, weighted_back}
 use Rattle.cell_answers.proofs.LineTotals.{AreTotals, totals_parted, totals_joined, low_front, low_back, fixed_total_unique}
 use Rattle.cell_answers.proofs.Totalling.{values_cover}
 use Rattle.split_lines.specs.Ends.{IsFrontTold}

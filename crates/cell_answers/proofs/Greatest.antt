@@ -33,12 +33,12 @@ greatest_either A B (Some a) (Some b) (Some both) is is' it = (
 pub greatest_moved : (A : ℤ → Type 0) (more greatest : ℤ) → IsGreatestOf A (Some greatest) → IsGreatestOf (λ number. (other : ℤ) × A other × (number ≡ (more +ℤ other))) (Some (more +ℤ greatest))
 greatest_moved A more greatest it = ((greatest, it.0, λ i. more +ℤ greatest), λ number h. let l = it.1 h.0 h.1 in let e = h.2 in omega (arith, ints))
 
--- it holds at some place before the bound
+-- it holds at some position before the bound
 abbrev pub HasBefore : (ℕ → ℤ → Type 0) → ℕ → ℤ → Type 0
-HasBefore At bound number = (place : ℕ) × (place < bound) × At place number
+HasBefore At bound number = (position : ℕ) × (position < bound) × At position number
 
 module _ (At : ℕ → ℤ → Type 0) (bound : ℕ) (before : Option ℤ) (is : IsGreatestOf (HasBefore At bound) before) where
-  -- one place more
+  -- one position more
   pub before_more : (here both : Option ℤ) → IsGreatestOf (At bound) here → IsGreatestOf (λ number. (before ≡ Some number) ⊎ (here ≡ Some number)) both → IsGreatestOf (HasBefore At (bound + 1)) both
   before_more here both is_here either =
       greatest_same (λ number. HasBefore At bound number ⊎ At bound number) (HasBefore At (bound + 1)) both
@@ -47,11 +47,11 @@ module _ (At : ℕ → ℤ → Type 0) (bound : ℕ) (before : Option ℤ) (is :
         | inl l ↦ inl (h.0, l, h.2)
         | inr l ↦
             let same : h.0 ≡ bound = omega (arith, h.1) in
-            inr (subst (λ place. At place number) same h.2)
+            inr (subst (λ position. At position number) same h.2)
       ])
       (greatest_either (HasBefore At bound) (At bound) before here both is is_here either)
 
-  -- a place with no number changes nothing
+  -- a position with no number changes nothing
   pub before_none : ((number : ℤ) → At bound number → ⊥) → IsGreatestOf (HasBefore At (bound + 1)) before
   before_none none =
       greatest_same (HasBefore At bound) (HasBefore At (bound + 1)) before
@@ -60,6 +60,6 @@ module _ (At : ℕ → ℤ → Type 0) (bound : ℕ) (before : Option ℤ) (is :
         | inl l ↦ (h.0, l, h.2)
         | inr l ↦
             let same : h.0 ≡ bound = omega (arith, h.1) in
-            absurd (none number (subst (λ place. At place number) same h.2))
+            absurd (none number (subst (λ position. At position number) same h.2))
       ])
       is

@@ -11,7 +11,7 @@ use Rattle.adp_model.specs.Terms.{weighted_sum}
 use Rattle.adp_model.specs.Splits.{AtRule, FitsSpan}
 use Rattle.adp_model.specs.FirstSplit.{IsValue}
 use Rattle.adp_model.specs.Bellman.{HasBestScore}
-use Rattle.viable_splits.specs.Placing.{on_span, ArePlaces, Cover}
+use Rattle.viable_splits.specs.Placing.{on_span, ArePositions, Cover}
 use Rattle.cell_tables.specs.Tables.{Table}
 use Rattle.score_numbers.specs.Greatest.{IsGreatestOf}
 use Rattle.cell_answers.specs.Entries.{HasEntry}
@@ -164,14 +164,14 @@ module _ (p : PosedProblem) (table : Table ℤ) (sound : AreSound p) (argument :
         first = λ other it. elim (cases_lt other bound) [ inl less ↦ absurd (before other less it) | inr more ↦ more ];
       }
 
-  module _ (places : Range ℕ) (are : ArePlaces p argument others from to places) where
-    pub none_at_first : HasNoneBefore places.start
+  module _ (positions : Range ℕ) (are : ArePositions p argument others from to positions) where
+    pub none_at_first : HasNoneBefore positions.start
     none_at_first end l it =
         let missed = are.none_missed end it.fits (values_cover p (HasBestScore p) others end to it.have_others.0 it.have_others.1) in
         omega (arith, missed.0)
 
     -- where all ends were tried one was found
-    pub not_all_tried : (bound : ℕ) → places.end ≤ bound → HasNoneBefore bound → ⊥
+    pub not_all_tried : (bound : ℕ) → positions.end ≤ bound → HasNoneBefore bound → ⊥
     not_all_tried bound l none =
         let it = total_at p (HasBestScore p) argument others factor factors from to total greatest.0 in
         let missed = are.none_missed it.0 it.1.fits (values_cover p (HasBestScore p) others it.0 to it.1.have_others.0 it.1.have_others.1) in

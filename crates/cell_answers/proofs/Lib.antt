@@ -5,7 +5,7 @@ pub mod FirstEnds
 pub mod FirstGiving
 pub mod FirstTotals
 pub mod FixedTotals
-pub mod FrontPlaces
+pub mod FrontPositions
 pub mod FrontScores
 pub mod Fronts
 pub mod Greatest

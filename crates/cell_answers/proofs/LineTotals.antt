@@ -1,4 +1,4 @@
--- The totals of a line: through each place of its boundary there is one at most.
+-- The totals of a line: through each position of its boundary there is one at most.
 use Rattle.std.proofs.Common.{◌≡◌, ℕ, ◌+◌, ◌≤◌, ℤ, pos, ◌+ℤ◌, ◌*ℤ◌, nat_abs, Some, List, [], ◌∷◌, ◌++◌, length, map, refl, sym, ap, subst, ◌∙◌, inl, inr, arith}
 use Rattle.std.specs.List.{AllByRecursion, Contains}
 use Rattle.std.proofs.lemmas.Int.{ints, unsigned_abs-mul}
@@ -162,32 +162,32 @@ pub fixed_total_unique : (p : PosedProblem) (HasScore : Cell → ℤ → Type 0)
 fixed_total_unique p HasScore tokens factors from to to' a b fixed (values, have, is) (others, have', is') =
     is ∙ ap (weighted_sum factors) (fixed_values_unique p HasScore tokens from to to' values others fixed have have') ∙ sym is'
 
--- ---- through a place of the boundary
+-- ---- through a position of the boundary
 
 abbrev pub open_parts : Arg → List Arg → Arg → LineParts
 open_parts first middle second = record { first = first; middle = middle; second = second; tail = [] }
 
-module _ (p : PosedProblem) (HasScore : Cell → ℤ → Type 0) (first : Arg) (middle : List Arg) (second : Arg) (first_factor : ℤ) (middle_factors : List ℤ) (second_factor : ℤ) (from letters last : ℕ) (places : List ℕ)
-    (are : AreBoundaries p (open_parts first middle second) from last letters last places) (each : length middle_factors ≡ length middle) where
-  pub through_total : (place : ℕ) (total : ℤ) → Contains places place → HasTotalThrough p HasScore first middle second first_factor middle_factors second_factor from letters last place total
+module _ (p : PosedProblem) (HasScore : Cell → ℤ → Type 0) (first : Arg) (middle : List Arg) (second : Arg) (first_factor : ℤ) (middle_factors : List ℤ) (second_factor : ℤ) (from letters last : ℕ) (positions : List ℕ)
+    (are : AreBoundaries p (open_parts first middle second) from last letters last positions) (each : length middle_factors ≡ length middle) where
+  pub through_total : (position : ℕ) (total : ℤ) → Contains positions position → HasTotalThrough p HasScore first middle second first_factor middle_factors second_factor from letters last position total
       → HasTotal p HasScore (first ∷ (middle ++ second ∷ [])) (first_factor ∷ (middle_factors ++ second_factor ∷ [])) from last total
-  through_total place total stands it =
-      let fits = (are.exact place).0 stands in
-      let back : HasTotal p HasScore (second ∷ []) (second_factor ∷ []) (place + letters) last (second_factor *ℤ it.other) = (it.other ∷ [], (last, fits.2, it.is_other, refl), omega (arith, ints)) in
-      let rest = totals_joined p HasScore middle (second ∷ []) middle_factors (second_factor ∷ []) place last each (place + letters) it.between (second_factor *ℤ it.other) it.has_between back in
+  through_total position total stands it =
+      let fits = (are.exact position).0 stands in
+      let back : HasTotal p HasScore (second ∷ []) (second_factor ∷ []) (position + letters) last (second_factor *ℤ it.other) = (it.other ∷ [], (last, fits.2, it.is_other, refl), omega (arith, ints)) in
+      let rest = totals_joined p HasScore middle (second ∷ []) middle_factors (second_factor ∷ []) position last each (position + letters) it.between (second_factor *ℤ it.other) it.has_between back in
       let regroup : (((first_factor *ℤ it.value) +ℤ it.between) +ℤ (second_factor *ℤ it.other)) ≡ ((first_factor *ℤ it.value) +ℤ (it.between +ℤ (second_factor *ℤ it.other))) = omega (arith, ints) in
-      (it.value ∷ rest.0, (place, fits.0, it.is_value, rest.1), it.is ∙ regroup ∙ ap (λ others. (first_factor *ℤ it.value) +ℤ others) rest.2)
+      (it.value ∷ rest.0, (position, fits.0, it.is_value, rest.1), it.is ∙ regroup ∙ ap (λ others. (first_factor *ℤ it.value) +ℤ others) rest.2)
 
   pub total_through : (total : ℤ) → HasTotal p HasScore (first ∷ (middle ++ second ∷ [])) (first_factor ∷ (middle_factors ++ second_factor ∷ [])) from last total
-      → (place : ℕ) × Contains places place × HasTotalThrough p HasScore first middle second first_factor middle_factors second_factor from letters last place total
+      → (position : ℕ) × Contains positions position × HasTotalThrough p HasScore first middle second first_factor middle_factors second_factor from letters last position total
   total_through total ([], have, is) = absurd have
   total_through total (value ∷ values, have, is) = by (totals_parted p HasScore middle (second ∷ []) middle_factors (second_factor ∷ []) have.0 last each (weighted_sum (middle_factors ++ second_factor ∷ []) values) (values, have.3, refl))
     where
-      by : AreTotals p HasScore middle (second ∷ []) middle_factors (second_factor ∷ []) have.0 last (weighted_sum (middle_factors ++ second_factor ∷ []) values) → (place : ℕ) × Contains places place × HasTotalThrough p HasScore first middle second first_factor middle_factors second_factor from letters last place total
+      by : AreTotals p HasScore middle (second ∷ []) middle_factors (second_factor ∷ []) have.0 last (weighted_sum (middle_factors ++ second_factor ∷ []) values) → (position : ℕ) × Contains positions position × HasTotalThrough p HasScore first middle second first_factor middle_factors second_factor from letters last position total
       by it = through it it.back_has
         where
           through : (it : AreTotals p HasScore middle (second ∷ []) middle_factors (second_factor ∷ []) have.0 last (weighted_sum (middle_factors ++ second_factor ∷ []) values)) → HasTotal p HasScore (second ∷ []) (second_factor ∷ []) it.middle last it.back_total
-              → (place : ℕ) × Contains places place × HasTotalThrough p HasScore first middle second first_factor middle_factors second_factor from letters last place total
+              → (position : ℕ) × Contains positions position × HasTotalThrough p HasScore first middle second first_factor middle_factors second_factor from letters last position total
           through it ([], have', is') = absurd have'
           through it (other ∷ more ∷ values', have', is') = absurd have'.3
           through it (other ∷ [], have', is') =
@@ -213,38 +213,38 @@ module _ (p : PosedProblem) (HasScore : Cell → ℤ → Type 0) (first : Arg) (
                 },
               )
 
-  -- there is one total at most through a place
-  pub one_through : OneScore HasScore → AllByRecursion IsFixed middle → (place : ℕ) (value between other : ℤ) → IsValue p HasScore (on_span first from place) value → HasTotal p HasScore middle middle_factors place (place + letters) between
-      → IsValue p HasScore (on_span second (place + letters) last) other → (number : ℤ) → HasTotalThrough p HasScore first middle second first_factor middle_factors second_factor from letters last place number
+  -- there is one total at most through a position
+  pub one_through : OneScore HasScore → AllByRecursion IsFixed middle → (position : ℕ) (value between other : ℤ) → IsValue p HasScore (on_span first from position) value → HasTotal p HasScore middle middle_factors position (position + letters) between
+      → IsValue p HasScore (on_span second (position + letters) last) other → (number : ℤ) → HasTotalThrough p HasScore first middle second first_factor middle_factors second_factor from letters last position number
       → number ≡ (((first_factor *ℤ value) +ℤ between) +ℤ (second_factor *ℤ other))
-  one_through one fixed place value between other is_value has_between is_other number it =
-      let a : it.value ≡ value = value_unique p HasScore one first from place it.value value it.is_value is_value in
-      let b : it.between ≡ between = fixed_total_unique p HasScore middle middle_factors place (place + letters) (place + letters) it.between between fixed it.has_between has_between in
-      let c : it.other ≡ other = value_unique p HasScore one second (place + letters) last it.other other it.is_other is_other in
+  one_through one fixed position value between other is_value has_between is_other number it =
+      let a : it.value ≡ value = value_unique p HasScore one first from position it.value value it.is_value is_value in
+      let b : it.between ≡ between = fixed_total_unique p HasScore middle middle_factors position (position + letters) (position + letters) it.between between fixed it.has_between has_between in
+      let c : it.other ≡ other = value_unique p HasScore one second (position + letters) last it.other other it.is_other is_other in
       it.is ∙ (λ i. ((first_factor *ℤ a i) +ℤ b i) +ℤ (second_factor *ℤ c i))
 
   -- so that is the greatest
-  pub greatest_through : OneScore HasScore → AllByRecursion IsFixed middle → (place : ℕ) (value between other : ℤ) → IsValue p HasScore (on_span first from place) value → HasTotal p HasScore middle middle_factors place (place + letters) between
-      → IsValue p HasScore (on_span second (place + letters) last) other
-      → IsGreatestOf (HasTotalThrough p HasScore first middle second first_factor middle_factors second_factor from letters last place) (Some (((first_factor *ℤ value) +ℤ between) +ℤ (second_factor *ℤ other)))
-  greatest_through one fixed place value between other is_value has_between is_other = (
+  pub greatest_through : OneScore HasScore → AllByRecursion IsFixed middle → (position : ℕ) (value between other : ℤ) → IsValue p HasScore (on_span first from position) value → HasTotal p HasScore middle middle_factors position (position + letters) between
+      → IsValue p HasScore (on_span second (position + letters) last) other
+      → IsGreatestOf (HasTotalThrough p HasScore first middle second first_factor middle_factors second_factor from letters last position) (Some (((first_factor *ℤ value) +ℤ between) +ℤ (second_factor *ℤ other)))
+  greatest_through one fixed position value between other is_value has_between is_other = (
     record { value = value; is_value = is_value; between = between; has_between = has_between; other = other; is_other = is_other; is = refl },
     λ number it.
-        let same = one_through one fixed place value between other is_value has_between is_other number it in
+        let same = one_through one fixed position value between other is_value has_between is_other number it in
         omega (arith, ints),
   )
 
   -- its parts are no greater than the greatest score, all together
-  pub through_low : ((cell : Cell) (score : ℤ) → HasScore cell score → IsWithinBound p cell score) → AreLow p (first ∷ (middle ++ second ∷ [])) (first_factor ∷ (middle_factors ++ second_factor ∷ [])) from last → (place : ℕ) (total : ℤ) → Contains places place
-      → (it : HasTotalThrough p HasScore first middle second first_factor middle_factors second_factor from letters last place total)
+  pub through_low : ((cell : Cell) (score : ℤ) → HasScore cell score → IsWithinBound p cell score) → AreLow p (first ∷ (middle ++ second ∷ [])) (first_factor ∷ (middle_factors ++ second_factor ∷ [])) from last → (position : ℕ) (total : ℤ) → Contains positions position
+      → (it : HasTotalThrough p HasScore first middle second first_factor middle_factors second_factor from letters last position total)
       → nat_abs (first_factor *ℤ it.value) + nat_abs it.between + nat_abs (second_factor *ℤ it.other) ≤ greatest_score
-  through_low within low place total stands it =
-      let fits = (are.exact place).0 stands in
+  through_low within low position total stands it =
+      let fits = (are.exact position).0 stands in
       let between = it.has_between in
-      let have : HaveValues p HasScore (second ∷ []) (place + letters) last (it.other ∷ []) = (last, fits.2, it.is_other, refl) in
-      let rest = values_joined p HasScore middle (second ∷ []) place (place + letters) last between.0 (it.other ∷ []) between.1 have in
-      let all = low (it.value ∷ (between.0 ++ it.other ∷ [])) (values_kept p HasScore (IsWithinBound p) within (first ∷ (middle ++ second ∷ [])) from last (it.value ∷ (between.0 ++ it.other ∷ [])) (place, fits.0, it.is_value, rest)) in
-      let long : length middle_factors ≡ length between.0 = each ∙ sym (values_length p HasScore middle place (place + letters) between.0 between.1) in
+      let have : HaveValues p HasScore (second ∷ []) (position + letters) last (it.other ∷ []) = (last, fits.2, it.is_other, refl) in
+      let rest = values_joined p HasScore middle (second ∷ []) position (position + letters) last between.0 (it.other ∷ []) between.1 have in
+      let all = low (it.value ∷ (between.0 ++ it.other ∷ [])) (values_kept p HasScore (IsWithinBound p) within (first ∷ (middle ++ second ∷ [])) from last (it.value ∷ (between.0 ++ it.other ∷ [])) (position, fits.0, it.is_value, rest)) in
+      let long : length middle_factors ≡ length between.0 = each ∙ sym (values_length p HasScore middle position (position + letters) between.0 between.1) in
       let joined = total_joined middle_factors (second_factor ∷ []) between.0 (it.other ∷ []) long in
       let sum = sum_low middle_factors between.0 in
       let e : nat_abs it.between ≡ nat_abs (weighted_sum middle_factors between.0) = ap nat_abs between.2 in

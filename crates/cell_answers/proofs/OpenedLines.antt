@@ -32,12 +32,12 @@ module _ (p : PosedProblem) (table : Table ℤ) (arguments : List Arg) (factors 
     each = is.opened.middle_each;
     middle_fixed = is.opened.middle_fixed;
     tail_fixed = is.tail_fixed;
-    places = is.boundary;
+    positions = is.boundary;
   }
 
-  -- it has a place
-  opened_stands : Contains line.boundary.places.now (get_or line.boundary.places.now 0 0)
-  opened_stands = first_stands line.boundary.places.now is.some
+  -- it has a position
+  opened_stands : Contains line.boundary.positions.now (get_or line.boundary.positions.now 0 0)
+  opened_stands = first_stands line.boundary.positions.now is.some
 
   pub opened_tail : IsTail p line to
   opened_tail = record {

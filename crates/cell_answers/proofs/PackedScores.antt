@@ -109,10 +109,10 @@ best_low p admissible law number limit bound low cell best has =
     omega (arith, ap nat_abs has.1.2, bounded)
 
 -- entries among numbers between two far ends
-pub told_between : (width : Width) (goal : Goal) (numbers : List ℤ) (place : ℕ) (spans : Spans ℤ) (rule near far : ℕ) → slice_get numbers place ≡ value_at spans rule near far
-    → slice_get (told_list width goal numbers) place ≡ value_at (told_spans width goal spans) rule near far
-told_between width goal numbers place spans rule near far e =
-    slice_get-map (told width goal) numbers place ∙ ap (option_map (told width goal)) e ∙ sym (value_told width goal spans rule near far)
+pub told_between : (width : Width) (goal : Goal) (numbers : List ℤ) (position : ℕ) (spans : Spans ℤ) (rule near far : ℕ) → slice_get numbers position ≡ value_at spans rule near far
+    → slice_get (told_list width goal numbers) position ≡ value_at (told_spans width goal spans) rule near far
+told_between width goal numbers position spans rule near far e =
+    slice_get-map (told width goal) numbers position ∙ ap (option_map (told width goal)) e ∙ sym (value_told width goal spans rule near far)
 
 pub some_untold : (width : Width) (goal : Goal) (spans : Spans ℤ) (rule near far : ℕ) → IsSome (value_at (told_spans width goal spans) rule near far) → IsSome (value_at spans rule near far)
 some_untold width goal spans rule near far some =

@@ -33,7 +33,7 @@ use Rattle.score_numbers.specs.Worthless.{AreWorthless}
 use Rattle.cell_answers.specs.declared.argument_values.Numbers.TheVariants.{Short, Medium, Long}
 use Rattle.cell_answers.specs.ArgumentEntries.{AreProperNumbers, IsScaled, entries_of, told_numbers}
 use Rattle.cell_answers.specs.ScaledLines.{IsScaledLine}
-use Rattle.score_numbers.specs.FirstPlaces.{IsFirstOf}
+use Rattle.score_numbers.specs.FirstPositions.{IsFirstOf}
 use Rattle.cell_answers.specs.Opened.{IsOpened}
 use Rattle.cell_answers.proofs.Greatest.{greatest_same}
 use Rattle.cell_answers.proofs.FirstEnds.{AreSound}
@@ -42,8 +42,8 @@ use Rattle.cell_answers.proofs.Scoring.{turned_low, turned_product}
 use Rattle.cell_answers.proofs.Told.{told_mark, told_score, told_from}
 use Rattle.cell_answers.proofs.Totalling.{OneScore}
 use Rattle.score_numbers.specs.Spaced.{IsSpaced}
-use Rattle.cell_answers.proofs.Spaced.{score_apart, some_place}
-use Rattle.cell_answers.proofs.FrontPlaces.{middle_covers, through_parts_low}
+use Rattle.cell_answers.proofs.Spaced.{score_apart, some_position}
+use Rattle.cell_answers.proofs.FrontPositions.{middle_covers, through_parts_low}
 use Rattle.cell_answers.proofs.LineTotals.{fixed_values, through_total, total_through}
 
 -- ---- tokens that add nothing
@@ -97,13 +97,13 @@ same_number : (found : Option ℤ) (a b : ℤ) → found ≡ Some a → found �
 same_number found a b e e' = cc
 
 module _ (p : PosedProblem) (one : OneScore (HasBestScore p)) (width : Width) (spaced : IsSpaced width) (low : width.limit < 2 ^ 63) (argument : Arg) (factor : ℤ) (goal : Goal) (scale : ℤ) (scaled : IsScaled argument factor goal scale) (numbers : List ℤ) (proper : AreProper width numbers)
-    (first place from to : ℕ) (has : AtRule (HasEntryAt p (told_list width goal numbers) first place) (on_span argument from to)) where
-  pub entry_at : HasEntryAt p (told_list width goal numbers) first place (record { rule = scaled.rule; from = from; to = to })
-  entry_at = at_cell (HasEntryAt p (told_list width goal numbers) first place) argument scaled.rule from to scaled.is_rule has
+    (first position from to : ℕ) (has : AtRule (HasEntryAt p (told_list width goal numbers) first position) (on_span argument from to)) where
+  pub entry_at : HasEntryAt p (told_list width goal numbers) first position (record { rule = scaled.rule; from = from; to = to })
+  entry_at = at_cell (HasEntryAt p (told_list width goal numbers) first position) argument scaled.rule from to scaled.is_rule has
 
   -- the number of the entry
-  pub number_there : (number : ℤ) × (slice_get numbers (place - first) ≡ Some number) × (entry_at.entry ≡ told width goal number)
-  number_there = told_from (told width goal) (slice_get numbers (place - first)) entry_at.entry (sym (slice_get-map (told width goal) numbers (place - first)) ∙ entry_at.there)
+  pub number_there : (number : ℤ) × (slice_get numbers (position - first) ≡ Some number) × (entry_at.entry ≡ told width goal number)
+  number_there = told_from (told width goal) (slice_get numbers (position - first)) entry_at.entry (sym (slice_get-map (told width goal) numbers (position - first)) ∙ entry_at.there)
 
   value_is : (value : ℤ) → HasBestScore p (record { rule = scaled.rule; from = from; to = to }) value → IsValue p (HasBestScore p) (on_span argument from to) value
   value_is value has = subst (λ a. IsValue p (HasBestScore p) (on_span a from to) value) (sym scaled.is_rule) has
@@ -115,28 +115,28 @@ module _ (p : PosedProblem) (one : OneScore (HasBestScore p)) (width : Width) (s
   product_is number value e = ap (λ v. factor *ℤ v) e ∙ scaled_product goal factor number ∙ ap (λ f. f *ℤ number) (sym scaled.scale_is)
 
   -- a number other than the mark tells the best score
-  best_told : (number : ℤ) → slice_get numbers (place - first) ≡ Some number → (number ≡ width.mark → ⊥) → HasBestScore p (record { rule = scaled.rule; from = from; to = to }) (turned goal number)
+  best_told : (number : ℤ) → slice_get numbers (position - first) ≡ Some number → (number ≡ width.mark → ⊥) → HasBestScore p (record { rule = scaled.rule; from = from; to = to }) (turned goal number)
   best_told number there apart =
-      let same : number_there.0 ≡ number = same_number (slice_get numbers (place - first)) number_there.0 number number_there.1 there in
+      let same : number_there.0 ≡ number = same_number (slice_get numbers (position - first)) number_there.0 number number_there.1 there in
       let is : entry_at.entry ≡ turned goal number = number_there.2 ∙ ap (told width goal) same ∙ told_score width goal number apart in
       let entry = subst (IsEntry p (record { rule = scaled.rule; from = from; to = to })) is entry_at.is_entry in
-      entry_scored p (record { rule = scaled.rule; from = from; to = to }) (turned goal number) entry (λ e. not_mark e (proper (place - first) number there))
+      entry_scored p (record { rule = scaled.rule; from = from; to = to }) (turned goal number) entry (λ e. not_mark e (proper (position - first) number there))
     where
       not_mark : turned goal number ≡ no_candidate → IsProper width number → ⊥
       not_mark e (inl mark) = apart mark
       not_mark e (inr l) = let same = ap nat_abs e in let size = turned_low goal number in absurd (omega arith)
 
-  pub value_of : (number : ℤ) → slice_get numbers (place - first) ≡ Some number → (number ≡ width.mark → ⊥) → (value : ℤ) × IsValue p (HasBestScore p) (on_span argument from to) value × ((factor *ℤ value) ≡ (scale *ℤ number))
+  pub value_of : (number : ℤ) → slice_get numbers (position - first) ≡ Some number → (number ≡ width.mark → ⊥) → (value : ℤ) × IsValue p (HasBestScore p) (on_span argument from to) value × ((factor *ℤ value) ≡ (scale *ℤ number))
   value_of number there apart =
       (turned goal number, value_is (turned goal number) (best_told number there apart), product_is number (turned goal number) refl)
 
-  pub number_of : (value : ℤ) → IsValue p (HasBestScore p) (on_span argument from to) value → (number : ℤ) × (slice_get numbers (place - first) ≡ Some number) × (number ≡ width.mark → ⊥) × ((factor *ℤ value) ≡ (scale *ℤ number))
-  number_of value is = go (proper (place - first) number_there.0 number_there.1)
+  pub number_of : (value : ℤ) → IsValue p (HasBestScore p) (on_span argument from to) value → (number : ℤ) × (slice_get numbers (position - first) ≡ Some number) × (number ≡ width.mark → ⊥) × ((factor *ℤ value) ≡ (scale *ℤ number))
+  number_of value is = go (proper (position - first) number_there.0 number_there.1)
     where
       best : HasBestScore p (record { rule = scaled.rule; from = from; to = to }) value
       best = is_best value is
 
-      go : IsProper width number_there.0 → (number : ℤ) × (slice_get numbers (place - first) ≡ Some number) × (number ≡ width.mark → ⊥) × ((factor *ℤ value) ≡ (scale *ℤ number))
+      go : IsProper width number_there.0 → (number : ℤ) × (slice_get numbers (position - first) ≡ Some number) × (number ≡ width.mark → ⊥) × ((factor *ℤ value) ≡ (scale *ℤ number))
       go (inl mark) =
           let none = entry_missing p (record { rule = scaled.rule; from = from; to = to }) entry_at.entry entry_at.is_entry (number_there.2 ∙ told_mark width goal number_there.0 mark) in
           absurd (none best.1.0 best.1.1.derived)
@@ -181,44 +181,44 @@ module _ (p : PosedProblem) (one : OneScore (HasBestScore p)) (width : Width) (s
   open line use {arguments.{first.{now as first}, first_factor, middle.{now as middle}, middle_factors.{now as middle_factors}, second.{now as second}, second_factor}, boundary.{letters, last}, from, column.{first as begin}}
 
   abbrev at : Positions
-  at = record { at = line.boundary.places; first = line.row.first }
+  at = record { at = line.boundary.positions; first = line.row.first }
 
-  row : (place : ℕ) → Contains at.at.now place → AtRule (HasEntryAt p (told_list width line.row.goal firsts) at.first place) (on_span first from place)
-  row place stands = subst (λ entries. AtRule (HasEntryAt p entries at.first place) (on_span first from place)) are.firsts_told (opened.row place stands)
+  row : (position : ℕ) → Contains at.at.now position → AtRule (HasEntryAt p (told_list width line.row.goal firsts) at.first position) (on_span first from position)
+  row position stands = subst (λ entries. AtRule (HasEntryAt p entries at.first position) (on_span first from position)) are.firsts_told (opened.row position stands)
 
-  column : (place : ℕ) → Contains at.at.now place → AtRule (HasEntryAt p (told_list width line.column.goal seconds) begin (place + letters)) (on_span second (place + letters) last)
-  column place stands = subst (λ entries. AtRule (HasEntryAt p entries begin (place + letters)) (on_span second (place + letters) last)) are.seconds_told (opened.column place stands)
+  column : (position : ℕ) → Contains at.at.now position → AtRule (HasEntryAt p (told_list width line.column.goal seconds) begin (position + letters)) (on_span second (position + letters) last)
+  column position stands = subst (λ entries. AtRule (HasEntryAt p entries begin (position + letters)) (on_span second (position + letters) last)) are.seconds_told (opened.column position stands)
 
-  same_place : (place : ℕ) → place + letters - begin ≡ number_at at place
-  same_place place = omega (arith, opened.common)
+  same_position : (position : ℕ) → position + letters - begin ≡ number_at at position
+  same_position position = omega (arith, opened.common)
 
   pub have_numbers : HaveNumbers at firsts seconds
   have_numbers = record {
-    from_first = λ place stands. (entry_at p one width spaced small first first_factor line.row.goal scales.before are.scaled.before firsts are.firsts_proper at.first place from place (row place stands)).from_first;
-    before = λ place stands.
-        let there = number_there p one width spaced small first first_factor line.row.goal scales.before are.scaled.before firsts are.firsts_proper at.first place from place (row place stands) in
-        some_place firsts (place - at.first) there.0 there.1;
-    behind = λ place stands.
-        let there = number_there p one width spaced small second second_factor line.column.goal scales.behind are.scaled.behind seconds are.seconds_proper begin (place + letters) (place + letters) last (column place stands) in
-        omega (arith, same_place place, some_place seconds (place + letters - begin) there.0 there.1);
+    from_first = λ position stands. (entry_at p one width spaced small first first_factor line.row.goal scales.before are.scaled.before firsts are.firsts_proper at.first position from position (row position stands)).from_first;
+    before = λ position stands.
+        let there = number_there p one width spaced small first first_factor line.row.goal scales.before are.scaled.before firsts are.firsts_proper at.first position from position (row position stands) in
+        some_position firsts (position - at.first) there.0 there.1;
+    behind = λ position stands.
+        let there = number_there p one width spaced small second second_factor line.column.goal scales.behind are.scaled.behind seconds are.seconds_proper begin (position + letters) (position + letters) last (column position stands) in
+        omega (arith, same_position position, some_position seconds (position + letters - begin) there.0 there.1);
   }
 
-  module _ (place : ℕ) (stands : Contains at.at.now place) (number : ℤ) where
-    module _ (sum : HasScaledSum width.mark scales firsts seconds (number_at at place) number) where
-      before_value : (value : ℤ) × IsValue p (HasBestScore p) (on_span first from place) value × ((first_factor *ℤ value) ≡ (scales.before *ℤ sum.first))
-      before_value = value_of p one width spaced small first first_factor line.row.goal scales.before are.scaled.before firsts are.firsts_proper at.first place from place (row place stands) sum.first sum.first_there sum.first_scores
+  module _ (position : ℕ) (stands : Contains at.at.now position) (number : ℤ) where
+    module _ (sum : HasScaledSum width.mark scales firsts seconds (number_at at position) number) where
+      before_value : (value : ℤ) × IsValue p (HasBestScore p) (on_span first from position) value × ((first_factor *ℤ value) ≡ (scales.before *ℤ sum.first))
+      before_value = value_of p one width spaced small first first_factor line.row.goal scales.before are.scaled.before firsts are.firsts_proper at.first position from position (row position stands) sum.first sum.first_there sum.first_scores
 
-      behind_value : (value : ℤ) × IsValue p (HasBestScore p) (on_span second (place + letters) last) value × ((second_factor *ℤ value) ≡ (scales.behind *ℤ sum.second))
+      behind_value : (value : ℤ) × IsValue p (HasBestScore p) (on_span second (position + letters) last) value × ((second_factor *ℤ value) ≡ (scales.behind *ℤ sum.second))
       behind_value =
-          value_of p one width spaced small second second_factor line.column.goal scales.behind are.scaled.behind seconds are.seconds_proper begin (place + letters) (place + letters) last (column place stands) sum.second
-          (ap (slice_get seconds) (same_place place) ∙ sum.second_there) sum.second_scores
+          value_of p one width spaced small second second_factor line.column.goal scales.behind are.scaled.behind seconds are.seconds_proper begin (position + letters) (position + letters) last (column position stands) sum.second
+          (ap (slice_get seconds) (same_position position) ∙ sum.second_there) sum.second_scores
 
-      nothing_between : HasTotal p (HasBestScore p) middle middle_factors place (place + letters) (pos 0)
+      nothing_between : HasTotal p (HasBestScore p) middle middle_factors position (position + letters) (pos 0)
       nothing_between =
-          worthless_total p (HasBestScore p) middle middle_factors place (place + letters) are.scaled.worthless opened.middle_fixed
-          (middle_covers p line opened place stands)
+          worthless_total p (HasBestScore p) middle middle_factors position (position + letters) are.scaled.worthless opened.middle_fixed
+          (middle_covers p line opened position stands)
 
-      through : HasTotalThrough p (HasBestScore p) first middle second first_factor middle_factors second_factor from letters last place number
+      through : HasTotalThrough p (HasBestScore p) first middle second first_factor middle_factors second_factor from letters last position number
       through =
           let e = sum.is in
           let e' = before_value.2 in
@@ -236,16 +236,16 @@ module _ (p : PosedProblem) (one : OneScore (HasBestScore p)) (width : Width) (s
       pub sum_low : AreSound p → nat_abs (scales.before *ℤ sum.first) + nat_abs (scales.behind *ℤ sum.second) ≤ greatest_score
       sum_low sound =
           let low =
-          through_parts_low p line opened place stands sound before_value.0 (pos 0) behind_value.0 before_value.1 nothing_between behind_value.1 in
+          through_parts_low p line opened position stands sound before_value.0 (pos 0) behind_value.0 before_value.1 nothing_between behind_value.1 in
           let e = ap nat_abs before_value.2 in
           let e' = ap nat_abs behind_value.2 in
           omega (arith, low, e, e')
 
-    back : HasTotalThrough p (HasBestScore p) first middle second first_factor middle_factors second_factor from letters last place number → HasScaledSum width.mark scales firsts seconds (number_at at place) number
+    back : HasTotalThrough p (HasBestScore p) first middle second first_factor middle_factors second_factor from letters last position number → HasScaledSum width.mark scales firsts seconds (number_at at position) number
     back it =
-        let a = number_of p one width spaced small first first_factor line.row.goal scales.before are.scaled.before firsts are.firsts_proper at.first place from place (row place stands) it.value it.is_value in
-        let b = number_of p one width spaced small second second_factor line.column.goal scales.behind are.scaled.behind seconds are.seconds_proper begin (place + letters) (place + letters) last (column place stands) it.other it.is_other in
-        let none : it.between ≡ pos 0 = it.has_between.2 ∙ worthless_sum p (HasBestScore p) middle middle_factors place (place + letters) it.has_between.0 are.scaled.worthless it.has_between.1 in
+        let a = number_of p one width spaced small first first_factor line.row.goal scales.before are.scaled.before firsts are.firsts_proper at.first position from position (row position stands) it.value it.is_value in
+        let b = number_of p one width spaced small second second_factor line.column.goal scales.behind are.scaled.behind seconds are.seconds_proper begin (position + letters) (position + letters) last (column position stands) it.other it.is_other in
+        let none : it.between ≡ pos 0 = it.has_between.2 ∙ worthless_sum p (HasBestScore p) middle middle_factors position (position + letters) it.has_between.0 are.scaled.worthless it.has_between.1 in
         let e = it.is in
         let e' = a.3 in
         let e'' = b.3 in
@@ -253,14 +253,14 @@ module _ (p : PosedProblem) (one : OneScore (HasBestScore p)) (width : Width) (s
           first = a.0;
           second = b.0;
           first_there = a.1;
-          second_there = ap (slice_get seconds) (sym (same_place place)) ∙ b.1;
+          second_there = ap (slice_get seconds) (sym (same_position position)) ∙ b.1;
           first_scores = a.2;
           second_scores = b.2;
           is = omega (arith, ints);
         }
 
   pub are_low : AreSound p → AreLowSums width.mark scales at firsts seconds
-  are_low sound place number stands sum = sum_low place stands number sum sound
+  are_low sound position number stands sum = sum_low position stands number sum sound
 
   pub scaled_greatest : (greatest : Option ℤ) → IsGreatestOf (HasScaledSumAt width.mark scales at firsts seconds) greatest
       → IsGreatestOf (HasTotal p (HasBestScore p) (first ∷ (middle ++ second ∷ [])) (first_factor ∷ (middle_factors ++ second_factor ∷ [])) from last) greatest
@@ -271,12 +271,12 @@ module _ (p : PosedProblem) (one : OneScore (HasBestScore p)) (width : Width) (s
       let it = total_through p (HasBestScore p) first middle second first_factor middle_factors second_factor from letters last at.at.now opened.boundary opened.middle_each number has in
       (it.0, it.1, back it.0 it.1 number it.2))
 
-  -- the first place with a sum is the first one with the total
-  pub scaled_first : (total : ℤ) (found : Option ℕ) → IsFirstOf at.at.now (λ place. HasScaledSum width.mark scales firsts seconds (number_at at place) total) found
-      → IsFirstOf at.at.now (λ place. HasTotalThrough p (HasBestScore p) first middle second first_factor middle_factors second_factor from letters last place total) found
-  scaled_first total None none = λ place stands it. none place stands (back place stands total it)
-  scaled_first total (Some place) it = record {
+  -- the first position with a sum is the first one with the total
+  pub scaled_first : (total : ℤ) (found : Option ℕ) → IsFirstOf at.at.now (λ position. HasScaledSum width.mark scales firsts seconds (number_at at position) total) found
+      → IsFirstOf at.at.now (λ position. HasTotalThrough p (HasBestScore p) first middle second first_factor middle_factors second_factor from letters last position total) found
+  scaled_first total None none = λ position stands it. none position stands (back position stands total it)
+  scaled_first total (Some position) it = record {
     stands = it.stands;
-    holds = through place it.stands total it.holds;
+    holds = through position it.stands total it.holds;
     first = λ other stands holds. it.first other stands (back other stands total holds);
   }

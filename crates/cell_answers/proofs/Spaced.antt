@@ -17,7 +17,7 @@ module _ (width : Width) (spaced : IsSpaced width) where
   pub score_apart : (a : ℤ) → nat_abs a ≤ width.limit → a ≡ width.mark → ⊥
   score_apart a low e = let same = ap nat_abs e in omega (arith, spaced.apart)
 
-pub some_place : {A : Type 0} (items : List A) (place : ℕ) (item : A) → slice_get items place ≡ Some item → place < length items
-some_place [] place item e = absurd cc
-some_place (x ∷ items) zero item e = omega arith
-some_place (x ∷ items) (suc place) item e = omega (arith, some_place items place item e)
+pub some_position : {A : Type 0} (items : List A) (position : ℕ) (item : A) → slice_get items position ≡ Some item → position < length items
+some_position [] position item e = absurd cc
+some_position (x ∷ items) zero item e = omega arith
+some_position (x ∷ items) (suc position) item e = omega (arith, some_position items position item e)

@@ -27,7 +27,7 @@ use Rattle.score_numbers.specs.Greatest.{IsGreatestOf}
 use Rattle.cell_answers.proofs.Totalling.{values_cover}
 use Rattle.cell_answers.proofs.FirstEnds.{AreLaid, AreSound, total_low}
 use Rattle.cell_answers.proofs.LineTotals.{AreTotals, totals_parted, totals_joined, low_front, low_back, fixed_total_unique}
-use Rattle.cell_answers.proofs.FrontPlaces.{weighted_front, weighted_back}
+use Rattle.cell_answers.proofs.FrontPositions.{weighted_front, weighted_back}
 
 -- ---- entries side by side
 
@@ -39,20 +39,20 @@ pub some_value_at : (found : Option ℤ) (entry : ℤ) → found ≡ Some entry 
 some_value_at None entry e = absurd cc
 some_value_at (Some found) entry e = refl
 
--- in places that rise each lies between the first one and the last one
-pub between_ends : (places : List ℕ) (place : ℕ) → AllAdjacentBelow (λ (a b : ℕ). a < b) places (length places) → Contains places place → (get_or places 0 0 ≤ place) × (place ≤ get_or places (length places - 1) 0)
-between_ends places place rising stands =
-    let sorted = IsNonDecreasingBy-from_all_adjacent (λ (n : ℕ). n) places (λ k d l. let rise = rising k d l in omega arith) in
-    let at : get_or places stands.0 0 ≡ place = get_or_default places stands.0 0 place stands.1 ∙ stands.2 in
+-- in positions that rise each lies between the first one and the last one
+pub between_ends : (positions : List ℕ) (position : ℕ) → AllAdjacentBelow (λ (a b : ℕ). a < b) positions (length positions) → Contains positions position → (get_or positions 0 0 ≤ position) × (position ≤ get_or positions (length positions - 1) 0)
+between_ends positions position rising stands =
+    let sorted = IsNonDecreasingBy-from_all_adjacent (λ (n : ℕ). n) positions (λ k d l. let rise = rising k d l in omega arith) in
+    let at : get_or positions stands.0 0 ≡ position = get_or_default positions stands.0 0 position stands.1 ∙ stands.2 in
     let low = sorted 0 stands.0 0 (omega arith) stands.1 in
-    let high = sorted stands.0 (length places - 1) 0 (omega (arith, stands.1)) (omega (arith, stands.1)) in
+    let high = sorted stands.0 (length positions - 1) 0 (omega (arith, stands.1)) (omega (arith, stands.1)) in
     (omega arith, omega arith)
 
-pub first_stands : (places : List ℕ) → 0 < length places → Contains places (get_or places 0 0)
-first_stands places l = Contains-get_or places 0 0 l
+pub first_stands : (positions : List ℕ) → 0 < length positions → Contains positions (get_or positions 0 0)
+first_stands positions l = Contains-get_or positions 0 0 l
 
-pub last_stands : (places : List ℕ) → 0 < length places → Contains places (get_or places (length places - 1) 0)
-last_stands places l = Contains-get_or places (length places - 1) 0 (omega arith)
+pub last_stands : (positions : List ℕ) → 0 < length positions → Contains positions (get_or positions (length positions - 1) 0)
+last_stands positions l = Contains-get_or positions (length positions - 1) 0 (omega arith)
 
 -- ---- the arguments of a line
 
@@ -74,17 +74,17 @@ pub record IsWhole (p : PosedProblem) (table : Table ℤ) (line : LineArguments)
   pub each : length line.middle_factors.now ≡ length line.middle.now
   pub middle_fixed : AllByRecursion IsFixed line.middle.now
   pub tail_fixed : AllByRecursion IsFixed line.tail.now
-  pub places : AreBoundaries p (parts_with line line.tail.now) from to boundary.letters boundary.last boundary.places.now
+  pub positions : AreBoundaries p (parts_with line line.tail.now) from to boundary.letters boundary.last boundary.positions.now
 
 -- what is known of them up to the second one of open length
 pub record IsFront (p : PosedProblem) (line : LineArguments) (from : ℕ) (boundary : Boundary) : Type 0 where
   pub weighted : AreWeighted p (line.first.now ∷ (line.middle.now ++ line.second.now ∷ [])) (line.first_factor ∷ (line.middle_factors.now ++ line.second_factor ∷ []))
-  pub places : AreBoundaries p (parts_with line []) from boundary.last boundary.letters boundary.last boundary.places.now
+  pub positions : AreBoundaries p (parts_with line []) from boundary.last boundary.letters boundary.last boundary.positions.now
   pub low : AreLow p (line.first.now ∷ (line.middle.now ++ line.second.now ∷ [])) (line.first_factor ∷ (line.middle_factors.now ++ line.second_factor ∷ [])) from boundary.last
 
 module _ (p : PosedProblem) (table : Table ℤ) (line : LineArguments) (from to : ℕ) (boundary : Boundary) (whole : IsWhole p table line from to boundary) where
   open line use {first.{now as first}, first_factor, middle.{now as middle}, middle_factors.{now as middle_factors}, second.{now as second}, second_factor, tail.{now as tail}, tail_factors.{now as tail_factors}}
-  open boundary use {letters, last, places.{now as places}}
+  open boundary use {letters, last, positions.{now as positions}}
 
   abbrev front : List Arg
   front = first ∷ (middle ++ second ∷ [])
@@ -110,52 +110,52 @@ module _ (p : PosedProblem) (table : Table ℤ) (line : LineArguments) (from to 
   pub tail_weighted : AreWeighted p tail tail_factors
   tail_weighted = weighted_back p front tail front_factors tail_factors front_each all_weighted
 
-  open_boundary : Cover p tail last to → AreBoundaries p (parts_with line []) from last letters last places
+  open_boundary : Cover p tail last to → AreBoundaries p (parts_with line []) from last letters last positions
   open_boundary covers = record {
-    exact = λ place. (
-      λ stands. let it = (whole.places.exact place).0 stands in (it.0, it.1, it.2, refl),
-      λ it. (whole.places.exact place).1 (it.0, it.1, it.2, covers),
+    exact = λ position. (
+      λ stands. let it = (whole.positions.exact position).0 stands in (it.0, it.1, it.2, refl),
+      λ it. (whole.positions.exact position).1 (it.0, it.1, it.2, covers),
     );
-    one_middle = whole.places.one_middle;
-    one_tail = λ place is. is;
-    rising = whole.places.rising;
+    one_middle = whole.positions.one_middle;
+    one_tail = λ position is. is;
+    rising = whole.positions.rising;
   }
 
   -- where the boundary can stand at all
-  module _ (some : ℕ) (stands : Contains places some) where
+  module _ (some : ℕ) (stands : Contains positions some) where
     pub tail_covers : Cover p tail last to
-    tail_covers = ((whole.places.exact some).0 stands).3
+    tail_covers = ((whole.positions.exact some).0 stands).3
 
     pub whole_front : IsFront p line from boundary
     whole_front = record {
       weighted = weighted_front p front tail front_factors tail_factors front_each all_weighted;
-      places = open_boundary tail_covers;
+      positions = open_boundary tail_covers;
       low = low_front p front tail front_factors tail_factors from last to front_each all_low tail_covers;
     }
 
     front_covers : Cover p front from last
     front_covers =
-        let it = (whole.places.exact some).0 stands in
+        let it = (whole.positions.exact some).0 stands in
         (some, it.0, covers_joined p middle (second ∷ []) some (some + letters) last it.1 (last, it.2, refl))
 
     pub tail_low : AreLow p tail tail_factors last to
     tail_low = low_back p front tail front_factors tail_factors from last to front_each all_low front_covers
 
     -- both ends of the boundary lie in the word
-    pub place_within : (some + letters ≤ last) × (last ≤ length p.word)
-    place_within =
-        let it = (whole.places.exact some).0 stands in
+    pub position_within : (some + letters ≤ last) × (last ≤ length p.word)
+    position_within =
+        let it = (whole.positions.exact some).0 stands in
         (it.2.0.in_order, it.2.0.in_word)
 
     pub first_entry : (rule : ℕ) → first ≡ Rule rule → HasEntry table (record { rule = rule; from = from; to = some })
     first_entry rule is =
-        let it = (whole.places.exact some).0 stands in
+        let it = (whole.positions.exact some).0 stands in
         let behind = covers_joined p middle (second ∷ tail) some (some + letters) to it.1 (last, it.2, it.3) in
         whole.laid.scored (record { rule = rule; from = from; to = some }) (some, it.0, inl (record { rule = is; begins = refl; ends = refl }, behind))
 
     pub second_entry : (rule : ℕ) → second ≡ Rule rule → HasEntry table (record { rule = rule; from = some + letters; to = last })
     second_entry rule is =
-        let it = (whole.places.exact some).0 stands in
+        let it = (whole.positions.exact some).0 stands in
         let cell : Cell = record { rule = rule; from = some + letters; to = last } in
         let here : Demands p (second ∷ tail) (some + letters) to cell = (last, it.2, inl (record { rule = is; begins = refl; ends = refl }, it.3)) in
         whole.laid.scored cell (some, it.0, inr (demands_back p middle (second ∷ tail) some (some + letters) to cell it.1 here))
@@ -172,12 +172,12 @@ module _ (p : PosedProblem) (table : Table ℤ) (line : LineArguments) (from to 
       (subst (λ ys. HasTotal p (HasBestScore p) (front ++ tail) ys from to (a +ℤ b)) factors_are (totals_joined p (HasBestScore p) front tail front_factors tail_factors from to front_each last a b has has'))
 
   front_at_last : (total : ℤ) (it : AreTotals p (HasBestScore p) front tail front_factors tail_factors from to total) → it.middle ≡ last
-  front_at_last total it = whole.places.one_tail it.middle (values_cover p (HasBestScore p) tail it.middle to it.back_has.0 it.back_has.1)
+  front_at_last total it = whole.positions.one_tail it.middle (values_cover p (HasBestScore p) tail it.middle to it.back_has.0 it.back_has.1)
 
-  -- without a place there is no total
-  pub none_without_place : places ≡ [] → (total : ℤ) → HasTotal p (HasBestScore p) (first ∷ (middle ++ second ∷ tail)) (first_factor ∷ (middle_factors ++ second_factor ∷ tail_factors)) from to total → ⊥
-  none_without_place empty total ([], have, is) = absurd have
-  none_without_place empty total (value ∷ values, have, is) = by (values_cover p (HasBestScore p) (middle ++ second ∷ tail) have.0 to values have.3)
+  -- without a position there is no total
+  pub none_without_position : positions ≡ [] → (total : ℤ) → HasTotal p (HasBestScore p) (first ∷ (middle ++ second ∷ tail)) (first_factor ∷ (middle_factors ++ second_factor ∷ tail_factors)) from to total → ⊥
+  none_without_position empty total ([], have, is) = absurd have
+  none_without_position empty total (value ∷ values, have, is) = by (values_cover p (HasBestScore p) (middle ++ second ∷ tail) have.0 to values have.3)
     where
       parts_cover : (xs ys : List Arg) (x : Arg) (a b : ℕ) → Cover p (xs ++ x ∷ ys) a b → (m : ℕ) × Cover p xs a m × ((end : ℕ) × FitsSpan p (on_span x m end) × Cover p ys end b)
       parts_cover [] ys x a b covers = (a, refl, covers)
@@ -188,10 +188,10 @@ module _ (p : PosedProblem) (table : Table ℤ) (line : LineArguments) (from to 
       by : Cover p (middle ++ second ∷ tail) have.0 to → ⊥
       by covers =
           let it = parts_cover middle tail second have.0 to covers in
-          let at : it.0 ≡ have.0 + letters = whole.places.one_middle have.0 it.0 it.1 in
-          let end : it.2.0 ≡ last = whole.places.one_tail it.2.0 it.2.2 in
+          let at : it.0 ≡ have.0 + letters = whole.positions.one_middle have.0 it.0 it.1 in
+          let end : it.2.0 ≡ last = whole.positions.one_tail it.2.0 it.2.2 in
           let fits = subst (λ n. FitsSpan p (on_span second n last)) at (subst (λ n. FitsSpan p (on_span second it.0 n)) end it.2.1) in
-          let there : Contains places have.0 = (whole.places.exact have.0).1 (have.1, subst (λ n. Cover p middle have.0 n) at it.1, fits, subst (λ n. Cover p tail n to) end it.2.2) in
+          let there : Contains positions have.0 = (whole.positions.exact have.0).1 (have.1, subst (λ n. Cover p middle have.0 n) at it.1, fits, subst (λ n. Cover p tail n to) end it.2.2) in
           omega (arith, there.1, ap length empty)
 
   -- without a total of the front there is none

@@ -1,4 +1,4 @@
--- Lines whose boundary has a place.
+-- Lines whose boundary has a position.
 use Rattle.std.specs.Prelude.{◌≡◌, ℕ, ◌+◌, ◌<◌, ℤ, List, [], ◌∷◌, ◌++◌, length}
 use Rattle.std.specs.List.{AllByRecursion, Contains}
 use Rattle.adp_model.specs.declared.grammar.Arg.{Arg}
@@ -25,19 +25,19 @@ pub record IsOpened (p : PosedProblem) (line : OpenedLine) : Type 0 where
   pub middle_each : length line.arguments.middle_factors.now ≡ length line.arguments.middle.now
   pub middle_fixed : AllByRecursion IsFixed line.arguments.middle.now
   pub boundary : AreBoundaries p (parts_with line.arguments []) line.from line.boundary.last line.boundary.letters
-      line.boundary.last line.boundary.places.now
-  pub limits : AreLimited line.boundary.places.now line.boundary.limits.now
+      line.boundary.last line.boundary.positions.now
+  pub limits : AreLimited line.boundary.positions.now line.boundary.limits.now
   pub low : AreLow p
       (line.arguments.first.now ∷ (line.arguments.middle.now ++ line.arguments.second.now ∷ []))
       (line.arguments.first_factor ∷ (line.arguments.middle_factors.now ++ line.arguments.second_factor ∷ []))
       line.from line.boundary.last
   pub common : line.column.first ≡ line.row.first + line.boundary.letters
-  pub row : (place : ℕ) → Contains line.boundary.places.now place
-      → AtRule (HasEntryAt p (entries_of line.row) line.row.first place)
-      (on_span line.arguments.first.now line.from place)
-  pub column : (place : ℕ) → Contains line.boundary.places.now place
-      → AtRule (HasEntryAt p (entries_of line.column) line.column.first (place + line.boundary.letters))
-      (on_span line.arguments.second.now (place + line.boundary.letters) line.boundary.last)
+  pub row : (position : ℕ) → Contains line.boundary.positions.now position
+      → AtRule (HasEntryAt p (entries_of line.row) line.row.first position)
+      (on_span line.arguments.first.now line.from position)
+  pub column : (position : ℕ) → Contains line.boundary.positions.now position
+      → AtRule (HasEntryAt p (entries_of line.column) line.column.first (position + line.boundary.letters))
+      (on_span line.arguments.second.now (position + line.boundary.letters) line.boundary.last)
   pub row_proper : AreProperNumbers line.row.numbers
   pub column_proper : AreProperNumbers line.column.numbers
 
@@ -52,5 +52,5 @@ pub record IsOpenedOn (p : PosedProblem) (arguments : List Arg) (factors : List 
   pub tail_fixed : AllByRecursion IsFixed line.arguments.tail.now
   pub begins : line.from ≡ from
   pub boundary : AreBoundaries p (parts_with line.arguments line.arguments.tail.now) line.from to line.boundary.letters
-      line.boundary.last line.boundary.places.now
-  pub some : 0 < length line.boundary.places.now
+      line.boundary.last line.boundary.positions.now
+  pub some : 0 < length line.boundary.positions.now

@@ -102,29 +102,37 @@ pub fn between_total(
     }
 }
 
-/// The total of the arguments of a line up to its second one of open length where the boundary stands at this place;
+/// The total of the arguments of a line up to its second one of open length where the boundary stands at this position;
 /// `None` where one of the two has no candidate. Tokens between them that do not weigh anything add nothing.
 #[inline(always)]
 pub fn total_through(
     lines: &Lines<'_>,
     line: &OpenedLine<'_>,
     weigh: bool,
-    place: u16,
+    position: u16,
 ) -> Option<i64>
     requires opened { IsOpened lines.now line.now }
     requires worthless { weigh ≡ false
         → AreWorthless line.now.arguments.middle.now line.now.arguments.middle_factors.now }
-    requires stands { Contains line.now.boundary.places.now place }
-    ensures greatest { IsGreatestOf (HasLineTotal lines.now line.now place) result }
-    ensures only { IfSome result (λ total. (other : ℤ) → HasLineTotal lines.now line.now place other → other ≡ total) }
+    requires stands { Contains line.now.boundary.positions.now position }
+    ensures greatest { IsGreatestOf (HasLineTotal lines.now line.now position) result }
+    ensures only { IfSome result (λ total. (other : ℤ)
+        → HasLineTotal lines.now line.now position other → other ≡ total) }
 {
     lines.problem().admissible();
     bounds_are_sound();
     answer_is_unique();
     let arguments = line.arguments;
     let last = line.boundary.last;
-    let behind = place + line.boundary.letters;
-    let Some(first) = value_among(lines, line.row, arguments.first, place, line.from, place) else {
+    let behind = position + line.boundary.letters;
+    let Some(first) = value_among(
+        lines,
+        line.row,
+        arguments.first,
+        position,
+        line.from,
+        position,
+    ) else {
         return None;
     };
     let Some(second) = value_among(lines, line.column, arguments.second, behind, behind, last)
@@ -136,13 +144,13 @@ pub fn total_through(
         arguments.middle,
         arguments.middle_factors,
         weigh,
-        place,
+        position,
         behind,
     );
     Some(arguments.first_factor * first + between + arguments.second_factor * second)
 }
 
-/// The greatest total of the arguments of a line up to its second one of open length, place by place.
+/// The greatest total of the arguments of a line up to its second one of open length, position by position.
 #[inline(always)]
 fn greatest_valued(lines: &Lines<'_>, line: &OpenedLine<'_>) -> Option<i64>
     requires opened { IsOpened lines.now line.now }
@@ -154,8 +162,8 @@ fn greatest_valued(lines: &Lines<'_>, line: &OpenedLine<'_>) -> Option<i64>
 {
     let weigh = !are_worthless(line.arguments.middle, line.arguments.middle_factors);
     let mut greatest = None;
-    for place in line.boundary.places {
-        let total = total_through(lines, line, weigh, *place);
+    for position in line.boundary.positions {
+        let total = total_through(lines, line, weigh, *position);
         greatest = greater(greatest, total);
     }
     greatest
@@ -175,19 +183,19 @@ fn greatest_front(lines: &Lines<'_>, line: &OpenedLine<'_>) -> Option<i64>
         lines.problem().admissible();
         bounds_are_sound();
         answer_is_unique();
-        let places = Positions {
-            at: line.boundary.places,
+        let positions = Positions {
+            at: line.boundary.positions,
             first: line.row.first,
         };
         match (line.row.numbers, line.column.numbers) {
             (Numbers::Short(first), Numbers::Short(second)) => {
-                return greatest_short(first, second, places, line.boundary.limits, scales);
+                return greatest_short(first, second, positions, line.boundary.limits, scales);
             }
             (Numbers::Medium(first), Numbers::Medium(second)) => {
-                return greatest_medium(first, second, places, scales);
+                return greatest_medium(first, second, positions, scales);
             }
             (Numbers::Long(first), Numbers::Long(second)) => {
-                return greatest_long(first, second, places, scales);
+                return greatest_long(first, second, positions, scales);
             }
             _ => {}
         }

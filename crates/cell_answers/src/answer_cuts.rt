@@ -10,7 +10,7 @@ ghost use Rattle.adp_model.specs.Parts.{alternatives_of};
 ghost use Rattle.adp_model.specs.Answers.{IsAnswer};
 ghost use Rattle.adp_model.specs.Bellman.{HasBestScore};
 ghost use Rattle.adp_model.specs.Demand.{IsDemandedChild};
-ghost use Rattle.score_numbers.specs.FirstPlaces.{IsFirstOf};
+ghost use Rattle.score_numbers.specs.FirstPositions.{IsFirstOf};
 ghost use Rattle.score_numbers.specs.Greatest.{IsGreatestOf};
 ghost use Rattle.split_lines.specs.Laid.{Demands};
 ghost use Rattle.split_lines.specs.Lines.{IsLine};
@@ -40,48 +40,57 @@ use score_numbers::{
 };
 use split_lines::{Line, Lines, line_here};
 
-/// The first place of the boundary at which the arguments of a line up to its second one of open length have this
-/// total, place by place.
+/// The first position of the boundary at which the arguments of a line up to its second one of open length have this
+/// total, position by position.
 fn first_valued(lines: &Lines<'_>, line: &OpenedLine<'_>, total: i64) -> Option<u16>
     requires opened { IsOpened lines.now line.now }
-    ensures { IsFirstOf line.now.boundary.places.now (λ place. HasLineTotal lines.now line.now place total) result }
+    ensures { IsFirstOf line.now.boundary.positions.now
+        (λ position. HasLineTotal lines.now line.now position total) result }
 {
     lesser_positions_stand_before();
     let weigh = !are_worthless(line.arguments.middle, line.arguments.middle_factors);
-    for place in line.boundary.places {
-        let through = total_through(lines, line, weigh, *place);
+    for position in line.boundary.positions {
+        let through = total_through(lines, line, weigh, *position);
         if let Some(found) = through {
             if found == total {
-                return Some(*place);
+                return Some(*position);
             }
         }
     }
     None
 }
 
-/// The first place of the boundary at which the arguments of a line up to its second one of open length have this
+/// The first position of the boundary at which the arguments of a line up to its second one of open length have this
 /// total.
 fn first_through(lines: &Lines<'_>, line: &OpenedLine<'_>, total: i64) -> Option<u16>
     requires opened { IsOpened lines.now line.now }
-    ensures { IsFirstOf line.now.boundary.places.now (λ place. HasLineTotal lines.now line.now place total) result }
+    ensures { IsFirstOf line.now.boundary.positions.now
+        (λ position. HasLineTotal lines.now line.now position total) result }
 {
     if let Some(scales) = scales_of(line) {
         lines.problem().admissible();
         bounds_are_sound();
         answer_is_unique();
-        let places = Positions {
-            at: line.boundary.places,
+        let positions = Positions {
+            at: line.boundary.positions,
             first: line.row.first,
         };
         match (line.row.numbers, line.column.numbers) {
             (Numbers::Short(first), Numbers::Short(second)) => {
-                return first_short(first, second, places, line.boundary.limits, scales, total);
+                return first_short(
+                    first,
+                    second,
+                    positions,
+                    line.boundary.limits,
+                    scales,
+                    total,
+                );
             }
             (Numbers::Medium(first), Numbers::Medium(second)) => {
-                return first_medium(first, second, places, scales, total);
+                return first_medium(first, second, positions, scales, total);
             }
             (Numbers::Long(first), Numbers::Long(second)) => {
-                return first_long(first, second, places, scales, total);
+                return first_long(first, second, positions, scales, total);
             }
             _ => {}
         }
@@ -90,8 +99,8 @@ fn first_through(lines: &Lines<'_>, line: &OpenedLine<'_>, total: i64) -> Option
 }
 
 /// The first end of the first of these arguments, which is the first one of a line, with which they have this total:
-/// the first place of the boundary at which those up to the second one of open length have what the tokens behind them
-/// leave of it.
+/// the first position of the boundary at which those up to the second one of open length have what the tokens behind
+/// them leave of it.
 fn end_along(
     lines: &Lines<'_>,
     scores: &Scores<'_>,
@@ -121,7 +130,7 @@ fn end_along(
     let last = opened.boundary.last;
     let front = total - fixed_total(lines, arguments.tail, arguments.tail_factors, last, to);
     match first_through(lines, &opened, front) {
-        Some(place) => place,
+        Some(position) => position,
         None => unreachable!(),
     }
 }
@@ -160,8 +169,8 @@ fn end_among(
     lines.problem().admissible();
     bounds_are_sound();
     answer_is_unique();
-    let places = lines.ends_of_first(arguments, from, to);
-    for end in places.start..places.end {
+    let positions = lines.ends_of_first(arguments, from, to);
+    for end in positions.start..positions.end {
         let Some(value) = argument_value(lines, scores, argument, from, end) else {
             continue;
         };

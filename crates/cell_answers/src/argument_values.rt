@@ -27,7 +27,7 @@ pub enum Numbers<'s> {
     Whole(&'s [i64]),
 }
 
-/// Entries side by side, for the places from `first` on, as the numbers that stand for them.
+/// Entries side by side, for the positions from `first` on, as the numbers that stand for them.
 #[derive(Clone, Copy)]
 pub struct Entries<'s> {
     pub first: u16,
@@ -35,14 +35,14 @@ pub struct Entries<'s> {
     pub numbers: Numbers<'s>,
 }
 
-/// The entry for a place.
-fn entry_at(entries: Entries<'_>, place: u16) -> i64
-    requires from_first { entries.first ≤ place }
-    requires there { IsSome (slice_get (entries_of entries) (place - entries.first)) }
+/// The entry for a position.
+fn entry_at(entries: Entries<'_>, position: u16) -> i64
+    requires from_first { entries.first ≤ position }
+    requires there { IsSome (slice_get (entries_of entries) (position - entries.first)) }
     requires proper { AreProperNumbers entries.numbers }
-    ensures { slice_get (entries_of entries.entry) (place - entries.entry.first) ≡ Some result }
+    ensures { slice_get (entries_of entries.entry) (position - entries.entry.first) ≡ Some result }
 {
-    let number = (place - entries.first) as usize;
+    let number = (position - entries.first) as usize;
     match entries.numbers {
         Numbers::Short(numbers) => short_entry(entries.goal, numbers[number]),
         Numbers::Medium(numbers) => medium_entry(entries.goal, numbers[number]),
@@ -94,13 +94,13 @@ pub fn argument_value(
     }
 }
 
-/// The same, where the entry of a rule's cell stands among others at this place.
+/// The same, where the entry of a rule's cell stands among others at this position.
 #[inline]
 pub fn value_among(
     lines: &Lines<'_>,
     entries: Entries<'_>,
     argument: &Arg,
-    place: u16,
+    position: u16,
     from: u16,
     to: u16,
 ) -> Option<i64>
@@ -108,7 +108,7 @@ pub fn value_among(
     requires fits { FitsSpan lines.now (on_span argument.now from to) }
     requires low { nat_abs (token_value lines.now.grammar argument.now (letters_between lines.now.word from to))
         ≤ greatest_score }
-    requires there { AtRule (HasEntryAt lines.now (entries_of entries) entries.first place)
+    requires there { AtRule (HasEntryAt lines.now (entries_of entries) entries.first position)
         (on_span argument.now from to) }
     requires proper { AreProperNumbers entries.numbers }
     ensures { MatchOption result
@@ -116,7 +116,7 @@ pub fn value_among(
         (IsValue lines.now (HasBestScore lines.now) (on_span argument.now from to)) }
 {
     match argument {
-        Arg::Rule(_) => score_of(entry_at(entries, place)),
+        Arg::Rule(_) => score_of(entry_at(entries, position)),
         token => Some(token_value(lines, token, from, to)),
     }
 }

@@ -28,7 +28,9 @@ use adp_model::laws::well_formed::{
 };
 use adp_model::{Arg, Cell};
 use score_numbers::{greater, turned};
-use split_lines::{KeptAlternative, Line, Lines, is_fixed, line_begins_here, line_begins_later, line_here};
+use split_lines::{
+    KeptAlternative, Line, Lines, is_fixed, line_begins_here, line_begins_later, line_here,
+};
 
 /// The best score of a cell and the first alternative that gives it.
 #[derive(Clone, Copy)]
@@ -117,9 +119,9 @@ pub(crate) fn greatest_total(
     if others.is_empty() {
         return last_total(lines, scores, argument, *factor, from, to);
     }
-    let places = lines.ends_of_first(arguments, from, to);
+    let positions = lines.ends_of_first(arguments, from, to);
     let mut greatest = None;
-    for end in places.start..places.end {
+    for end in positions.start..positions.end {
         let Some(value) = argument_value(lines, scores, argument, from, end) else {
             continue;
         };

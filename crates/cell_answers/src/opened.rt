@@ -1,4 +1,4 @@
-//! Lines whose boundary has a place, with the entries on both sides of it.
+//! Lines whose boundary has a position, with the entries on both sides of it.
 
 ghost use Rattle.std.specs.Prelude.{◌≡◌, ℕ, ℤ, ◌∷◌, ◌++◌, MatchOption, length};
 ghost use Rattle.adp_model.specs.declared.cell.Cell.{Cell};
@@ -29,8 +29,8 @@ pub struct LineArguments<'s> {
     pub tail_factors: &'s [i64],
 }
 
-/// A line on a span, where its boundary has a place: its arguments, the boundary, where the first argument begins, and
-/// the entries of the two of open length, for all places of the boundary.
+/// A line on a span, where its boundary has a position: its arguments, the boundary, where the first argument begins,
+/// and the entries of the two of open length, for all positions of the boundary.
 #[derive(Clone, Copy)]
 pub struct OpenedLine<'s> {
     pub arguments: LineArguments<'s>,
@@ -73,7 +73,7 @@ pub fn line_arguments<'s>(
 }
 
 /// Opens the line of arguments, which begin with its first one, on the span from `from` to `to`; `None` where its
-/// boundary has no place there.
+/// boundary has no position there.
 #[inline(always)]
 pub fn open_line<'s>(
     lines: &'s Lines<'_>,
@@ -97,16 +97,16 @@ pub fn open_line<'s>(
     lines.problem().admissible();
     let boundary = lines.boundary(line, arguments, from, to);
     let Boundary {
-        places,
+        positions,
         letters,
         last,
         ..
     } = boundary;
     let arguments = line_arguments(arguments, factors, line.between as usize);
-    if places.is_empty() {
+    if positions.is_empty() {
         return None;
     }
-    let (low, high) = (places[0], places[places.len() - 1]);
+    let (low, high) = (positions[0], positions[positions.len() - 1]);
     let row = scores.entries(Side::Rows, arguments.first, from, low, high);
     let column = scores.entries(
         Side::Columns,

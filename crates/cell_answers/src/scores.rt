@@ -70,9 +70,9 @@ fn numbers_between<'s, V: Copy>(
         → IsSome (value_at grid.now rule near first) × IsSome (value_at grid.now rule near last) }
     ensures values { (rule far : ℕ) → argument.now ≡ Rule rule → first ≤ far → far ≤ last
         → slice_get result.now (far - first) ≡ value_at grid.now rule near far }
-    ensures none_else { (place : ℕ) → IsSome (slice_get result.now place)
+    ensures none_else { (position : ℕ) → IsSome (slice_get result.now position)
         → (rule : ℕ) × (argument.now ≡ Rule rule)
-        × (slice_get result.now place ≡ value_at grid.now rule near (first + place)) }
+        × (slice_get result.now position ≡ value_at grid.now rule near (first + position)) }
 {
     match argument {
         Arg::Rule(rule) => grid.between(*rule, near, first, last + 1),

@@ -31,8 +31,8 @@ standing frames opened orders = record { openings = map opening_of frames; opene
 -- and for each boundary one more than the cell's length
 abbrev pub turn_bounds : PosedProblem → Cell → List ℕ
 turn_bounds p cell =
-    let places = cell.to - cell.from + 1 in
-    length (alternatives_of p.grammar cell.rule) ∷ places ∷ places ∷ places ∷ []
+    let positions = cell.to - cell.from + 1 in
+    length (alternatives_of p.grammar cell.rule) ∷ positions ∷ positions ∷ positions ∷ []
 
 module _ {Pass Probe : Type 0} (memo : Meaning Pass Probe) where
   -- a frame was added: the step found nothing published for its cell, which isn't known and in no frame, and drew its

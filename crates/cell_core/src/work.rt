@@ -179,12 +179,12 @@ fn opened_visit(problem: &Problem<'_>, orders: &mut Orders, cell: Cell) -> Visit
     problem.admissible();
     demanded_cells_are_counted();
     let count = problem.alternatives(cell.rule).len();
-    let places = u32::from(cell.to - cell.from) + 1;
+    let positions = u32::from(cell.to - cell.from) + 1;
     let first = orders.turn(count as u32);
     let turns = [
-        orders.turn(places),
-        orders.turn(places),
-        orders.turn(places),
+        orders.turn(positions),
+        orders.turn(positions),
+        orders.turn(positions),
     ];
     Visit {
         cell,

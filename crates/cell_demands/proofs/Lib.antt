@@ -1,9 +1,9 @@
-pub mod BitPlaces
+pub mod BitPositions
 pub mod Dividing
 pub mod Fronts
 pub mod LineDemands
 pub mod Lists
 pub mod MarkSteps
 pub mod OneEnds
-pub mod RisingPlaces
+pub mod RisingPositions
 pub mod Splitting

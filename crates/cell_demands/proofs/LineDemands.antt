@@ -12,7 +12,7 @@ use Rattle.adp_model.specs.PosedProblem.{PosedProblem}
 use Rattle.adp_model.specs.Parts.{alternatives_of, arguments_of}
 use Rattle.adp_model.specs.Splits.{Placed, FitsSpan, place, ends_by}
 use Rattle.adp_model.specs.Demand.{IsDemandedChild}
-use Rattle.viable_splits.specs.Placing.{on_span, Cover, ArePlaces}
+use Rattle.viable_splits.specs.Placing.{on_span, Cover, ArePositions}
 use Rattle.split_lines.specs.Laid.{IsCellOf, Demands, IsFixed, LineParts, AreBoundaries}
 use Rattle.split_lines.specs.declared.lines.Line.{Line}
 use Rattle.split_lines.specs.Lines.{HasLine, IsLine, parts_by}
@@ -59,13 +59,13 @@ module _ (p : PosedProblem) where
   demands_join [] back from middle to cell here demands = subst (λ at. Demands p back at to cell) (sym here) demands
   demands_join (token ∷ tokens) back from middle to cell (end, fits, others) demands = (end, fits, inr (demands_join tokens back end middle to cell others demands))
 
-  module _ (parts : LineParts) (from to letters last : ℕ) (places : List ℕ) (middle_fixed : AllByRecursion IsFixed parts.middle) (tail_fixed : AllByRecursion IsFixed parts.tail) (boundaries : AreBoundaries p parts from to letters last places) where
+  module _ (parts : LineParts) (from to letters last : ℕ) (positions : List ℕ) (middle_fixed : AllByRecursion IsFixed parts.middle) (tail_fixed : AllByRecursion IsFixed parts.tail) (boundaries : AreBoundaries p parts from to letters last positions) where
     abbrev line : List Arg
     line = (parts.first ∷ parts.middle) ++ (parts.second ∷ parts.tail)
 
-    place_found : (place : ℕ) → FitsSpan p (on_span parts.first from place) → (middle end : ℕ) → Cover p parts.middle place middle → FitsSpan p (on_span parts.second middle end) → Cover p parts.tail end to
-        → Contains places place × (middle ≡ place + letters) × (end ≡ last)
-    place_found place first middle end tokens second tail =
+    position_found : (place : ℕ) → FitsSpan p (on_span parts.first from place) → (middle end : ℕ) → Cover p parts.middle place middle → FitsSpan p (on_span parts.second middle end) → Cover p parts.tail end to
+        → Contains positions place × (middle ≡ place + letters) × (end ≡ last)
+    position_found place first middle end tokens second tail =
         let same = boundaries.one_middle place middle tokens in
         let at_last = boundaries.one_tail end tail in
         let M : ℕ → Type 0 = λ at. Cover p parts.middle place at in
@@ -74,49 +74,49 @@ module _ (p : PosedProblem) where
         let moved : S (place + letters) last = subst (λ at. S at last) same (subst (λ till. S middle till) at_last second) in
         ((boundaries.exact place).1 (first, subst M same tokens, moved, subst T at_last tail), same, at_last)
 
-    pub line_cover : Cover p line from to → (place : ℕ) × Contains places place
+    pub line_cover : Cover p line from to → (place : ℕ) × Contains positions place
     line_cover (place, first, cover) =
         let parts' = cover_parts parts.middle (parts.second ∷ parts.tail) place to cover in
-        let found = place_found place first parts'.0 parts'.2.0 parts'.1 parts'.2.1 parts'.2.2 in
+        let found = position_found place first parts'.0 parts'.2.0 parts'.1 parts'.2.1 parts'.2.2 in
         (place, found.0)
 
-    pub cover_line : (place : ℕ) → Contains places place → Cover p line from to
+    pub cover_line : (place : ℕ) → Contains positions place → Cover p line from to
     cover_line place there =
         let all = (boundaries.exact place).0 there in
         (place, all.0, cover_join parts.middle (parts.second ∷ parts.tail) place (place + letters) to all.1 (last, all.2, all.3))
 
     -- the cells that a line demands: those of the first argument up to the boundary, and those of the second one behind it
     pub line_demands : (cell : Cell) → Demands p line from to cell
-        → ((place : ℕ) × Contains places place × IsCellOf parts.first from place cell) ⊎ ((place : ℕ) × Contains places place × IsCellOf parts.second (place + letters) last cell)
+        → ((place : ℕ) × Contains positions place × IsCellOf parts.first from place cell) ⊎ ((place : ℕ) × Contains positions place × IsCellOf parts.second (place + letters) last cell)
     line_demands cell (place, first, inl (is, cover)) =
         let parts' = cover_parts parts.middle (parts.second ∷ parts.tail) place to cover in
-        let found = place_found place first parts'.0 parts'.2.0 parts'.1 parts'.2.1 parts'.2.2 in
+        let found = position_found place first parts'.0 parts'.2.0 parts'.1 parts'.2.1 parts'.2.2 in
         inl (place, found.0, is)
     line_demands cell (place, first, inr later) =
         let behind = demands_behind parts.middle (parts.second ∷ parts.tail) place to cell middle_fixed later in
         second_demands place first cell behind.0 behind.1 behind.2
       where
         second_demands : (place : ℕ) → FitsSpan p (on_span parts.first from place) → (cell : Cell) (middle : ℕ) → Cover p parts.middle place middle → Demands p (parts.second ∷ parts.tail) middle to cell
-            → ((place : ℕ) × Contains places place × IsCellOf parts.first from place cell) ⊎ ((place : ℕ) × Contains places place × IsCellOf parts.second (place + letters) last cell)
+            → ((place : ℕ) × Contains positions place × IsCellOf parts.first from place cell) ⊎ ((place : ℕ) × Contains positions place × IsCellOf parts.second (place + letters) last cell)
         second_demands place first cell middle tokens (end, second, inl (is, tail)) =
-            let found = place_found place first middle end tokens second tail in
+            let found = position_found place first middle end tokens second tail in
             let C : ℕ → ℕ → Type 0 = λ at till. IsCellOf parts.second at till cell in
             inr (place, found.0, subst (λ at. C at last) found.1 (subst (λ till. C middle till) found.2 is))
         second_demands place first cell middle tokens (end, second, inr later) = absurd (fixed_demands_none parts.tail end to cell tail_fixed later)
 
-    pub first_demanded : (cell : Cell) (place : ℕ) → Contains places place → IsCellOf parts.first from place cell → Demands p line from to cell
+    pub first_demanded : (cell : Cell) (place : ℕ) → Contains positions place → IsCellOf parts.first from place cell → Demands p line from to cell
     first_demanded cell place there is =
         let all = (boundaries.exact place).0 there in
         (place, all.0, inl (is, cover_join parts.middle (parts.second ∷ parts.tail) place (place + letters) to all.1 (last, all.2, all.3)))
 
-    pub second_demanded : (cell : Cell) (place : ℕ) → Contains places place → IsCellOf parts.second (place + letters) last cell → Demands p line from to cell
+    pub second_demanded : (cell : Cell) (place : ℕ) → Contains positions place → IsCellOf parts.second (place + letters) last cell → Demands p line from to cell
     second_demanded cell place there is =
         let all = (boundaries.exact place).0 there in
         (place, all.0, inr (demands_join parts.middle (parts.second ∷ parts.tail) place (place + letters) to cell all.1 (last, all.2, inl (is, all.3))))
 
 -- ---- arguments that begin with the first one of a line
 
-module _ (p : PosedProblem) (arguments : List Arg) (between from to letters last : ℕ) (places : List ℕ) (has : HasLine arguments between) (boundaries : AreBoundaries p (parts_by arguments between) from to letters last places) where
+module _ (p : PosedProblem) (arguments : List Arg) (between from to letters last : ℕ) (positions : List ℕ) (has : HasLine arguments between) (boundaries : AreBoundaries p (parts_by arguments between) from to letters last positions) where
   abbrev parts : LineParts
   parts = parts_by arguments between
 
@@ -132,42 +132,42 @@ module _ (p : PosedProblem) (arguments : List Arg) (between from to letters last
   second_is : (argument : Arg) → argument ≡ get_or arguments (between + 1) argument → argument ≡ parts.second
   second_is argument read = get_or_read arguments (between + 1) argument has.several read (Rule 0)
 
-  pub demands_first : (argument : Arg) → argument ≡ get_or arguments 0 argument → (cell : Cell) (place : ℕ) → Contains places place → IsCellOf argument from place cell → Demands p arguments from to cell
+  pub demands_first : (argument : Arg) → argument ≡ get_or arguments 0 argument → (cell : Cell) (place : ℕ) → Contains positions place → IsCellOf argument from place cell → Demands p arguments from to cell
   demands_first argument read cell place there is =
       from_parts (λ all. Demands p all from to cell)
-      (first_demanded p parts from to letters last places has.parts.middle_fixed has.parts.tail_fixed boundaries cell place there (subst (λ it. IsCellOf it from place cell) (first_is argument read) is))
+      (first_demanded p parts from to letters last positions has.parts.middle_fixed has.parts.tail_fixed boundaries cell place there (subst (λ it. IsCellOf it from place cell) (first_is argument read) is))
 
-  pub demands_second : (argument : Arg) → argument ≡ get_or arguments (between + 1) argument → (cell : Cell) (place : ℕ) → Contains places place → IsCellOf argument (place + letters) last cell → Demands p arguments from to cell
+  pub demands_second : (argument : Arg) → argument ≡ get_or arguments (between + 1) argument → (cell : Cell) (place : ℕ) → Contains positions place → IsCellOf argument (place + letters) last cell → Demands p arguments from to cell
   demands_second argument read cell place there is =
       from_parts (λ all. Demands p all from to cell)
-      (second_demanded p parts from to letters last places has.parts.middle_fixed has.parts.tail_fixed boundaries cell place there (subst (λ it. IsCellOf it (place + letters) last cell) (second_is argument read) is))
+      (second_demanded p parts from to letters last positions has.parts.middle_fixed has.parts.tail_fixed boundaries cell place there (subst (λ it. IsCellOf it (place + letters) last cell) (second_is argument read) is))
 
   pub demanded_by_line : (first second : Arg) → first ≡ get_or arguments 0 first → second ≡ get_or arguments (between + 1) second → (cell : Cell) → Demands p arguments from to cell
-      → ((place : ℕ) × Contains places place × IsCellOf first from place cell) ⊎ ((place : ℕ) × Contains places place × IsCellOf second (place + letters) last cell)
+      → ((place : ℕ) × Contains positions place × IsCellOf first from place cell) ⊎ ((place : ℕ) × Contains positions place × IsCellOf second (place + letters) last cell)
   demanded_by_line first second read read' cell demands =
       ⊎_elim
       (λ (place, there, is). inl (place, there, subst (λ it. IsCellOf it from place cell) (sym (first_is first read)) is))
       (λ (place, there, is). inr (place, there, subst (λ it. IsCellOf it (place + letters) last cell) (sym (second_is second read')) is))
-      (line_demands p parts from to letters last places has.parts.middle_fixed has.parts.tail_fixed boundaries cell (back_to_parts (λ all. Demands p all from to cell) demands))
+      (line_demands p parts from to letters last positions has.parts.middle_fixed has.parts.tail_fixed boundaries cell (back_to_parts (λ all. Demands p all from to cell) demands))
 
   -- the line may have the letters where the boundary has a place
-  pub cover_told : (is_empty : Bool) → is_empty ≡ (length places == 0) → IsTrue (not is_empty) ↔ Cover p arguments from to
+  pub cover_told : (is_empty : Bool) → is_empty ≡ (length positions == 0) → IsTrue (not is_empty) ↔ Cover p arguments from to
   cover_told true e = (
     λ none. absurd cc,
     λ cover.
-        let there = line_cover p parts from to letters last places has.parts.middle_fixed has.parts.tail_fixed boundaries (back_to_parts (λ all. Cover p all from to) cover) in
-        let none : length places ≡ 0 = eqb-true (length places) 0 (sym e) in
+        let there = line_cover p parts from to letters last positions has.parts.middle_fixed has.parts.tail_fixed boundaries (back_to_parts (λ all. Cover p all from to) cover) in
+        let none : length positions ≡ 0 = eqb-true (length positions) 0 (sym e) in
         let at = there.1 in
         absurd (omega (arith, at.1)),
   )
   cover_told false e = (
-    λ some. from_parts (λ all. Cover p all from to) (cover_line p parts from to letters last places has.parts.middle_fixed has.parts.tail_fixed boundaries (get_or places 0 0) (some_place places e)),
+    λ some. from_parts (λ all. Cover p all from to) (cover_line p parts from to letters last positions has.parts.middle_fixed has.parts.tail_fixed boundaries (get_or positions 0 0) (some_position positions e)),
     λ cover. refl,
   )
     where
-      some_place : (places : List ℕ) → false ≡ (length places == 0) → Contains places (get_or places 0 0)
-      some_place [] e = absurd cc
-      some_place (place ∷ places) e = (0, omega arith, refl)
+      some_position : (positions : List ℕ) → false ≡ (length positions == 0) → Contains positions (get_or positions 0 0)
+      some_position [] e = absurd cc
+      some_position (place ∷ positions) e = (0, omega arith, refl)
 
 -- ---- the first argument, end by end
 
@@ -223,16 +223,16 @@ module _ (p : PosedProblem) (argument : Arg) (others : List Arg) (from to low en
 
 -- ---- all ends of the first argument
 
-module _ (p : PosedProblem) (argument : Arg) (others : List Arg) (from to : ℕ) (places : Range ℕ) (past : ℕ) (are : ArePlaces p argument others from to places) (whole : places.end ≤ past) where
-  pub all_covered : (is_laid : Bool) → IsTrue is_laid ↔ CoversBelow p argument others from to places.start past → IsTrue is_laid ↔ Cover p (argument ∷ others) from to
+module _ (p : PosedProblem) (argument : Arg) (others : List Arg) (from to : ℕ) (positions : Range ℕ) (past : ℕ) (are : ArePositions p argument others from to positions) (whole : positions.end ≤ past) where
+  pub all_covered : (is_laid : Bool) → IsTrue is_laid ↔ CoversBelow p argument others from to positions.start past → IsTrue is_laid ↔ Cover p (argument ∷ others) from to
   all_covered is_laid told = (
     λ is. let c = told.0 is in (c.0, c.3, c.4),
     λ (end, fits, cover). let within = are.none_missed end fits cover in told.1 (end, within.0, omega (arith, within.1), fits, cover),
   )
 
-  pub all_marked : (begin : ℕ) (first second : CellMarks) → AreMarkedFrom begin first second (DemandsBelow p argument others from to places.start past) → AreMarkedFrom begin first second (Demands p (argument ∷ others) from to)
+  pub all_marked : (begin : ℕ) (first second : CellMarks) → AreMarkedFrom begin first second (DemandsBelow p argument others from to positions.start past) → AreMarkedFrom begin first second (Demands p (argument ∷ others) from to)
   all_marked begin first second marked =
-      marked_like begin first second (DemandsBelow p argument others from to places.start past) (Demands p (argument ∷ others) from to)
+      marked_like begin first second (DemandsBelow p argument others from to positions.start past) (Demands p (argument ∷ others) from to)
       (λ cell (end, l, m, fits, some). (end, fits, some))
       (λ cell (end, fits, some).
       let cover = ⊎_elim (λ (is, cover). cover) (λ later. cover_of_demands p others end to cell later) some in

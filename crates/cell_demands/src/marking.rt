@@ -19,7 +19,10 @@ ghost use Rattle.cell_tables.specs.Marks.{AreInRows, AreMarkedFrom, AreMarkedToo
 use adp_model::laws::well_formed::{alternatives_fit, arguments_are_few_and_known};
 use adp_model::{Arg, Cell};
 use cell_tables::Marks;
-use split_lines::{Boundary, KeptAlternative, Line, Lines, is_fixed, line_begins_here, line_begins_later, line_here};
+use split_lines::{
+    Boundary, KeptAlternative, Line, Lines, is_fixed, line_begins_here, line_begins_later,
+    line_here,
+};
 
 /// Marks the cell of the argument on a span, where the argument is a rule.
 fn mark_argument(argument: &Arg, from: u16, to: u16, marks: &mut Marks<'_>)
@@ -37,50 +40,58 @@ fn mark_argument(argument: &Arg, from: u16, to: u16, marks: &mut Marks<'_>)
     }
 }
 
-/// Marks the cells of the argument on the spans that begin at `from` and end at a place of the boundary, which has
+/// Marks the cells of the argument on the spans that begin at `from` and end at a position of the boundary, which has
 /// some, where the argument is a rule.
 fn mark_first(argument: &Arg, from: u16, boundary: Boundary<'_>, marks: &mut Marks<'_>)
-    requires some { 0 < length boundary.places.now }
-    requires bits { AreBitsAmong boundary.places.now 0 boundary.here.now }
-    requires short { (place : ℕ) → Contains boundary.places.now place → place ≤ 4000 }
-    requires counted { (cell : Cell) (end : ℕ) → Contains boundary.places.now end → IsCellOf argument.now from end cell
+    requires some { 0 < length boundary.positions.now }
+    requires bits { AreBitsAmong boundary.positions.now 0 boundary.here.now }
+    requires short { (position : ℕ) → Contains boundary.positions.now position → position ≤ 4000 }
+    requires counted { (cell : Cell) (end : ℕ) → Contains boundary.positions.now end
+        → IsCellOf argument.now from end cell
         → IsCounted marks.old.problem.grammar (length marks.old.problem.word) cell }
     ensures marked { AreMarkedToo marks.old marks.new
-        (λ cell. (end : ℕ) × Contains boundary.entry.places.now end × IsCellOf argument.now from end cell) }
+        (λ cell. (end : ℕ) × Contains boundary.entry.positions.now end × IsCellOf argument.now from end cell) }
     ensures in_row { AreInRows marks.new
-        (λ cell. (end : ℕ) × Contains boundary.entry.places.now end × IsCellOf argument.now from end cell) }
+        (λ cell. (end : ℕ) × Contains boundary.entry.positions.now end × IsCellOf argument.now from end cell) }
 {
-    let Boundary { places, here, .. } = boundary;
+    let Boundary {
+        positions,
+        here,
+        ..
+    } = boundary;
     if let Arg::Rule(rule) = argument {
-        let (first, last) = (places[0], places[places.len() - 1]);
+        let (first, last) = (positions[0], positions[positions.len() - 1]);
         marks.mark_ends_of(*rule, from, first, last + 1, here);
     }
 }
 
-/// Marks the cells of the argument on the spans that begin behind the letters behind a place of the boundary, which has
-/// some, and end where the boundary says, where the argument is a rule. None of them begins before `begin`.
+/// Marks the cells of the argument on the spans that begin behind the letters behind a position of the boundary, which
+/// has some, and end where the boundary says, where the argument is a rule. None of them begins before `begin`.
 fn mark_second(argument: &Arg, begin: u16, boundary: Boundary<'_>, marks: &mut Marks<'_>)
-    requires some { 0 < length boundary.places.now }
-    requires bits { AreBitsAmong boundary.places.now boundary.letters boundary.behind.now }
-    requires rising { AllAdjacentBelow (λ (a b : ℕ). a < b) boundary.places.now (length boundary.places.now) }
-    requires short { (place : ℕ) → Contains boundary.places.now place → place + boundary.letters ≤ 4000 }
-    requires begin { (place : ℕ) → Contains boundary.places.now place → begin ≤ place + boundary.letters }
-    requires counted { (cell : Cell) (start : ℕ) → Contains boundary.places.now start
+    requires some { 0 < length boundary.positions.now }
+    requires bits { AreBitsAmong boundary.positions.now boundary.letters boundary.behind.now }
+    requires rising { AllAdjacentBelow (λ (a b : ℕ). a < b) boundary.positions.now (length boundary.positions.now) }
+    requires short { (position : ℕ) → Contains boundary.positions.now position → position + boundary.letters ≤ 4000 }
+    requires begin { (position : ℕ) → Contains boundary.positions.now position → begin ≤ position + boundary.letters }
+    requires counted { (cell : Cell) (start : ℕ) → Contains boundary.positions.now start
         → IsCellOf argument.now (start + boundary.letters) boundary.last cell
         → IsCounted marks.old.problem.grammar (length marks.old.problem.word) cell }
     ensures { AreMarkedFrom begin marks.old marks.new
-        (λ cell. (start : ℕ) × Contains boundary.entry.places.now start
+        (λ cell. (start : ℕ) × Contains boundary.entry.positions.now start
         × IsCellOf argument.now (start + boundary.entry.letters) boundary.entry.last cell) }
 {
     let Boundary {
-        places,
+        positions,
         behind,
         letters,
         last,
         ..
     } = boundary;
     if let Arg::Rule(rule) = argument {
-        let (first, past) = (places[0] + letters, places[places.len() - 1] + letters + 1);
+        let (first, past) = (
+            positions[0] + letters,
+            positions[positions.len() - 1] + letters + 1,
+        );
         marks.mark_starts_of(*rule, last, first, past, behind);
         if first == begin {
             marks.mark(Cell {
@@ -141,7 +152,7 @@ fn mark_line(
 {
     lines.problem().admissible();
     let boundary = lines.boundary(line, arguments, from, to);
-    if boundary.places.is_empty() {
+    if boundary.positions.is_empty() {
         return false;
     }
     let second = &arguments[line.between as usize + 1];

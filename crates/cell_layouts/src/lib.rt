@@ -1,5 +1,5 @@
-//! The counted cells of a word, those that the sizes and the anchors of rules leave: how many they are, where they lie in
-//! rows and in columns, and their places.
+//! The counted cells of a word, those that the sizes and the anchors of rules leave: how many they are, where they lie
+//! in rows and in columns, and their places.
 #![tactic(auto)]
 
 mod cells;

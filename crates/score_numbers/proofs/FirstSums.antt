@@ -11,7 +11,7 @@ use Rattle.std.proofs.lemmas.Option.{get_or_from_slice_get, slice_get_read, slic
 use Rattle.adp_model.specs.ProblemFields.{greatest_score}
 use Rattle.score_numbers.specs.declared.sums.Positions.{Positions}
 use Rattle.score_numbers.specs.declared.sums.Scales.{Scales}
-use Rattle.score_numbers.specs.FirstPlaces.{IsFirstAmong, IsFirstOf}
+use Rattle.score_numbers.specs.FirstPositions.{IsFirstAmong, IsFirstOf}
 use Rattle.score_numbers.specs.Greatest.{IsGreatestOf}
 use Rattle.score_numbers.specs.Limits.{AreLimited, no_limit}
 use Rattle.score_numbers.specs.Packing.{Width, AreProper, short}

@@ -178,37 +178,37 @@ pub limit_cases : (sum limit least : ℤ) → FitsSigned w16 sum → (limit ≡ 
 limit_cases sum limit least fits (inl e) is = inl (e, grind (arith, ints, int_min_is))
 limit_cases sum limit least fits (inr e) is = inr (e, grind (arith, ints, int_min_is))
 
-pub some_place : {A : Type 0} (items : List A) (position : ℕ) (item : A) → slice_get items position ≡ Some item → position < length items
-some_place [] position item e = absurd cc
-some_place (x ∷ items) zero item e = omega arith
-some_place (x ∷ items) (suc position) item e = omega (arith, some_place items position item e)
+pub some_position : {A : Type 0} (items : List A) (position : ℕ) (item : A) → slice_get items position ≡ Some item → position < length items
+some_position [] position item e = absurd cc
+some_position (x ∷ items) zero item e = omega arith
+some_position (x ∷ items) (suc position) item e = omega (arith, some_position items position item e)
 
 -- sums side by side are those before the end of the shorter list
 pub all_aligned : (width : Width) (firsts seconds : List ℤ) (count : ℕ) (greatest : ℤ) → ((k : ℕ) → k < length firsts → k < length seconds → k < count) → IsLargest (least_sum width) (HasBefore (λ k. HasSum width firsts seconds k) count) greatest
     → IsLargest (least_sum width) (λ sum. (k : ℕ) × HasSum width firsts seconds k sum) greatest
 all_aligned width firsts seconds count greatest all (inl (low, none)) =
-    inl (low, λ number h. none number (h.0, all h.0 (some_place firsts h.0 h.1.first h.1.first_there) (some_place seconds h.0 h.1.second h.1.second_there), h.1))
+    inl (low, λ number h. none number (h.0, all h.0 (some_position firsts h.0 h.1.first h.1.first_there) (some_position seconds h.0 h.1.second h.1.second_there), h.1))
 all_aligned width firsts seconds count greatest all (inr (high, is)) =
     inr (
       high,
       greatest_same (HasBefore (λ k. HasSum width firsts seconds k) count) (λ sum. (k : ℕ) × HasSum width firsts seconds k sum) (Some greatest)
           (λ number h. (h.0, h.2))
-          (λ number h. (h.0, all h.0 (some_place firsts h.0 h.1.first h.1.first_there) (some_place seconds h.0 h.1.second h.1.second_there), h.1)) is,
+          (λ number h. (h.0, all h.0 (some_position firsts h.0 h.1.first h.1.first_there) (some_position seconds h.0 h.1.second h.1.second_there), h.1)) is,
     )
 
 -- those at the positions are those at their numbers
 module _ (positions : Positions) (Sum : ℕ → ℤ → Type 0) where
   -- it holds at some position
-  abbrev pub SomePlace : ℤ → Type 0
-  SomePlace number = (position : ℕ) × Contains positions.at.now position × Sum (number_at positions position) number
+  abbrev pub SomePosition : ℤ → Type 0
+  SomePosition number = (position : ℕ) × Contains positions.at.now position × Sum (number_at positions position) number
 
   -- it holds at the position of this number
-  abbrev pub AtPlace : ℕ → ℤ → Type 0
-  AtPlace k = Sum (number_at positions (get_or positions.at.now k 0))
+  abbrev pub AtPosition : ℕ → ℤ → Type 0
+  AtPosition k = Sum (number_at positions (get_or positions.at.now k 0))
 
-  pub all_scattered : (least : ℤ) (count : ℕ) (greatest : ℤ) → count ≡ length positions.at.now → IsLargest least (HasBefore AtPlace count) greatest → IsLargest least SomePlace greatest
+  pub all_scattered : (least : ℤ) (count : ℕ) (greatest : ℤ) → count ≡ length positions.at.now → IsLargest least (HasBefore AtPosition count) greatest → IsLargest least SomePosition greatest
   all_scattered least count greatest all =
-      largest_same least (HasBefore AtPlace count) SomePlace greatest
+      largest_same least (HasBefore AtPosition count) SomePosition greatest
       (λ number h. (get_or positions.at.now h.0 0, Contains-get_or positions.at.now h.0 0 (omega (arith, h.1, all)), h.2))
       (λ number h.
       let at : get_or positions.at.now h.1.0 0 ≡ h.0 = get_or_default positions.at.now h.1.0 0 h.0 h.1.1 ∙ h.1.2 in
@@ -248,11 +248,11 @@ module _ (positions : Positions) (firsts seconds : List ℤ) (have : HaveNumbers
       (λ k l. omega (arith, rising k 0 l, have.from_first (get_or positions.at.now k 0) (stands k (omega arith))))
       (λ k l. omega (arith, have.before (get_or positions.at.now k 0) (stands k l)))
 
-  pub aligned_places : (width : Width) (greatest : Option ℤ) → IsGreatestOf (λ sum. (k : ℕ) × HasSum width firsts seconds k sum) greatest → IsGreatestOf (HasSumAt width positions firsts seconds) greatest
-  aligned_places width greatest =
+  pub aligned_positions : (width : Width) (greatest : Option ℤ) → IsGreatestOf (λ sum. (k : ℕ) × HasSum width firsts seconds k sum) greatest → IsGreatestOf (HasSumAt width positions firsts seconds) greatest
+  aligned_positions width greatest =
       greatest_same (λ sum. (k : ℕ) × HasSum width firsts seconds k sum) (HasSumAt width positions firsts seconds) greatest
       (λ number h.
-      let l : h.0 < length positions.at.now = omega (arith, some_place firsts h.0 h.1.first h.1.first_there, as_many) in
+      let l : h.0 < length positions.at.now = omega (arith, some_position firsts h.0 h.1.first h.1.first_there, as_many) in
       (get_or positions.at.now h.0 0, stands h.0 l, subst (λ k. HasSum width firsts seconds k number) (sym (number_is h.0 l)) h.1))
       (λ number h.
       let at : get_or positions.at.now h.1.0 0 ≡ h.0 = get_or_default positions.at.now h.1.0 0 h.0 h.1.1 ∙ h.1.2 in
@@ -263,13 +263,13 @@ module _ (positions : Positions) (firsts seconds : List ℤ) (have : HaveNumbers
 pub all_limited : (limits firsts seconds : List ℤ) (count : ℕ) (greatest : ℤ) → count ≡ length limits → IsLargest (least_sum short) (HasBefore (IsUnlimitedSum limits firsts seconds) count) greatest
     → IsLargest (least_sum short) (HasUnlimitedSum limits firsts seconds) greatest
 all_limited limits firsts seconds count greatest all (inl (low, none)) =
-    inl (low, λ number h. none number (h.0, omega (arith, all, some_place limits h.0 no_limit h.1.0), h.1))
+    inl (low, λ number h. none number (h.0, omega (arith, all, some_position limits h.0 no_limit h.1.0), h.1))
 all_limited limits firsts seconds count greatest all (inr (high, is)) =
     inr (
       high,
       greatest_same (HasBefore (IsUnlimitedSum limits firsts seconds) count) (HasUnlimitedSum limits firsts seconds) (Some greatest)
           (λ number h. (h.0, h.2))
-          (λ number h. (h.0, omega (arith, all, some_place limits h.0 no_limit h.1.0), h.1)) is,
+          (λ number h. (h.0, omega (arith, all, some_position limits h.0 no_limit h.1.0), h.1)) is,
     )
 
 -- ---- positions that limits tell, from the first to the last
@@ -288,7 +288,7 @@ module _ (positions : Positions) (firsts seconds : List ℤ) (limits : List ℤ)
   -- where there is no limit, a position stands
   pub unlimited_stands : (k : ℕ) → slice_get limits k ≡ Some no_limit → Contains positions.at.now (positions.first + k)
   unlimited_stands k there =
-      let at = begins (omega (arith, some_place limits k no_limit there)) in
+      let at = begins (omega (arith, some_position limits k no_limit there)) in
       let same : k ≡ begin + k - begin = omega arith in
       let moved : begin + k ≡ positions.first + k = omega (arith, at) in
       subst (Contains positions.at.now) moved
@@ -298,15 +298,15 @@ module _ (positions : Positions) (firsts seconds : List ℤ) (limits : List ℤ)
       → slice_get limits (number_at positions position) ≡ Some no_limit
   stands_unlimited position stands =
       let told = (limited.exact position).0 stands in
-      let at = begins (omega (arith, some_place limits (position - begin) no_limit told.1)) in
+      let at = begins (omega (arith, some_position limits (position - begin) no_limit told.1)) in
       let same : position - begin ≡ number_at positions position = omega (arith, at) in
       subst (λ k. slice_get limits k ≡ Some no_limit) same told.1
 
   pub number_back : (k : ℕ) → k ≡ number_at positions (positions.first + k)
   number_back k = omega arith
 
-  pub limited_places : (greatest : Option ℤ) → IsGreatestOf (HasUnlimitedSum limits firsts seconds) greatest → IsGreatestOf (HasSumAt short positions firsts seconds) greatest
-  limited_places greatest =
+  pub limited_positions : (greatest : Option ℤ) → IsGreatestOf (HasUnlimitedSum limits firsts seconds) greatest → IsGreatestOf (HasSumAt short positions firsts seconds) greatest
+  limited_positions greatest =
       greatest_same (HasUnlimitedSum limits firsts seconds) (HasSumAt short positions firsts seconds) greatest
       (λ number h.
       (positions.first + h.0, unlimited_stands h.0 h.1.0, subst (λ k. HasSum short firsts seconds k number) (number_back h.0) h.1.1))

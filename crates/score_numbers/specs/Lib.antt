@@ -1,5 +1,5 @@
 pub mod Entries
-pub mod FirstPlaces
+pub mod FirstPositions
 pub mod Greatest
 pub mod Limits
 pub mod Packing

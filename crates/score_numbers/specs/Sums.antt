@@ -54,7 +54,7 @@ AreLowSums mark scales positions firsts seconds =
     → (it : HasScaledSum mark scales firsts seconds (number_at positions position) sum)
     → nat_abs (scales.before *ℤ it.first) + nat_abs (scales.behind *ℤ it.second) ≤ greatest_score
 
--- there is no limit at this place, and the two numbers there have this sum
+-- there is no limit at this position, and the two numbers there have this sum
 abbrev pub IsUnlimitedSum : List ℤ → List ℤ → List ℤ → ℕ → ℤ → Type 0
 IsUnlimitedSum limits firsts seconds k sum = (slice_get limits k ≡ Some no_limit) × HasSum short firsts seconds k sum
 

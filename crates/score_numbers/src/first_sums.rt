@@ -2,7 +2,7 @@
 
 ghost use Rattle.std.specs.Prelude.{◌≡◌, ◌↔◌, ℕ, ◌+◌, ◌<◌, ◌≤◌, ◌+ℤ◌, ◌<ℤ◌, IfSome, IsTrue, MatchOption, length, map, slice_index_or};
 ghost use Rattle.std.specs.List.{AllAdjacentBelow};
-ghost use Rattle.score_numbers.specs.FirstPlaces.{IsFirstOf};
+ghost use Rattle.score_numbers.specs.FirstPositions.{IsFirstOf};
 ghost use Rattle.score_numbers.specs.Limits.{AreLimited, AreLimits, no_limit};
 ghost use Rattle.score_numbers.specs.Packing.{AreProper, IsProper, long, medium, short};
 ghost use Rattle.score_numbers.specs.Sums.{AreLowSums, HasScaledSum, HasSum, HaveNumbers, IsUnlimitedSum, number_at};

@@ -159,7 +159,7 @@ module _ (p : PosedProblem) (counted : (cell : Cell) → IsDemanded p cell → C
     ]
   ]
 
-  -- no demanded cell of the block ends between two places
+  -- no demanded cell of the block ends between two positions
   pub filled_up_to : (to : ℕ) → ((other : ℕ) → least ≤ other → other < to → IsEndMarked marks rules first past other → ⊥) → AreFilled p table (IsFilledBefore first past to)
   filled_up_to to none = record {
     problem = filled.problem;
@@ -168,7 +168,7 @@ module _ (p : PosedProblem) (counted : (cell : Cell) → IsDemanded p cell → C
         (λ (low, high). ⊎_elim (λ entry. entry) (λ (late, told). absurd (none cell.to late high told)) (filled_or_told cell low demanded)) is;
   }
 
-  -- none ends behind the last place
+  -- none ends behind the last position
   pub filled_block : ((to : ℕ) → least ≤ to → IsEndMarked marks rules first past to → ⊥) → AreFilled p table (IsFromStart first)
   filled_block none = record {
     problem = filled.problem;

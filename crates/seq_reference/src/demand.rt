@@ -74,7 +74,8 @@ fn first_marks<'a>(
 }
 
 /// Marks of the demanded cells: each is marked in its row, and no other cell is. Fails for want of memory alone. Its
-/// time is in proportion to the counted cells and to the lines of the demanded cells, with their places, 64 at a time.
+/// time is in proportion to the counted cells and to the lines of the demanded cells, with their positions, 64 at a
+/// time.
 pub fn demanded_marks<'a>(
     alloc: Global,
     lines: &Lines<'a>,

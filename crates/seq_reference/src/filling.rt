@@ -97,7 +97,7 @@ fn fill_block(
 }
 
 /// The scores of the demanded cells, which are marked in their rows. Fails for want of memory alone. Its time is in
-/// proportion to the demanded cells, times rules, and to the places of their lines.
+/// proportion to the demanded cells, times rules, and to the positions of their lines.
 pub fn filled_scores<'a>(
     alloc: Global,
     lines: &Lines<'a>,

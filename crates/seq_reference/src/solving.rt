@@ -9,7 +9,7 @@ use split_lines::Lines;
 use std::alloc::{AllocError, Global};
 
 /// The answers of the problem's demanded cells. Fails for want of memory alone. Its time is in proportion to the
-/// counted cells, to the demanded cells, times rules, and to the places of their lines.
+/// counted cells, to the demanded cells, times rules, and to the positions of their lines.
 pub fn solve<'a>(alloc: Global, problem: &'a Problem<'a>) -> Result<Solved<'a>, AllocError>
     ensures { IfOk result (λ solved. solved ≡ problem.now) }
 {

@@ -56,7 +56,7 @@ all_first class word from to l h =
     let P : List ℕ → Type 0 = λ letters. AllByRecursion (IsIn class) letters ↔ (IsIn class (get_or word from 0) × AllIn class word (from + 1) to) in
     subst P (sym (letters_first word from to l h)) (λ h. h, λ h. h)
 
--- from this place on all letters up to `to` are in the class, and from none before
+-- from this position on all letters up to `to` are in the class, and from none before
 abbrev pub IsFirstOf : List (ℕ × ℤ) → List ℕ → ℕ → ℕ → Type 0
 IsFirstOf class word to first = (from : ℕ) → from ≤ to → AllIn class word from to ↔ (first ≤ from)
 
@@ -77,7 +77,7 @@ first_anew class word to within out = λ from l.
       | inr inside ↦ (λ h. absurd (out ((all_more class word from to inside within).0 h).1), λ h. absurd (omega arith))
     ]
 
--- up to this place all letters from `from` on are in the class, and up to none behind it
+-- up to this position all letters from `from` on are in the class, and up to none behind it
 abbrev pub IsLastOf : List (ℕ × ℤ) → List ℕ → ℕ → ℕ → Type 0
 IsLastOf class word from last = (to : ℕ) → from ≤ to → to ≤ length word → AllIn class word from to ↔ (to ≤ last)
 
@@ -147,9 +147,9 @@ total_same class word i l e =
 
 -- what the first so many letters weigh
 abbrev pub IsSumOf : List (ℕ × ℤ) → List ℕ → ℕ → ℤ → Type 0
-IsSumOf class word place sum = (sum ≡ total_weight class (take place word)) × (nat_abs sum ≤ 2 ^ 63 * place)
+IsSumOf class word position sum = (sum ≡ total_weight class (take position word)) × (nat_abs sum ≤ 2 ^ 63 * position)
 
--- letters of a class go on as far as is told, or up to the last place
+-- letters of a class go on as far as is told, or up to the last position
 pub class_end_at : (p : PosedProblem) (class from last end : ℕ) (ahead : List ℕ) → IsSpan p.word from last → IsAhead (letters_of p.grammar class) p.word ahead → end ≡ min last (get_or ahead from 0) → IsClassEnd p class from last end
 class_end_at p class from last end ahead span are end_is =
     let order = span.in_order in

@@ -1,4 +1,4 @@
--- What holds of the items of a list at each place, as the list grows.
+-- What holds of the items of a list at each position, as the list grows.
 use Rattle.std.proofs.Common.{◌≡◌, ℕ, ◌+◌, ◌<◌, ◌≤◌, List, [], ◌∷◌, ◌++◌, length, get_or, set, sym, ap, subst, ◌∙◌, inl, inr, arith}
 use Rattle.std.proofs.lemmas.Bool.{cases_lt, cases_eq}
 use Rattle.std.proofs.lemmas.List.{get_or_append_left, get_or_push, get_or-set_same, get_or-set_other}
@@ -15,13 +15,13 @@ holds_more P items n value d long before now k l =
     ]
 
 -- one item written, before those that are
-pub holds_before : (P : ℕ → ℕ → Type 0) (items : List ℕ) (place value most : ℕ) → place < length items → ((k : ℕ) → place + 1 ≤ k → k ≤ most → P k (get_or items k 0)) → P place value → (k : ℕ) → place ≤ k → k ≤ most → P k (get_or (set items place value) k 0)
-holds_before P items place value most within behind now k l h =
-    elim (cases_eq k place) [
+pub holds_before : (P : ℕ → ℕ → Type 0) (items : List ℕ) (position value most : ℕ) → position < length items → ((k : ℕ) → position + 1 ≤ k → k ≤ most → P k (get_or items k 0)) → P position value → (k : ℕ) → position ≤ k → k ≤ most → P k (get_or (set items position value) k 0)
+holds_before P items position value most within behind now k l h =
+    elim (cases_eq k position) [
       | inl same ↦
-          let read = ap (λ n. get_or (set items place value) n 0) same ∙ get_or-set_same items place value 0 within in
+          let read = ap (λ n. get_or (set items position value) n 0) same ∙ get_or-set_same items position value 0 within in
           subst (P k) (sym read) (subst (λ n. P n value) (sym same) now)
-      | inr differ ↦ subst (P k) (sym (get_or-set_other items place k value 0 differ)) (behind k (omega arith) h)
+      | inr differ ↦ subst (P k) (sym (get_or-set_other items position k value 0 differ)) (behind k (omega arith) h)
     ]
 
 -- one more item, where it holds of the first so many

@@ -1,4 +1,4 @@
--- Limits of sums at places: of all places of a list, and of those from the first of some to the last one.
+-- Limits of sums at positions: of all positions of a list, and of those from the first of some to the last one.
 use Rattle.std.proofs.Common.{◌≡◌, ◌↔◌, ℕ, zero, suc, ◌+◌, ◌-◌, ◌<◌, ◌≤◌, ℤ, Some, List, length, get_or, take, drop, replicate, slice_get, sym, ap, subst, ◌∙◌, inl, inr, arith, length-take, length-drop}
 use Rattle.std.specs.List.{AllAdjacentBelow, Contains}
 use Rattle.std.proofs.lemmas.Int.{ints}
@@ -9,52 +9,52 @@ use Rattle.score_numbers.specs.Limits.{no_limit, AreLimits, IsUnlimited, AreLimi
 use Rattle.cell_tables.specs.Spans.{AreSet}
 use Rattle.split_lines.specs.Matching.{AreLimitsOf}
 use Rattle.split_lines.proofs.Lists.{contained_or_not, slice_get-take, slice_get-drop}
-use Rattle.split_lines.proofs.RisingPlaces.{between_ends, first_stands, last_stands}
+use Rattle.split_lines.proofs.RisingPositions.{between_ends, first_stands, last_stands}
 
--- ---- the places of a list
+-- ---- the positions of a list
 
-all_marked : (count place : ℕ) (limit : ℤ) → slice_get (replicate count short.mark) place ≡ Some limit → limit ≡ short.mark
-all_marked zero place limit e = absurd cc
+all_marked : (count position : ℕ) (limit : ℤ) → slice_get (replicate count short.mark) position ≡ Some limit → limit ≡ short.mark
+all_marked zero position limit e = absurd cc
 all_marked (suc count) zero limit e = cc
-all_marked (suc count) (suc place) limit e = all_marked count place limit e
+all_marked (suc count) (suc position) limit e = all_marked count position limit e
 
 apart : no_limit ≡ short.mark → ⊥
 apart e = omega (arith, ints)
 
--- what is left where the limits of these places alone are taken away
-pub limits_set : (count : ℕ) (places : List ℕ) (old new : List ℤ) → ((place : ℕ) → Contains places place → place < count) → old ≡ replicate count short.mark
-    → AreSet old new (λ at. (place : ℕ) × Contains places place × (at ≡ place + 0 - 0)) no_limit → AreLimitsOf count places new
-limits_set count places old new below old_is set = record {
+-- what is left where the limits of these positions alone are taken away
+pub limits_set : (count : ℕ) (positions : List ℕ) (old new : List ℤ) → ((position : ℕ) → Contains positions position → position < count) → old ≡ replicate count short.mark
+    → AreSet old new (λ at. (position : ℕ) × Contains positions position × (at ≡ position + 0 - 0)) no_limit → AreLimitsOf count positions new
+limits_set count positions old new below old_is set = record {
   each = set.as_many ∙ ap length old_is ∙ length-replicate count short.mark;
   proper = limits;
-  told = λ place. (there place, back place);
+  told = λ position. (there position, back position);
 }
   where
-    there : (place : ℕ) → Contains places place → slice_get new place ≡ Some no_limit
-    there place contains =
-        let few : place < length old = omega (arith, below place contains, ap length old_is, length-replicate count short.mark) in
-        set.there place (place, contains, omega arith) few
+    there : (position : ℕ) → Contains positions position → slice_get new position ≡ Some no_limit
+    there position contains =
+        let few : position < length old = omega (arith, below position contains, ap length old_is, length-replicate count short.mark) in
+        set.there position (position, contains, omega arith) few
 
-    marked : (place : ℕ) (limit : ℤ) → (Contains places place → ⊥) → slice_get new place ≡ Some limit → limit ≡ short.mark
-    marked place limit none is =
-        let kept : slice_get new place ≡ slice_get old place = set.others place (λ (other, contains, e). let same : other ≡ place = omega arith in none (subst (Contains places) same contains)) in
-        all_marked count place limit (ap (λ (xs : List ℤ). slice_get xs place) (sym old_is) ∙ sym kept ∙ is)
+    marked : (position : ℕ) (limit : ℤ) → (Contains positions position → ⊥) → slice_get new position ≡ Some limit → limit ≡ short.mark
+    marked position limit none is =
+        let kept : slice_get new position ≡ slice_get old position = set.others position (λ (other, contains, e). let same : other ≡ position = omega arith in none (subst (Contains positions) same contains)) in
+        all_marked count position limit (ap (λ (xs : List ℤ). slice_get xs position) (sym old_is) ∙ sym kept ∙ is)
 
     limits : AreLimits new
-    limits place limit is =
-        elim (contained_or_not places place) [
-          | inl contains ↦ inl (let e = there place contains in cc)
-          | inr none ↦ inr (marked place limit none is)
+    limits position limit is =
+        elim (contained_or_not positions position) [
+          | inl contains ↦ inl (let e = there position contains in cc)
+          | inr none ↦ inr (marked position limit none is)
         ]
 
-    back : (place : ℕ) → slice_get new place ≡ Some no_limit → Contains places place
-    back place is =
-        elim (contained_or_not places place) [ inl contains ↦ contains | inr none ↦ absurd (apart (marked place no_limit none is)) ]
+    back : (position : ℕ) → slice_get new position ≡ Some no_limit → Contains positions position
+    back position is =
+        elim (contained_or_not positions position) [ inl contains ↦ contains | inr none ↦ absurd (apart (marked position no_limit none is)) ]
 
--- ---- some of the places, from the first to the last one
+-- ---- some of the positions, from the first to the last one
 
-module _ (all part : List ℕ) (limits : List ℤ) (told : AreLimitsOf (length limits) all limits) (some : (place : ℕ) → Contains part place → Contains all place)
-    (whole : (first place last : ℕ) → Contains part first → Contains part last → first ≤ place → place ≤ last → Contains all place → Contains part place)
+module _ (all part : List ℕ) (limits : List ℤ) (told : AreLimitsOf (length limits) all limits) (some : (position : ℕ) → Contains part position → Contains all position)
+    (whole : (first position last : ℕ) → Contains part first → Contains part last → first ≤ position → position ≤ last → Contains all position → Contains part position)
     (rising : AllAdjacentBelow (λ (a b : ℕ). a < b) part (length part)) (first last : ℕ) (first_is : Some first ≡ slice_get part 0) (last_is : Some last ≡ slice_get part (length part - 1)) where
   not_empty : 0 < length part
   not_empty = slice_get_within part 0 first (sym first_is)
@@ -71,8 +71,8 @@ module _ (all part : List ℕ) (limits : List ℤ) (told : AreLimitsOf (length l
   last_in : Contains part last
   last_in = subst (Contains part) last_read (last_stands part not_empty)
 
-  limit_of : (place : ℕ) → Contains all place → slice_get limits place ≡ Some no_limit
-  limit_of place contains = (told.told place).0 contains
+  limit_of : (position : ℕ) → Contains all position → slice_get limits position ≡ Some no_limit
+  limit_of position contains = (told.told position).0 contains
 
   pub first_before : first ≤ last
   first_before = omega (arith, between_ends part first rising first_in, last_read)
@@ -86,10 +86,10 @@ module _ (all part : List ℕ) (limits : List ℤ) (told : AreLimitsOf (length l
   as_many : length among ≡ last + 1 - first
   as_many = simp (length-take, length-drop) (omega (arith, last_within))
 
-  read_among : (place : ℕ) → first ≤ place → place ≤ last → slice_get among (place - first) ≡ slice_get limits place
-  read_among place low high =
-      let same : first + (place - first) ≡ place = omega arith in
-      slice_get-take (last + 1 - first) (place - first) (drop first limits) (omega arith) ∙ slice_get-drop first (place - first) limits ∙ ap (slice_get limits) same
+  read_among : (position : ℕ) → first ≤ position → position ≤ last → slice_get among (position - first) ≡ slice_get limits position
+  read_among position low high =
+      let same : first + (position - first) ≡ position = omega arith in
+      slice_get-take (last + 1 - first) (position - first) (drop first limits) (omega arith) ∙ slice_get-drop first (position - first) limits ∙ ap (slice_get limits) same
 
   limits_among : AreLimits among
   limits_among k limit is =
@@ -97,26 +97,26 @@ module _ (all part : List ℕ) (limits : List ℤ) (told : AreLimitsOf (length l
       let same : first + k - first ≡ k = omega arith in
       told.proper (first + k) limit (sym (read_among (first + k) (omega arith) (omega (arith, within, as_many))) ∙ ap (slice_get among) same ∙ is)
 
-  unlimited_there : (place : ℕ) → Contains part place → IsUnlimited among first place
-  unlimited_there place contains =
-      let ends = between_ends part place rising contains in
-      let low : first ≤ place = omega (arith, ends.0, first_read) in
-      let high : place ≤ last = omega (arith, ends.1, last_read) in
-      (low, read_among place low high ∙ limit_of place (some place contains))
+  unlimited_there : (position : ℕ) → Contains part position → IsUnlimited among first position
+  unlimited_there position contains =
+      let ends = between_ends part position rising contains in
+      let low : first ≤ position = omega (arith, ends.0, first_read) in
+      let high : position ≤ last = omega (arith, ends.1, last_read) in
+      (low, read_among position low high ∙ limit_of position (some position contains))
 
-  unlimited_back : (place : ℕ) → IsUnlimited among first place → Contains part place
-  unlimited_back place (low, is) =
-      let within = slice_get_within among (place - first) no_limit is in
-      let high : place ≤ last = omega (arith, within, as_many, low) in
-      whole first place last first_in last_in low high ((told.told place).1 (sym (read_among place low high) ∙ is))
+  unlimited_back : (position : ℕ) → IsUnlimited among first position → Contains part position
+  unlimited_back position (low, is) =
+      let within = slice_get_within among (position - first) no_limit is in
+      let high : position ≤ last = omega (arith, within, as_many, low) in
+      whole first position last first_in last_in low high ((told.told position).1 (sym (read_among position low high) ∙ is))
 
   pub limited_among : AreLimited part among
   limited_among =
-      let F : ℕ → Type 0 = λ from. (place : ℕ) → Contains part place ↔ IsUnlimited among from place in
+      let F : ℕ → Type 0 = λ from. (position : ℕ) → Contains part position ↔ IsUnlimited among from position in
       let L : ℕ → Type 0 = λ from. 0 < length among → IsUnlimited among from (from + length among - 1) in
       let at_last : first + length among - 1 ≡ last = omega (arith, as_many, first_before) in
       record {
         proper = limits_among;
-        exact = subst F (sym first_read) (λ place. (unlimited_there place, unlimited_back place));
+        exact = subst F (sym first_read) (λ position. (unlimited_there position, unlimited_back position));
         last = subst L (sym first_read) (λ _. subst (IsUnlimited among first) (sym at_last) (unlimited_there last last_in));
       }

@@ -1,4 +1,4 @@
--- The places at which tokens match, as they are found one by one.
+-- The positions at which tokens match, as they are found one by one.
 use Rattle.std.proofs.Common.{◌↔◌, ℕ, ◌+◌, ◌<◌, ◌≤◌, List, [], ◌∷◌, ◌++◌, length, get_or, sym, subst, inl, inr, arith}
 use Rattle.std.specs.List.{AllAdjacentBelow, Contains}
 use Rattle.std.proofs.lemmas.Bool.{cases_lt, cases_eq}
@@ -7,112 +7,112 @@ use Rattle.std.proofs.lemmas.List.Elements.{Contains-append_left, Contains-push,
 use Rattle.adp_model.specs.declared.grammar.Arg.{Arg}
 use Rattle.adp_model.specs.PosedProblem.{PosedProblem}
 use Rattle.viable_splits.specs.Placing.{Cover}
-use Rattle.split_lines.specs.Matching.{AreMatchPlaces, AreCounts}
+use Rattle.split_lines.specs.Matching.{AreMatchPositions, AreCounts}
 
 -- ---- counts
 
 pub no_counts : AreCounts [] []
-no_counts = record { few = λ place l. absurd (omega arith); told = λ place number l m. absurd (omega arith) }
+no_counts = record { few = λ position l. absurd (omega arith); told = λ position number l m. absurd (omega arith) }
 
--- one more count, where all places come before
-pub one_count_more : (places before : List ℕ) → AreCounts places before → ((number : ℕ) → number < length places → get_or places number 0 < length before) → AreCounts places (before ++ length places ∷ [])
-one_count_more places before counts below = record {
-  few = λ place l. few place (omega (arith, l, length_push before (length places)));
-  told = λ place number l m. told place number (omega (arith, l, length_push before (length places))) m;
+-- one more count, where all positions come before
+pub one_count_more : (positions before : List ℕ) → AreCounts positions before → ((number : ℕ) → number < length positions → get_or positions number 0 < length before) → AreCounts positions (before ++ length positions ∷ [])
+one_count_more positions before counts below = record {
+  few = λ position l. few position (omega (arith, l, length_push before (length positions)));
+  told = λ position number l m. told position number (omega (arith, l, length_push before (length positions))) m;
 }
   where
-    few : (place : ℕ) → place < length before + 1 → get_or (before ++ length places ∷ []) place 0 ≤ length places
-    few place l =
-        elim (cases_lt place (length before)) [
-          | inl inside ↦ omega (arith, get_or_append_left before (length places ∷ []) 0 place inside, counts.few place inside)
-          | inr last ↦ omega (arith, get_or_push before (length places) 0 place (omega arith))
+    few : (position : ℕ) → position < length before + 1 → get_or (before ++ length positions ∷ []) position 0 ≤ length positions
+    few position l =
+        elim (cases_lt position (length before)) [
+          | inl inside ↦ omega (arith, get_or_append_left before (length positions ∷ []) 0 position inside, counts.few position inside)
+          | inr last ↦ omega (arith, get_or_push before (length positions) 0 position (omega arith))
         ]
 
-    told : (place number : ℕ) → place < length before + 1 → number < length places → (get_or places number 0 < place) ↔ (number < get_or (before ++ length places ∷ []) place 0)
-    told place number l m =
-        elim (cases_lt place (length before)) [
+    told : (position number : ℕ) → position < length before + 1 → number < length positions → (get_or positions number 0 < position) ↔ (number < get_or (before ++ length positions ∷ []) position 0)
+    told position number l m =
+        elim (cases_lt position (length before)) [
           | inl inside ↦
-              let read = get_or_append_left before (length places ∷ []) 0 place inside in
-              let old = counts.told place number inside m in
+              let read = get_or_append_left before (length positions ∷ []) 0 position inside in
+              let old = counts.told position number inside m in
               (λ h. omega (arith, read, old.0 h), λ h. old.1 (omega (arith, read, h)))
           | inr last ↦
-              let read = get_or_push before (length places) 0 place (omega arith) in
+              let read = get_or_push before (length positions) 0 position (omega arith) in
               (λ h. omega (arith, read, m), λ h. omega (arith, below number m, last))
         ]
 
--- one more place, which comes before none that is counted for
-pub one_place_more : (places before : List ℕ) (new : ℕ) → AreCounts places before → length before ≤ new + 1 → AreCounts (places ++ new ∷ []) before
-one_place_more places before new counts past = record {
-  few = λ place l. omega (arith, counts.few place l, length_push places new);
-  told = λ place number l m. told place number l (omega (arith, m, length_push places new));
+-- one more position, which comes before none that is counted for
+pub one_position_more : (positions before : List ℕ) (new : ℕ) → AreCounts positions before → length before ≤ new + 1 → AreCounts (positions ++ new ∷ []) before
+one_position_more positions before new counts past = record {
+  few = λ position l. omega (arith, counts.few position l, length_push positions new);
+  told = λ position number l m. told position number l (omega (arith, m, length_push positions new));
 }
   where
-    told : (place number : ℕ) → place < length before → number < length places + 1 → (get_or (places ++ new ∷ []) number 0 < place) ↔ (number < get_or before place 0)
-    told place number l m =
-        elim (cases_lt number (length places)) [
+    told : (position number : ℕ) → position < length before → number < length positions + 1 → (get_or (positions ++ new ∷ []) number 0 < position) ↔ (number < get_or before position 0)
+    told position number l m =
+        elim (cases_lt number (length positions)) [
           | inl inside ↦
-              let read = get_or_append_left places (new ∷ []) 0 number inside in
-              let old = counts.told place number l inside in
+              let read = get_or_append_left positions (new ∷ []) 0 number inside in
+              let old = counts.told position number l inside in
               (λ h. old.0 (omega (arith, read, h)), λ h. omega (arith, read, old.1 h))
           | inr last ↦
-              let read = get_or_push places new 0 number (omega arith) in
-              let few = counts.few place l in
+              let read = get_or_push positions new 0 number (omega arith) in
+              let few = counts.few position l in
               (λ h. absurd (omega (arith, read, h, l, past)), λ h. absurd (omega (arith, few, h, last)))
         ]
 
--- ---- places
+-- ---- positions
 
 module _ (p : PosedProblem) (tokens : List Arg) (letters : ℕ) where
-  pub no_places : AreMatchPlaces p tokens letters 0 []
-  no_places = record {
-    exact = λ place. (λ (k, l, e). absurd (omega (arith, l)), λ (l, h). absurd (omega (arith, l)));
+  pub no_positions : AreMatchPositions p tokens letters 0 []
+  no_positions = record {
+    exact = λ position. (λ (k, l, e). absurd (omega (arith, l)), λ (l, h). absurd (omega (arith, l)));
     rising = λ k d l. absurd (omega arith);
   }
 
-  pub places_below : (past : ℕ) (places : List ℕ) → AreMatchPlaces p tokens letters past places → (number d : ℕ) → number < length places → get_or places number d < past
-  places_below past places are number d l =
-      let at = get_or_default places number (get_or places number d) d l in
-      ((are.exact (get_or places number d)).0 (number, l, at)).0
+  pub positions_below : (past : ℕ) (positions : List ℕ) → AreMatchPositions p tokens letters past positions → (number d : ℕ) → number < length positions → get_or positions number d < past
+  positions_below past positions are number d l =
+      let at = get_or_default positions number (get_or positions number d) d l in
+      ((are.exact (get_or positions number d)).0 (number, l, at)).0
 
-  -- one more place where they match
-  pub one_match_more : (place : ℕ) (places : List ℕ) → AreMatchPlaces p tokens letters place places → Cover p tokens place (place + letters) → AreMatchPlaces p tokens letters (place + 1) (places ++ place ∷ [])
-  one_match_more place places are cover = record { exact = λ other. (there other, back other); rising = rising }
+  -- one more position where they match
+  pub one_match_more : (position : ℕ) (positions : List ℕ) → AreMatchPositions p tokens letters position positions → Cover p tokens position (position + letters) → AreMatchPositions p tokens letters (position + 1) (positions ++ position ∷ [])
+  one_match_more position positions are cover = record { exact = λ other. (there other, back other); rising = rising }
     where
-      there : (other : ℕ) → Contains (places ++ place ∷ []) other → (other < place + 1) × Cover p tokens other (other + letters)
+      there : (other : ℕ) → Contains (positions ++ position ∷ []) other → (other < position + 1) × Cover p tokens other (other + letters)
       there other contains =
-          elim (Contains-push_cases places place other contains) [
+          elim (Contains-push_cases positions position other contains) [
             | inl old ↦ let it = (are.exact other).0 old in (omega (arith, it.0), it.1)
             | inr e ↦ (omega (arith, e), let P : ℕ → Type 0 = λ n. Cover p tokens n (n + letters) in subst P e cover)
           ]
 
-      back : (other : ℕ) → (other < place + 1) × Cover p tokens other (other + letters) → Contains (places ++ place ∷ []) other
+      back : (other : ℕ) → (other < position + 1) × Cover p tokens other (other + letters) → Contains (positions ++ position ∷ []) other
       back other (l, h) =
-          elim (cases_eq other place) [
-            | inl same ↦ let P : ℕ → Type 0 = Contains (places ++ place ∷ []) in subst P (sym same) (Contains-push places place)
-            | inr differ ↦ Contains-append_left places (place ∷ []) other ((are.exact other).1 (omega arith, h))
+          elim (cases_eq other position) [
+            | inl same ↦ let P : ℕ → Type 0 = Contains (positions ++ position ∷ []) in subst P (sym same) (Contains-push positions position)
+            | inr differ ↦ Contains-append_left positions (position ∷ []) other ((are.exact other).1 (omega arith, h))
           ]
 
-      rising : AllAdjacentBelow (λ (a b : ℕ). a < b) (places ++ place ∷ []) (length (places ++ place ∷ []))
+      rising : AllAdjacentBelow (λ (a b : ℕ). a < b) (positions ++ position ∷ []) (length (positions ++ position ∷ []))
       rising k d l =
-          let more = length_push places place in
-          let first = get_or_append_left places (place ∷ []) d k (omega (arith, l, more)) in
-          elim (cases_lt (k + 1) (length places)) [
-            | inl inside ↦ omega (arith, first, get_or_append_left places (place ∷ []) d (k + 1) inside, are.rising k d inside)
+          let more = length_push positions position in
+          let first = get_or_append_left positions (position ∷ []) d k (omega (arith, l, more)) in
+          elim (cases_lt (k + 1) (length positions)) [
+            | inl inside ↦ omega (arith, first, get_or_append_left positions (position ∷ []) d (k + 1) inside, are.rising k d inside)
             | inr last ↦
-                let second = get_or_push places place d (k + 1) (omega (arith, l, more)) in
-                omega (arith, first, second, places_below place places are k d (omega (arith, l, more)))
+                let second = get_or_push positions position d (k + 1) (omega (arith, l, more)) in
+                omega (arith, first, second, positions_below position positions are k d (omega (arith, l, more)))
           ]
 
-  -- one more place where they don't
-  pub no_match_there : (place : ℕ) (places : List ℕ) → AreMatchPlaces p tokens letters place places → (Cover p tokens place (place + letters) → ⊥) → AreMatchPlaces p tokens letters (place + 1) places
-  no_match_there place places are none = record { exact = λ other. (there other, back other); rising = are.rising }
+  -- one more position where they don't
+  pub no_match_there : (position : ℕ) (positions : List ℕ) → AreMatchPositions p tokens letters position positions → (Cover p tokens position (position + letters) → ⊥) → AreMatchPositions p tokens letters (position + 1) positions
+  no_match_there position positions are none = record { exact = λ other. (there other, back other); rising = are.rising }
     where
-      there : (other : ℕ) → Contains places other → (other < place + 1) × Cover p tokens other (other + letters)
+      there : (other : ℕ) → Contains positions other → (other < position + 1) × Cover p tokens other (other + letters)
       there other contains = let it = (are.exact other).0 contains in (omega (arith, it.0), it.1)
 
-      back : (other : ℕ) → (other < place + 1) × Cover p tokens other (other + letters) → Contains places other
+      back : (other : ℕ) → (other < position + 1) × Cover p tokens other (other + letters) → Contains positions other
       back other (l, h) =
-          elim (cases_eq other place) [
+          elim (cases_eq other position) [
             | inl same ↦ absurd (none (let P : ℕ → Type 0 = λ n. Cover p tokens n (n + letters) in subst P same h))
             | inr differ ↦ (are.exact other).1 (omega arith, h)
           ]

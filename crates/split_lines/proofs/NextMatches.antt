@@ -4,7 +4,7 @@ use Rattle.std.specs.List.{Contains}
 use Rattle.std.proofs.lemmas.List.{drop-drop, get_or_default}
 use Rattle.adp_model.specs.declared.grammar.Arg.{Arg}
 use Rattle.adp_model.specs.PosedProblem.{PosedProblem}
-use Rattle.viable_splits.specs.Placing.{Cover, CoverNone, IsNextPlace}
+use Rattle.viable_splits.specs.Placing.{Cover, CoverNone, IsNextPosition}
 use Rattle.split_lines.specs.declared.matches.Matches.{Matches}
 use Rattle.split_lines.specs.Matching.{AreMatches}
 use Rattle.split_lines.specs.Lines.{HasLine, parts_by}
@@ -12,18 +12,18 @@ use Rattle.split_lines.proofs.Dividing.{cover_parts}
 use Rattle.split_lines.proofs.LineFacts.{parts_join}
 use Rattle.split_lines.proofs.MatchLists.{AreRising}
 
--- of places in order the first is the least
-first_least : (places : List ℕ) → AreRising places → (n : ℕ) → n < length places → get_or places 0 0 ≤ get_or places n 0
-first_least places rising zero l = omega arith
-first_least places rising (suc n) l =
+-- of positions in order the first is the least
+first_least : (positions : List ℕ) → AreRising positions → (n : ℕ) → n < length positions → get_or positions 0 0 ≤ get_or positions n 0
+first_least positions rising zero l = omega arith
+first_least positions rising (suc n) l =
     let more : n + 1 ≡ suc n = omega arith in
-    let before = first_least places rising n (omega arith) in
+    let before = first_least positions rising n (omega arith) in
     let step = rising n 0 (omega arith) in
-    let at = ap (λ k. get_or places k 0) more in
+    let at = ap (λ k. get_or positions k 0) more in
     omega (arith, before, step, at)
 
 -- the arguments behind the first of a line begin where the tokens between the two match
-begins_at_match : (p : PosedProblem) (all : List Arg) (first number between : ℕ) (matches : Matches) → number ≡ first + 1 → HasLine (drop first all) between → AreMatches p (parts_by (drop first all) between).middle matches → (from to : ℕ) → from < length p.word + 1 → Cover p (drop number all) from to → Contains matches.places.items from
+begins_at_match : (p : PosedProblem) (all : List Arg) (first number between : ℕ) (matches : Matches) → number ≡ first + 1 → HasLine (drop first all) between → AreMatches p (parts_by (drop first all) between).middle matches → (from to : ℕ) → from < length p.word + 1 → Cover p (drop number all) from to → Contains matches.positions.items from
 begins_at_match p all first number between matches number_is line are from to within cover =
     let arguments = drop first all in
     let parts = parts_by arguments between in
@@ -33,11 +33,11 @@ begins_at_match p all first number between matches number_is line are from to wi
     let split = cover_parts p parts.middle (parts.second ∷ parts.tail) from to (subst C behind cover) in
     let end_is = are.letters from split.0 split.1 in
     let M : ℕ → Type 0 = Cover p parts.middle from in
-    (are.places.exact from).1 (within, subst M end_is split.1)
+    (are.positions.exact from).1 (within, subst M end_is split.1)
 
 module _ (p : PosedProblem) (all : List Arg) (first number between : ℕ) (matches : Matches) (number_is : number ≡ first + 1) (line : HasLine (drop first all) between)
     (are : AreMatches p (parts_by (drop first all) between).middle matches) (start end : ℕ) (in_word : end ≤ length p.word + 1) (found : List ℕ)
-    (exact : (place : ℕ) → Contains found place ↔ (Contains matches.places.items place × (start ≤ place) × (place < end))) (rising : AreRising found) where
+    (exact : (position : ℕ) → Contains found position ↔ (Contains matches.positions.items position × (start ≤ position) × (position < end))) (rising : AreRising found) where
   -- an argument that begins in the range begins at one of its matches
   found_there : (from to : ℕ) → start ≤ from → from < end → Cover p (drop number all) from to → Contains found from
   found_there from to low high cover =
@@ -49,10 +49,10 @@ module _ (p : PosedProblem) (all : List Arg) (first number between : ℕ) (match
       let there = found_there from to low high cover in
       omega (arith, there.1, none)
 
-  -- there is one, and the first of them is the next place
-  pub first_next : (place : ℕ) → 0 < length found → place ≡ get_or found 0 0 → IsNextPlace p (drop number all) start end place
-  first_next place some is =
-      let inside = (exact place).0 (0, some, get_or_default found 0 place 0 some ∙ sym is) in
+  -- there is one, and the first of them is the next position
+  pub first_next : (position : ℕ) → 0 < length found → position ≡ get_or found 0 0 → IsNextPosition p (drop number all) start end position
+  first_next position some is =
+      let inside = (exact position).0 (0, some, get_or_default found 0 position 0 some ∙ sym is) in
       record {
         low = inside.1;
         high = inside.2;

@@ -9,7 +9,7 @@ use Rattle.split_lines.proofs.Dividing.{cover_forward}
 use Rattle.split_lines.proofs.TokenSpans.{fixed_span}
 use Rattle.split_lines.specs.Ends.{IsEndTold}
 
--- a token of fixed length ends at the first place of its range, if there is one
+-- a token of fixed length ends at the first position of its range, if there is one
 module _ (p : PosedProblem) (token : Arg) (from last start end : ℕ) (ends : AreEnds p token from last (record { start = start; end = end })) where
   pub end_found : IsFixed token → start < end → IsEndTold p token from last (Some start)
   end_found fixed some to =

@@ -5,25 +5,25 @@ use Rattle.adp_model.specs.PosedProblem.{IsSpan}
 use Rattle.adp_model.specs.Tokens.{letters_between, IsIn, total_weight}
 use Rattle.split_lines.specs.declared.classes.ClassTable.{ClassTable}
 
--- for each place of the word the last one up to which all letters are in the class, or one behind the word
+-- for each position of the word the last one up to which all letters are in the class, or one behind the word
 pub record IsAhead (class : List (ℕ × ℤ)) (word ahead : List ℕ) : Type 0 where
   pub each : length ahead ≡ length word + 1
   pub told : (from to : ℕ) → IsSpan word from to
       → AllByRecursion (IsIn class) (letters_between word from to) ↔ (to ≤ slice_index ahead from)
 
--- for each place of the word the first one from which on all letters up to there are in the class
+-- for each position of the word the first one from which on all letters up to there are in the class
 pub record IsBehind (class : List (ℕ × ℤ)) (word behind : List ℕ) : Type 0 where
   pub each : length behind ≡ length word + 1
   pub told : (from to : ℕ) → IsSpan word from to
       → AllByRecursion (IsIn class) (letters_between word from to) ↔ (slice_index behind to ≤ from)
 
--- for each place of the word what the letters before it weigh
+-- for each position of the word what the letters before it weigh
 pub record AreSums (class : List (ℕ × ℤ)) (word : List ℕ) (sums : List ℤ) : Type 0 where
   pub each : length sums ≡ length word + 1
   pub told : (from to : ℕ) → IsSpan word from to
       → total_weight class (letters_between word from to)
       ≡ (slice_index_or sums to (pos 0) -ℤ slice_index_or sums from (pos 0))
-  pub low : (place : ℕ) → place ≤ length word → nat_abs (slice_index_or sums place (pos 0)) ≤ 2 ^ 63 * place
+  pub low : (position : ℕ) → position ≤ length word → nat_abs (slice_index_or sums position (pos 0)) ≤ 2 ^ 63 * position
 
 -- the table of a class for a word
 pub record IsTable (class : List (ℕ × ℤ)) (word : List ℕ) (table : ClassTable) : Type 0 where

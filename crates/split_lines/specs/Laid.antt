@@ -1,5 +1,5 @@
--- The arguments of an alternative, laid one behind the other from one place of the word to another, and the cells that
--- they demand there.
+-- The arguments of an alternative, laid one behind the other from one position of the word to another, and the cells
+-- that they demand there.
 use Rattle.std.specs.Prelude.{◌≡◌, ◌↔◌, ℕ, ◌+◌, ◌<◌, ◌⊎◌, List, [], ◌∷◌, ◌++◌, length}
 use Rattle.std.specs.List.{AllAdjacentBelow, AllByRecursion, Contains}
 use Rattle.adp_model.specs.declared.grammar.Arg.{Arg}
@@ -43,14 +43,14 @@ pub record HasParts (arguments : List Arg) (parts : LineParts) : Type 0 where
   pub middle_fixed : AllByRecursion IsFixed parts.middle
   pub tail_fixed : AllByRecursion IsFixed parts.tail
 
--- the places of the boundary behind the first argument, in order: the second one then begins so many letters behind the
--- boundary, and ends at `last`
-pub record AreBoundaries (p : PosedProblem) (parts : LineParts) (from to letters last : ℕ) (places : List ℕ)
+-- the positions of the boundary behind the first argument, in order: the second one then begins so many letters behind
+-- the boundary, and ends at `last`
+pub record AreBoundaries (p : PosedProblem) (parts : LineParts) (from to letters last : ℕ) (positions : List ℕ)
     : Type 0 where
-  pub exact : (place : ℕ) → Contains places place
-      ↔ (FitsSpan p (on_span parts.first from place) × Cover p parts.middle place (place + letters)
-      × FitsSpan p (on_span parts.second (place + letters) last) × Cover p parts.tail last to)
+  pub exact : (position : ℕ) → Contains positions position
+      ↔ (FitsSpan p (on_span parts.first from position) × Cover p parts.middle position (position + letters)
+      × FitsSpan p (on_span parts.second (position + letters) last) × Cover p parts.tail last to)
   -- tokens of fixed length leave no choice
-  pub one_middle : (place end : ℕ) → Cover p parts.middle place end → end ≡ place + letters
-  pub one_tail : (place : ℕ) → Cover p parts.tail place to → place ≡ last
-  pub rising : AllAdjacentBelow (λ (a b : ℕ). a < b) places (length places)
+  pub one_middle : (position end : ℕ) → Cover p parts.middle position end → end ≡ position + letters
+  pub one_tail : (position : ℕ) → Cover p parts.tail position to → position ≡ last
+  pub rising : AllAdjacentBelow (λ (a b : ℕ). a < b) positions (length positions)

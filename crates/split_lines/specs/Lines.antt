@@ -41,9 +41,9 @@ pub record IsLine (p : PosedProblem) (arguments : List Arg) (line : Line) : Type
   pub before : IsExtent p (parts_by arguments line.between).first line.before
   pub behind : IsExtent p (parts_by arguments line.between).second line.behind
 
--- the arguments before and behind the boundary may have their letters where it stands at this place, and so may the
+-- the arguments before and behind the boundary may have their letters where it stands at this position, and so may the
 -- tokens behind them
-pub record LeavesPlace (p : PosedProblem) (parts : LineParts) (from to letters last place : ℕ) : Type 0 where
-  pub first : FitsSpan p (on_span parts.first from place)
-  pub second : FitsSpan p (on_span parts.second (place + letters) last)
+pub record LeavesPosition (p : PosedProblem) (parts : LineParts) (from to letters last position : ℕ) : Type 0 where
+  pub first : FitsSpan p (on_span parts.first from position)
+  pub second : FitsSpan p (on_span parts.second (position + letters) last)
   pub tail : Cover p parts.tail last to

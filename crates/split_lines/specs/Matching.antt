@@ -20,30 +20,32 @@ fixed_length (Run class low high) = 0
 abbrev pub HaveLetters : PosedProblem → List Arg → ℕ → Type 0
 HaveLetters p tokens letters = (from to : ℕ) → Cover p tokens from to → to ≡ from + letters
 
--- the places of the word before `past` at which the tokens match, in order
-pub record AreMatchPlaces (p : PosedProblem) (tokens : List Arg) (letters past : ℕ) (places : List ℕ) : Type 0 where
-  pub exact : (place : ℕ) → Contains places place ↔ ((place < past) × Cover p tokens place (place + letters))
-  pub rising : AllAdjacentBelow (λ (a b : ℕ). a < b) places (length places)
+-- the positions of the word before `past` at which the tokens match, in order
+pub record AreMatchPositions (p : PosedProblem) (tokens : List Arg) (letters past : ℕ) (positions : List ℕ)
+    : Type 0 where
+  pub exact : (position : ℕ) → Contains positions position
+      ↔ ((position < past) × Cover p tokens position (position + letters))
+  pub rising : AllAdjacentBelow (λ (a b : ℕ). a < b) positions (length positions)
 
--- how many of the places come before 0, before 1 and so on
-pub record AreCounts (places before : List ℕ) : Type 0 where
-  pub few : (place : ℕ) → place < length before → slice_index before place ≤ length places
-  pub told : (place number : ℕ) → place < length before → number < length places
-      → (slice_index places number < place) ↔ (number < slice_index before place)
+-- how many of the positions come before 0, before 1 and so on
+pub record AreCounts (positions before : List ℕ) : Type 0 where
+  pub few : (position : ℕ) → position < length before → slice_index before position ≤ length positions
+  pub told : (position number : ℕ) → position < length before → number < length positions
+      → (slice_index positions number < position) ↔ (number < slice_index before position)
 
--- there is a limit for each place of the word: none where that is one of these, else the mark
-pub record AreLimitsOf (count : ℕ) (places : List ℕ) (limits : List ℤ) : Type 0 where
+-- there is a limit for each position of the word: none where that is one of these, else the mark
+pub record AreLimitsOf (count : ℕ) (positions : List ℕ) (limits : List ℤ) : Type 0 where
   pub each : length limits ≡ count
   pub proper : AreLimits limits
-  pub told : (place : ℕ) → Contains places place ↔ (slice_get limits place ≡ Some no_limit)
+  pub told : (position : ℕ) → Contains positions position ↔ (slice_get limits position ≡ Some no_limit)
 
--- how many letters the tokens have, where they match, how many of these places come before each place, the limit of
--- sums at each place, and bits of these places and of those behind the letters
+-- how many letters the tokens have, where they match, how many of these positions come before each position, the limit
+-- of sums at each position, and bits of these positions and of those behind the letters
 pub record AreMatches (p : PosedProblem) (tokens : List Arg) (matches : Matches) : Type 0 where
   pub letters : HaveLetters p tokens matches.letters
-  pub places : AreMatchPlaces p tokens matches.letters (length p.word + 1) matches.places.items
+  pub positions : AreMatchPositions p tokens matches.letters (length p.word + 1) matches.positions.items
   pub each : length matches.before.items ≡ length p.word + 2
-  pub before : AreCounts matches.places.items matches.before.items
-  pub limits : AreLimitsOf (length p.word + 1) matches.places.items matches.limits.items
-  pub here : AreBits matches.places.items 0 matches.here.items
-  pub behind : AreBits matches.places.items matches.letters matches.behind.items
+  pub before : AreCounts matches.positions.items matches.before.items
+  pub limits : AreLimitsOf (length p.word + 1) matches.positions.items matches.limits.items
+  pub here : AreBits matches.positions.items 0 matches.here.items
+  pub behind : AreBits matches.positions.items matches.letters matches.behind.items

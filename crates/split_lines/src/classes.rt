@@ -10,15 +10,15 @@ use std::alloc::{AllocError, Global};
 use std::marker::Model;
 use viable_splits::Matcher;
 
-/// For a class and a word: how far letters of the class go on from each place, from where they go on up to each place,
-/// and what the letters before each place weigh.
+/// For a class and a word: how far letters of the class go on from each position, from where they go on up to each
+/// position, and what the letters before each position weigh.
 #[derive(Drop)]
 pub struct ClassTable {
-    /// For each place the last one up to which all letters are in the class.
+    /// For each position the last one up to which all letters are in the class.
     pub ahead: Vec<u16>,
-    /// For each place the first one from which on all letters up to there are in the class.
+    /// For each position the first one from which on all letters up to there are in the class.
     pub behind: Vec<u16>,
-    /// For each place the weights of the letters before it, added up; letters that the class lacks weigh nothing.
+    /// For each position the weights of the letters before it, added up; letters that the class lacks weigh nothing.
     pub sums: Vec<i128>,
 }
 
@@ -34,7 +34,7 @@ fn weight_of(class: &[(u8, i64)], letter: u8) -> Option<i64>
     None
 }
 
-/// For each place the first one from which on all letters up to there are in the class.
+/// For each position the first one from which on all letters up to there are in the class.
 fn behind(alloc: Global, class: &[(u8, i64)], word: &[u8]) -> Result<Vec<u16>, AllocError>
     requires { length word.now ≤ 4000 }
     ensures { IfOk result (λ behind. IsBehind class.now word.now behind.items) }
@@ -42,33 +42,33 @@ fn behind(alloc: Global, class: &[(u8, i64)], word: &[u8]) -> Result<Vec<u16>, A
     let mut behind = Vec::with_capacity(alloc, word.len() + 1)?;
     let mut first = 0;
     behind.push(first)?;
-    for (place, letter) in word.iter().enumerate() {
+    for (position, letter) in word.iter().enumerate() {
         if weight_of(class, *letter).is_none() {
-            first = place as u16 + 1;
+            first = position as u16 + 1;
         }
         behind.push(first)?;
     }
     Ok(behind)
 }
 
-/// For each place the last one up to which all letters are in the class.
+/// For each position the last one up to which all letters are in the class.
 fn ahead(alloc: Global, class: &[(u8, i64)], word: &[u8]) -> Result<Vec<u16>, AllocError>
     requires { length word.now ≤ 4000 }
     ensures { IfOk result (λ ahead. IsAhead class.now word.now ahead.items) }
 {
     let len = word.len();
     let mut ahead = vec![in alloc; len as u16; len + 1]?;
-    for place in (0..len).rev() {
-        let last = match weight_of(class, word[place]) {
-            Some(_) => ahead[place + 1],
-            None => place as u16,
+    for position in (0..len).rev() {
+        let last = match weight_of(class, word[position]) {
+            Some(_) => ahead[position + 1],
+            None => position as u16,
         };
-        ahead[place] = last;
+        ahead[position] = last;
     }
     Ok(ahead)
 }
 
-/// For each place the weights of the letters before it, added up.
+/// For each position the weights of the letters before it, added up.
 fn sums(alloc: Global, class: &[(u8, i64)], word: &[u8]) -> Result<Vec<i128>, AllocError>
     requires { length word.now ≤ 4000 }
     ensures { IfOk result (λ sums. AreSums class.now word.now sums.items) }

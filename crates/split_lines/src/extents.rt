@@ -60,7 +60,7 @@ pub fn extent_of(problem: &Problem<'_>, argument: &Arg) -> Extent
     }
 }
 
-/// The last place, up to `last`, up to which the letters from `from` on are of the class, where there is one.
+/// The last position, up to `last`, up to which the letters from `from` on are of the class, where there is one.
 #[inline(always)]
 fn class_end(tables: &ClassTables<'_>, class: Option<u32>, from: usize, last: usize) -> usize
     requires known { IfSome class (λ class. class < length tables.now.grammar.classes) }
@@ -74,7 +74,7 @@ fn class_end(tables: &ClassTables<'_>, class: Option<u32>, from: usize, last: us
     }
 }
 
-/// The first place, from `first` on, from which on the letters up to `to` are of the class, where there is one.
+/// The first position, from `first` on, from which on the letters up to `to` are of the class, where there is one.
 #[inline(always)]
 fn class_start(tables: &ClassTables<'_>, class: Option<u32>, first: usize, to: usize) -> usize
     requires known { IfSome class (λ class. class < length tables.now.grammar.classes) }

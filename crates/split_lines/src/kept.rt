@@ -45,7 +45,7 @@ pub struct KeptAlternative<'a> {
 }
 
 impl KeptAlternative<'_> {
-    /// Whether all arguments have fixed length, and not as many letters as lie between the two places.
+    /// Whether all arguments have fixed length, and not as many letters as lie between the two positions.
     #[inline(always)]
     pub fn has_other_length(&self, from: u16, to: u16) -> bool
         ensures { OnTrue result ((length self.now.others.now ≡ 0) × (to ≡ from + self.now.letters → ⊥)) }
@@ -157,12 +157,12 @@ pub fn kept_alternative<'a>(
     }
 }
 
-/// Whether the letter stands at the place.
+/// Whether the letter stands at the position.
 #[inline(always)]
-fn stands(word: &[u8], place: usize, letter: u8) -> bool
-    ensures { IsTrue result ↔ (slice_get word.now place ≡ Some letter) }
+fn stands(word: &[u8], position: usize, letter: u8) -> bool
+    ensures { IsTrue result ↔ (slice_get word.now position ≡ Some letter) }
 {
-    match word.get(place) {
+    match word.get(position) {
         Some(found) => *found == letter,
         None => false,
     }

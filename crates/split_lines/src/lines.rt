@@ -11,14 +11,14 @@ ghost use Rattle.adp_model.specs.Splits.{FitsSpan, IsViable};
 ghost use Rattle.adp_model.specs.Tokens.{letters_between, total_weight};
 ghost use Rattle.adp_model.specs.Walk.{IsFirstVisited, IsNextVisited, IsLastVisited};
 ghost use Rattle.adp_model.specs.WellFormed.{IsKnown};
-ghost use Rattle.viable_splits.specs.Placing.{ArePlaces, Cover, on_span};
+ghost use Rattle.viable_splits.specs.Placing.{ArePositions, Cover, on_span};
 ghost use Rattle.split_lines.specs.declared.kept.KeptAlternative.{KeptAlternative};
 ghost use Rattle.split_lines.specs.Kept.{AreInFront, IsAlternative};
 ghost use Rattle.split_lines.specs.Laid.{IsFixed, AreBoundaries};
 ghost use Rattle.split_lines.specs.Classes.{AreSums};
 ghost use Rattle.split_lines.specs.Flags.{AreBitsAmong};
 ghost use Rattle.score_numbers.specs.Limits.{AreLimited};
-ghost use Rattle.split_lines.specs.Lines.{IsLine, IsLastOpen, HasLine, LeavesPlace, parts_by};
+ghost use Rattle.split_lines.specs.Lines.{IsLine, IsLastOpen, HasLine, LeavesPosition, parts_by};
 ghost use Rattle.split_lines.specs.LinesFields.{AreMiddles, HasAllOf, IsNumberOf, IsKeptOrNone, AreKept};
 
 use crate::classes::ClassTables;
@@ -54,13 +54,13 @@ pub struct Line<'l> {
     pub(crate) middle: &'l Matches,
 }
 
-/// The boundary of a line on a span: the places at which it may stand, the limit of a sum at each place from the first
-/// of these to the last one, how many letters lie between it and the second argument, and where that one ends. Where
-/// the line can't have the span, there is no place. Bits tell the places too, and where the second argument begins:
-/// they are those of the whole word, 64 places in a number.
+/// The boundary of a line on a span: the positions at which it may stand, the limit of a sum at each position from the
+/// first of these to the last one, how many letters lie between it and the second argument, and where that one ends.
+/// Where the line can't have the span, there is no position. Bits tell the positions too, and where the second argument
+/// begins: they are those of the whole word, 64 positions in a number.
 #[derive(Clone, Copy)]
 pub struct Boundary<'l> {
-    pub places: &'l [u16],
+    pub positions: &'l [u16],
     pub limits: &'l [i16],
     pub here: &'l [u64],
     pub behind: &'l [u64],
@@ -349,17 +349,17 @@ impl<'a> Lines<'a> {
         })
     }
 
-    /// The places at which the boundary of a line may stand, as far as the arguments on both sides of it and the tokens
-    /// behind tell: from where on, and before which.
+    /// The positions at which the boundary of a line may stand, as far as the arguments on both sides of it and the
+    /// tokens behind tell: from where on, and before which.
     #[inline(always)]
     fn range(&self, line: Line<'_>, arguments: &[Arg], from: usize, to: usize) -> Range<usize>
         requires line { IsLine self.now arguments.now line }
         requires known { AllByRecursion (IsKnown self.now.grammar) arguments.now }
         requires span { IsSpan self.now.word from to }
         requires short { to ≤ 4000 }
-        ensures exact { (place : ℕ) → ((result.start ≤ place) × (place < result.end))
-            ↔ LeavesPlace self.now (parts_by arguments.now line.entry.between)
-            from to line.entry.middle.now.letters (to - line.entry.tail) place }
+        ensures exact { (position : ℕ) → ((result.start ≤ position) × (position < result.end))
+            ↔ LeavesPosition self.now (parts_by arguments.now line.entry.between)
+            from to line.entry.middle.now.letters (to - line.entry.tail) position }
         ensures in_order { result.start ≤ result.end }
         ensures in_word { result.end ≤ length self.now.word + 1 }
     {
@@ -390,17 +390,17 @@ impl<'a> Lines<'a> {
         requires known { AllByRecursion (IsKnown self.now.grammar) arguments.now }
         requires span { IsSpan self.now.word from to }
         ensures boundaries { AreBoundaries self.now (parts_by arguments.now line.entry.between) from to
-            result.letters result.last result.places.now }
-        ensures limits { AreLimited result.places.now result.limits.now }
-        ensures here { AreBitsAmong result.places.now 0 result.here.now }
-        ensures behind { AreBitsAmong result.places.now result.letters result.behind.now }
+            result.letters result.last result.positions.now }
+        ensures limits { AreLimited result.positions.now result.limits.now }
+        ensures here { AreBitsAmong result.positions.now 0 result.here.now }
+        ensures behind { AreBitsAmong result.positions.now result.letters result.behind.now }
     {
         self.problem().admissible();
         let range = self.range(line, arguments, from as usize, to as usize);
-        let places = line.middle.between(range.start as u16, range.end as u16);
+        let positions = line.middle.between(range.start as u16, range.end as u16);
         Boundary {
-            places,
-            limits: line.middle.limits_among(places),
+            positions,
+            limits: line.middle.limits_among(positions),
             here: &line.middle.here,
             behind: &line.middle.behind,
             letters: line.middle.letters,
@@ -442,14 +442,14 @@ impl<'a> Lines<'a> {
         requires few { length arguments.now ≤ 4 }
         requires span { IsSpan self.now.word from last }
         ensures { (first : Argument) (later : List Argument) → arguments.now ≡ first ∷ later
-            → ArePlaces self.now first later from last result }
+            → ArePositions self.now first later from last result }
     {
         self.problem().admissible();
-        let places = first_ends(&self.tables, arguments, from as usize, last as usize);
-        places.start as u16..places.end as u16
+        let positions = first_ends(&self.tables, arguments, from as usize, last as usize);
+        positions.start as u16..positions.end as u16
     }
 
-    /// What the letters of a class before each place of the word weigh; letters that the class lacks weigh nothing.
+    /// What the letters of a class before each position of the word weigh; letters that the class lacks weigh nothing.
     /// Takes constant time and no memory.
     pub fn sums(&self, class: u32) -> &[i128]
         requires { class < length self.now.grammar.classes }
@@ -512,7 +512,7 @@ impl<'a> Matcher for Lines<'a> {
 
     /// Takes constant time: where the arguments begin with the tokens between the two of a line, their next match is
     /// looked up.
-    fn next_place(
+    fn next_position(
         &self,
         rule: u32,
         alt: u8,
@@ -530,11 +530,11 @@ impl<'a> Matcher for Lines<'a> {
         if line.first as usize + 1 != number {
             return Some(start);
         }
-        let places = line.middle.between(start as u16, end as u16);
-        if places.is_empty() {
+        let positions = line.middle.between(start as u16, end as u16);
+        if positions.is_empty() {
             None
         } else {
-            Some(places[0] as usize)
+            Some(positions[0] as usize)
         }
     }
 }

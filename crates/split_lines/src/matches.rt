@@ -18,19 +18,19 @@ use cell_tables::{WORD, set_each, set_places};
 use score_numbers::{NO_LIMIT, SHORT_MARK};
 use std::alloc::{AllocError, Global};
 
-/// The places of a word at which some tokens of fixed length (literals and letters) match one behind the other, in
-/// order, and for each place how many of them come before it.
+/// The positions of a word at which some tokens of fixed length (literals and letters) match one behind the other, in
+/// order, and for each position how many of them come before it.
 #[derive(Drop)]
 pub struct Matches {
     /// How many letters the tokens have, or one more than the word has, where they have more than that.
     pub letters: u16,
-    pub places: Vec<u16>,
+    pub positions: Vec<u16>,
     pub before: Vec<u16>,
-    /// The limit of a sum of 16 bits at each place of the word: none where they match, else the mark.
+    /// The limit of a sum of 16 bits at each position of the word: none where they match, else the mark.
     pub limits: Vec<i16>,
-    /// Bits of the places where they match, 64 places in a number.
+    /// Bits of the positions where they match, 64 positions in a number.
     pub here: Vec<u64>,
-    /// Bits of the places behind their letters.
+    /// Bits of the positions behind their letters.
     pub behind: Vec<u64>,
 }
 
@@ -66,32 +66,37 @@ pub fn covers(tables: &ClassTables<'_>, tokens: &[Arg], from: usize, to: usize) 
     }
 }
 
-/// The limit of a sum at each of so many places: none where it is one of these, else the mark. Fails for want of memory
-/// alone.
-fn limits_of(alloc: Global, count: usize, places: &[u16]) -> Result<Vec<i16>, AllocError>
-    requires { (place : ℕ) → Contains places.now place → place < count }
-    ensures { IfOk result (λ limits. AreLimitsOf count places.now limits.items) }
+/// The limit of a sum at each of so many positions: none where it is one of these, else the mark. Fails for want of
+/// memory alone.
+fn limits_of(alloc: Global, count: usize, positions: &[u16]) -> Result<Vec<i16>, AllocError>
+    requires { (position : ℕ) → Contains positions.now position → position < count }
+    ensures { IfOk result (λ limits. AreLimitsOf count positions.now limits.items) }
 {
     let mut limits = vec![in alloc; SHORT_MARK; count]?;
-    set_places(&mut limits, places, 0, 0, NO_LIMIT);
+    set_places(&mut limits, positions, 0, 0, NO_LIMIT);
     Ok(limits)
 }
 
-/// Bits for so many places, of which those of these places are set, each moved by `shift`. Fails for want of memory
-/// alone.
-fn bits_of(alloc: Global, count: usize, places: &[u16], shift: u16) -> Result<Vec<u64>, AllocError>
+/// Bits for so many positions, of which those of these positions are set, each moved by `shift`. Fails for want of
+/// memory alone.
+fn bits_of(
+    alloc: Global,
+    count: usize,
+    positions: &[u16],
+    shift: u16,
+) -> Result<Vec<u64>, AllocError>
     requires count { count ≤ 2 ^ 16 }
-    requires within { (place : ℕ) → Contains places.now place → place + shift < count }
-    ensures { IfOk result (λ bits. AreBits places.now shift bits.items) }
+    requires within { (position : ℕ) → Contains positions.now position → position + shift < count }
+    ensures { IfOk result (λ bits. AreBits positions.now shift bits.items) }
 {
     let mut bits = vec![in alloc; 0; count / WORD as usize + 1]?;
-    set_each(&mut bits, 0, 0, places, shift);
+    set_each(&mut bits, 0, 0, positions, shift);
     Ok(bits)
 }
 
 impl Matches {
-    /// Where the tokens match. Memory is four bytes and two bits for each place of the word, and two bytes more where
-    /// they match.
+    /// Where the tokens match. Memory is four bytes and two bits for each position of the word, and two bytes more
+    /// where they match.
     pub fn new(
         alloc: Global,
         tables: &ClassTables<'_>,
@@ -104,23 +109,23 @@ impl Matches {
         let problem = tables.problem();
         let len = problem.letters().len();
         let width = fixed_letters(problem, tokens);
-        let mut places = Vec::new(alloc);
+        let mut positions = Vec::new(alloc);
         let mut before = Vec::with_capacity(alloc, len + 2)?;
-        for place in 0..len + 1 {
-            before.push(places.len() as u16)?;
-            let end = place + width;
-            if end <= len && covers(tables, tokens, place, end) {
-                places.push(place as u16)?;
+        for position in 0..len + 1 {
+            before.push(positions.len() as u16)?;
+            let end = position + width;
+            if end <= len && covers(tables, tokens, position, end) {
+                positions.push(position as u16)?;
             }
         }
-        before.push(places.len() as u16)?;
+        before.push(positions.len() as u16)?;
         let letters = width as u16;
-        let limits = limits_of(alloc, len + 1, &places)?;
-        let here = bits_of(alloc, len + 1, &places, 0)?;
-        let behind = bits_of(alloc, len + 1, &places, letters)?;
+        let limits = limits_of(alloc, len + 1, &positions)?;
+        let here = bits_of(alloc, len + 1, &positions, 0)?;
+        let behind = bits_of(alloc, len + 1, &positions, letters)?;
         Ok(Matches {
             letters,
-            places,
+            positions,
             before,
             limits,
             here,
@@ -128,32 +133,34 @@ impl Matches {
         })
     }
 
-    /// Those of the places that lie from `first` on and before `past`. Takes constant time and no memory.
+    /// Those of the positions that lie from `first` on and before `past`. Takes constant time and no memory.
     pub fn between(&self, first: u16, past: u16) -> &[u16]
         requires in_order { first ≤ past }
         requires within { past < length self.now.before.items }
-        requires counts { AreCounts self.now.places.items self.now.before.items }
-        requires rising { AllAdjacentBelow (λ (a b : ℕ). a < b) self.now.places.items (length self.now.places.items) }
-        ensures exact { (place : ℕ) → Contains result.now place
-            ↔ (Contains self.now.places.items place × (first ≤ place) × (place < past)) }
+        requires counts { AreCounts self.now.positions.items self.now.before.items }
+        requires rising { AllAdjacentBelow (λ (a b : ℕ). a < b) self.now.positions.items
+            (length self.now.positions.items) }
+        ensures exact { (position : ℕ) → Contains result.now position
+            ↔ (Contains self.now.positions.items position × (first ≤ position) × (position < past)) }
         ensures rising { AllAdjacentBelow (λ (a b : ℕ). a < b) result.now (length result.now) }
     {
         let start = self.before[first as usize] as usize;
         let end = self.before[past as usize] as usize;
-        &self.places[start..end]
+        &self.positions[start..end]
     }
 
-    /// The limit of a sum at each place from the first of these to the last one: none where it is one of these, else
-    /// the mark, where these are all of the places that lie there. Takes constant time and no memory.
-    pub fn limits_among(&self, places: &[u16]) -> &[i16]
-        requires some { (place : ℕ) → Contains places.now place → Contains self.now.places.items place }
-        requires whole { (first place last : ℕ) → Contains places.now first → Contains places.now last
-            → first ≤ place → place ≤ last → Contains self.now.places.items place → Contains places.now place }
-        requires rising { AllAdjacentBelow (λ (a b : ℕ). a < b) places.now (length places.now) }
-        requires limits { AreLimitsOf (length self.now.limits.items) self.now.places.items self.now.limits.items }
-        ensures { AreLimited places.now result.now }
+    /// The limit of a sum at each position from the first of these to the last one: none where it is one of these, else
+    /// the mark, where these are all of the positions that lie there. Takes constant time and no memory.
+    pub fn limits_among(&self, positions: &[u16]) -> &[i16]
+        requires some { (position : ℕ) → Contains positions.now position → Contains self.now.positions.items position }
+        requires whole { (first position last : ℕ) → Contains positions.now first → Contains positions.now last
+            → first ≤ position → position ≤ last → Contains self.now.positions.items position
+            → Contains positions.now position }
+        requires rising { AllAdjacentBelow (λ (a b : ℕ). a < b) positions.now (length positions.now) }
+        requires limits { AreLimitsOf (length self.now.limits.items) self.now.positions.items self.now.limits.items }
+        ensures { AreLimited positions.now result.now }
     {
-        match (places.first(), places.last()) {
+        match (positions.first(), positions.last()) {
             (Some(first), Some(last)) => &self.limits[*first as usize..*last as usize + 1],
             _ => &[],
         }

@@ -12,15 +12,15 @@ use Rattle.adp_model.specs.Walk.{rank_of, IsVisitedBefore}
 use Rattle.viable_splits.specs.declared.cuts.Cuts.{Cuts}
 use Rattle.viable_splits.specs.Placing.{on_span, Divide, IsFirstBehind, IsLastFrom}
 
--- what holds of each holds at a place
+-- what holds of each holds at a position
 pub all_at : {X : Type 0} (P : X → Type 0) (xs : List X) (k : ℕ) (d : X) → k < length xs → AllByRecursion P xs → P (get_or xs k d)
 all_at P [] k d l h = absurd (omega arith)
 all_at P (x ∷ xs) zero d l h = h.0
 all_at P (x ∷ xs) (suc k) d l h = all_at P xs k d (omega arith) h.1
 
 -- what a range doesn't contain isn't in it
-pub not_contained : (start place end : ℕ) → false ≡ (is_le (nat_cmp start place) && is_lt (nat_cmp place end)) → start ≤ place → place < end → ⊥
-not_contained start place end outside low high = grind (arith, nat_tests)
+pub not_contained : (start position end : ℕ) → false ≡ (is_le (nat_cmp start position) && is_lt (nat_cmp position end)) → start ≤ position → position < end → ⊥
+not_contained start position end outside low high = grind (arith, nat_tests)
 
 abbrev pub AllAt : ℕ → List ℕ → Type 0
 AllAt to cuts = AllByRecursion (λ cut. cut ≡ to) cuts

@@ -75,22 +75,22 @@ cover_forward p (argument ∷ arguments) from to h =
     omega arith
 
 -- a boundary that stays as it was moved, and those behind it
-pub moved_boundary : (found at : List ℕ) (number place : ℕ) → number < length at → length found ≡ length at → take (number + 1) found ≡ take (number + 1) (set at number place) → drop number found ≡ place ∷ drop (number + 1) found
-moved_boundary found at number place l same kept =
-    let front : take (number + 1) found ≡ take number at ++ place ∷ [] = kept ∙ take_more_set at number place l in
-    let whole : found ≡ take number at ++ (place ∷ drop (number + 1) found) =
+pub moved_boundary : (found at : List ℕ) (number position : ℕ) → number < length at → length found ≡ length at → take (number + 1) found ≡ take (number + 1) (set at number position) → drop number found ≡ position ∷ drop (number + 1) found
+moved_boundary found at number position l same kept =
+    let front : take (number + 1) found ≡ take number at ++ position ∷ [] = kept ∙ take_more_set at number position l in
+    let whole : found ≡ take number at ++ (position ∷ drop (number + 1) found) =
     sym (take-append-drop (number + 1) found) ∙ ap (λ xs. xs ++ drop (number + 1) found) front ∙ regroup (take number at) (drop (number + 1) found) in
     let long : length (take number at) ≡ number = simp length-take (omega arith) in
-    ap (drop number) whole ∙ drop_at (take number at) (place ∷ drop (number + 1) found) number long
+    ap (drop number) whole ∙ drop_at (take number at) (position ∷ drop (number + 1) found) number long
   where
-    regroup : (xs ys : List ℕ) → (xs ++ place ∷ []) ++ ys ≡ xs ++ (place ∷ ys)
+    regroup : (xs ys : List ℕ) → (xs ++ position ∷ []) ++ ys ≡ xs ++ (position ∷ ys)
     regroup [] ys = refl
     regroup (x ∷ xs) ys = ap (λ zs. x ∷ zs) (regroup xs ys)
 
 -- and those before it
-pub kept_before : (found at : List ℕ) (number place : ℕ) → number < length at → take (number + 1) found ≡ take (number + 1) (set at number place) → take number found ≡ take number at
-kept_before found at number place l kept =
+pub kept_before : (found at : List ℕ) (number position : ℕ) → number < length at → take (number + 1) found ≡ take (number + 1) (set at number position) → take number found ≡ take number at
+kept_before found at number position l kept =
     let shorter : take number (take (number + 1) found) ≡ take number found = take-take number (number + 1) found (omega arith) in
-    let front : take (number + 1) found ≡ take number at ++ place ∷ [] = kept ∙ take_more_set at number place l in
+    let front : take (number + 1) found ≡ take number at ++ position ∷ [] = kept ∙ take_more_set at number position l in
     let long : length (take number at) ≡ number = simp length-take (omega arith) in
-    sym shorter ∙ ap (take number) front ∙ take_at (take number at) (place ∷ []) number long
+    sym shorter ∙ ap (take number) front ∙ take_at (take number at) (position ∷ []) number long

@@ -1,8 +1,8 @@
--- How many letters arguments may have, and the places that this leaves to the one before them.
+-- How many letters arguments may have, and the positions that this leaves to the one before them.
 use Rattle.std.proofs.Common.{◌≡◌, ℕ, ◌+◌, ◌-◌, ◌≤◌, min, max, List, [], ◌∷◌, refl, arith}
 use Rattle.adp_model.specs.declared.grammar.Arg.{Arg}
 use Rattle.adp_model.specs.PosedProblem.{PosedProblem}
-use Rattle.viable_splits.specs.Placing.{AreLengths, AreEnds, ArePlaces}
+use Rattle.viable_splits.specs.Placing.{AreLengths, AreEnds, ArePositions}
 use Rattle.viable_splits.proofs.Dividing.{cover_forward}
 
 -- one more before others
@@ -19,9 +19,9 @@ more_lengths p argument arguments most least greatest others_least others_greate
       greatest_kept = grind (arith, one.greatest_kept, others.greatest_kept);
     }
 
--- the places that the others' lengths leave
-pub places_left : (p : PosedProblem) (argument : Arg) (later : List Arg) (from last start end least greatest low high : ℕ) → from ≤ last → AreEnds p argument from last (record { start = start; end = end }) → AreLengths p later (last - from) least greatest → low ≡ min (max start (last - greatest)) (last + 1) → high ≡ min end (last + 1 - least) → ArePlaces p argument later from last (record { start = low; end = high })
-places_left p argument later from last start end least greatest low high span ends lengths low_is high_is =
+-- the positions that the others' lengths leave
+pub positions_left : (p : PosedProblem) (argument : Arg) (later : List Arg) (from last start end least greatest low high : ℕ) → from ≤ last → AreEnds p argument from last (record { start = start; end = end }) → AreLengths p later (last - from) least greatest → low ≡ min (max start (last - greatest)) (last + 1) → high ≡ min end (last + 1 - least) → ArePositions p argument later from last (record { start = low; end = high })
+positions_left p argument later from last start end least greatest low high span ends lengths low_is high_is =
     record {
       fit = λ to l h. (ends.exact to (omega (arith, ends.up_to_last))).1 (omega arith, omega arith);
       none_missed = λ to fits cover.

@@ -1,9 +1,9 @@
-pub mod EndPlaces
+pub mod EndPositions
 pub mod TurnedRanks
 pub mod Dividing
 pub mod LengthSums
 pub mod Closing
-pub mod FirstPlace
-pub mod NextPlace
+pub mod FirstPosition
+pub mod NextPosition
 pub mod Passing
 pub mod WholeCell

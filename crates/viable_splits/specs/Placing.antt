@@ -16,14 +16,14 @@ use Rattle.viable_splits.specs.declared.cuts.Cuts.{Cuts}
 abbrev pub on_span : Arg → ℕ → ℕ → Placed
 on_span argument from to = record { argument = argument; from = from; to = to }
 
--- the letters from `from` on are in the class up to this place and no further, as far as the last
+-- the letters from `from` on are in the class up to this position and no further, as far as the last
 pub record IsClassEnd (p : PosedProblem) (class from last end : ℕ) : Type 0 where
   pub after : from ≤ end
   pub within : end ≤ last
   pub exact : (to : ℕ) → from ≤ to → to ≤ last
       → AllByRecursion (IsIn (letters_of p.grammar class)) (letters_between p.word from to) ↔ (to ≤ end)
 
--- the range has the places, up to the last, at which the argument may end
+-- the range has the positions, up to the last, at which the argument may end
 pub record AreEnds (p : PosedProblem) (argument : Arg) (from last : ℕ) (ends : Range ℕ) : Type 0 where
   pub exact : (to : ℕ) → to ≤ last → FitsSpan p (on_span argument from to) ↔ ((ends.start ≤ to) × (to < ends.end))
   pub behind : from ≤ ends.start
@@ -35,15 +35,15 @@ Cover p [] from to = from ≡ to
 Cover p (argument ∷ arguments) from to =
     (cut : ℕ) × FitsSpan p (on_span argument from cut) × Cover p arguments cut to
 
--- the arguments may have no letters from any place of the range on
+-- the arguments may have no letters from any position of the range on
 abbrev pub CoverNone : PosedProblem → List Arg → ℕ → ℕ → Type 0
 CoverNone p arguments start end = (from to : ℕ) → start ≤ from → from < end → Cover p arguments from to → ⊥
 
--- a place of the range, from no place before which they may have letters
-pub record IsNextPlace (p : PosedProblem) (arguments : List Arg) (start end place : ℕ) : Type 0 where
-  pub low : start ≤ place
-  pub high : place < end
-  pub none_before : CoverNone p arguments start place
+-- a position of the range, from no position before which they may have letters
+pub record IsNextPosition (p : PosedProblem) (arguments : List Arg) (start end position : ℕ) : Type 0 where
+  pub low : start ≤ position
+  pub high : position < end
+  pub none_before : CoverNone p arguments start position
 
 -- where they may, and the letters are at most `most`, these are at least `least` and at most `greatest`
 pub record AreLengths (p : PosedProblem) (arguments : List Arg) (most least greatest : ℕ) : Type 0 where
@@ -52,15 +52,15 @@ pub record AreLengths (p : PosedProblem) (arguments : List Arg) (most least grea
   pub least_kept : least ≤ length arguments * (most + 1)
   pub greatest_kept : greatest ≤ length arguments * most
 
--- the argument may end at each place of the range, and the range has each place where it may end and the others may
--- have the letters from there to the last
-pub record ArePlaces (p : PosedProblem) (argument : Arg) (later : List Arg) (from last : ℕ) (places : Range ℕ)
+-- the argument may end at each position of the range, and the range has each position where it may end and the others
+-- may have the letters from there to the last
+pub record ArePositions (p : PosedProblem) (argument : Arg) (later : List Arg) (from last : ℕ) (positions : Range ℕ)
     : Type 0 where
-  pub fit : (to : ℕ) → places.start ≤ to → to < places.end → FitsSpan p (on_span argument from to)
+  pub fit : (to : ℕ) → positions.start ≤ to → to < positions.end → FitsSpan p (on_span argument from to)
   pub none_missed : (to : ℕ) → FitsSpan p (on_span argument from to) → Cover p later to last
-      → (places.start ≤ to) × (to < places.end)
-  pub behind : from ≤ places.start
-  pub up_to_last : places.end ≤ last + 1
+      → (positions.start ≤ to) × (to < positions.end)
+  pub behind : from ≤ positions.start
+  pub up_to_last : positions.end ≤ last + 1
 
 -- the arguments are those of the alternative from this number on
 pub record AreRest (p : PosedProblem) (cell : Cell) (alternative number : ℕ) (arguments : List Arg) : Type 0 where
@@ -68,7 +68,7 @@ pub record AreRest (p : PosedProblem) (cell : Cell) (alternative number : ℕ) (
   pub are : arguments ≡ drop number (arguments_of p.grammar cell.rule alternative)
 
 -- a walk has these arguments of the alternative left, those from this number on, and for them the letters of the cell
--- from `from` on; no boundary is turned by more places than the cell has letters
+-- from `from` on; no boundary is turned by more positions than the cell has letters
 pub record AreLeft (p : PosedProblem) (cell : Cell) (alternative : ℕ) (arguments : List Arg) (from number : ℕ)
     (turns : List ℕ) : Type 0 where
   pub span : IsSpan p.word from cell.to
@@ -94,7 +94,7 @@ rank_at cell turns number position = rank_of cell (slice_index turns number) pos
 
 -- the cuts with one boundary moved
 abbrev pub moved : Cuts → ℕ → ℕ → Cuts
-moved cuts number place = record cuts { at = slice_set cuts.at number place }
+moved cuts number position = record cuts { at = slice_set cuts.at number position }
 
 -- the boundaries before this one stay, and those from it on divide what the arguments have of the cell, from `from` on
 pub record Continues (p : PosedProblem) (cell : Cell) (arguments : List Arg) (from number : ℕ) (cuts found : Cuts)
@@ -119,20 +119,20 @@ pub record IsFirstBehind (p : PosedProblem) (cell : Cell) (arguments : List Arg)
       → least_rank ≤ rank_at cell cuts.turns number (slice_index others 0)
       → IsVisitedBefore cell (drop number cuts.turns) others (drop number found.at) → ⊥
 
--- the first place of the range from which cuts divide the rest, and of these cuts the ones that are visited first
+-- the first position of the range from which cuts divide the rest, and of these cuts the ones that are visited first
 pub record IsFirstWithin (p : PosedProblem) (cell : Cell) (arguments : List Arg) (start end number : ℕ)
     (cuts found : Cuts) : Type 0 where
-  pub place : ℕ
-  pub low : start ≤ place
-  pub high : place < end
-  pub there : IsFirstBehind p cell arguments place (number + 1) 0 (moved cuts number place) found
-  pub none_before : (other : ℕ) → start ≤ other → other < place
+  pub position : ℕ
+  pub low : start ≤ position
+  pub high : position < end
+  pub there : IsFirstBehind p cell arguments position (number + 1) 0 (moved cuts number position) found
+  pub none_before : (other : ℕ) → start ≤ other → other < position
       → HasNoneBehind p cell arguments other (number + 1) 0 cuts.turns
 
--- from no place of the range cuts divide the rest
+-- from no position of the range cuts divide the rest
 abbrev pub HasNoneWithin : PosedProblem → Cell → List Arg → ℕ → ℕ → ℕ → List ℕ → Type 0
 HasNoneWithin p cell arguments start end number turns =
-    (place : ℕ) → start ≤ place → place < end → HasNoneBehind p cell arguments place (number + 1) 0 turns
+    (position : ℕ) → start ≤ position → position < end → HasNoneBehind p cell arguments position (number + 1) 0 turns
 
 -- the cuts that are visited next behind these
 pub record IsNextFrom (p : PosedProblem) (cell : Cell) (arguments : List Arg) (from number : ℕ) (cuts found : Cuts)

@@ -9,7 +9,7 @@ use crate::matcher::Matcher;
 use adp_model::{Arg, Problem};
 use std::ops::Range;
 
-/// The last place up to `last` where a span from `from` on may end that has at most so many letters.
+/// The last position up to `last` where a span from `from` on may end that has at most so many letters.
 #[inline(always)]
 fn last_end(from: usize, last: usize, most: Option<u32>) -> usize
     requires in_order { from ≤ last }

@@ -2,7 +2,7 @@
 #![tactic(auto)]
 
 mod cuts;
-mod end_places;
+mod end_positions;
 mod ends;
 mod matcher;
 mod placing;
@@ -10,7 +10,7 @@ mod visiting;
 mod walk;
 
 pub use cuts::Cuts;
-pub use end_places::first_ends;
+pub use end_positions::first_ends;
 pub use ends::argument_ends;
 pub use matcher::Matcher;
 pub use visiting::{first_visited, next_visited};

@@ -5,7 +5,7 @@ ghost use Rattle.std.specs.List.{AllByRecursion};
 ghost use Rattle.adp_model.specs.Parts.{alternatives_of, arguments_of};
 ghost use Rattle.adp_model.specs.PosedProblem.{PosedProblem, IsSpan};
 ghost use Rattle.adp_model.specs.Tokens.{IsIn};
-ghost use Rattle.viable_splits.specs.Placing.{IsClassEnd, CoverNone, IsNextPlace};
+ghost use Rattle.viable_splits.specs.Placing.{IsClassEnd, CoverNone, IsNextPosition};
 
 use adp_model::Problem;
 
@@ -18,15 +18,15 @@ pub trait Matcher {
     fn problem(&self) -> &Problem<'_>
         ensures { result.now ≡ posed self.now };
 
-    /// The last place, up to `last`, up to which all letters from `from` on are in the class. Takes no memory.
+    /// The last position, up to `last`, up to which all letters from `from` on are in the class. Takes no memory.
     fn class_end(&self, class: u32, from: usize, last: usize) -> usize
         requires known { class < length (posed self.now).grammar.classes }
         requires span { IsSpan (posed self.now).word from last }
         ensures { IsClassEnd (posed self.now) class from last result };
 
-    /// A place from `start` on and before `end`, such that the arguments of an alternative from this number on may
-    /// begin at no place before it; `None` only where they may begin at none of these places. Takes no memory.
-    fn next_place(
+    /// A position from `start` on and before `end`, such that the arguments of an alternative from this number on may
+    /// begin at no position before it; `None` only where they may begin at none of these positions. Takes no memory.
+    fn next_position(
         &self,
         rule: u32,
         alt: u8,
@@ -38,7 +38,7 @@ pub trait Matcher {
         requires within { end ≤ length (posed self.now).word + 1 }
         ensures { MatchOption result
             (CoverNone (posed self.now) (drop number (arguments_of (posed self.now).grammar rule alt)) start end)
-            (IsNextPlace (posed self.now) (drop number (arguments_of (posed self.now).grammar rule alt)) start end) }
+            (IsNextPosition (posed self.now) (drop number (arguments_of (posed self.now).grammar rule alt)) start end) }
     {
         if start < end { Some(start) } else { None }
     }

@@ -5,7 +5,7 @@ ghost use Rattle.adp_model.specs.Walk.{rank_of};
 ghost use Rattle.viable_splits.specs.Placing.{AreLeft, AreRest, Divide, IsFirstBehind, HasNoneBehind, IsFirstWithin, HasNoneWithin, IsNextFrom, IsLastFrom};
 
 use crate::cuts::Cuts;
-use crate::end_places::first_ends;
+use crate::end_positions::first_ends;
 use crate::ends::argument_ends;
 use crate::matcher::Matcher;
 use adp_model::{Arg, Cell};
@@ -30,7 +30,8 @@ fn closed(cell: Cell, number: usize, mut cuts: Cuts) -> Cuts
     cuts
 }
 
-/// The rank of a position: how many positions of the cell a boundary that is turned by so many places visits before it.
+/// The rank of a position: how many positions of the cell a boundary that is turned by so many positions visits before
+/// it.
 fn rank(cell: Cell, turn: u32, position: u16) -> usize
     requires turn { turn ≤ cell.to - cell.from }
     requires after { cell.from ≤ position }
@@ -96,22 +97,23 @@ fn first_behind<M: Matcher>(
         (IsFirstBehind (M.posed walk.now.matcher.now) walk.now.cell arguments.now from number least_rank cuts) }
 {
     let (begin, last) = (walk.cell.from as usize, walk.cell.to as usize);
-    let places = first_ends(walk.matcher, arguments, from, last);
+    let positions = first_ends(walk.matcher, arguments, from, last);
     let later = &arguments[1..];
     let pivot = begin + cuts.turns[number] as usize;
-    let ahead = places.start.max(pivot + least_rank);
+    let ahead = positions.start.max(pivot + least_rank);
     let skipped = least_rank.saturating_sub(last + 1 - pivot);
-    let wrapped = places.start.max(begin + skipped);
-    match first_within(walk, later, ahead, places.end, number, cuts) {
+    let wrapped = positions.start.max(begin + skipped);
+    match first_within(walk, later, ahead, positions.end, number, cuts) {
         Some(found) => Some(found),
         None => {
-            let before_turn = places.end.min(pivot);
+            let before_turn = positions.end.min(pivot);
             first_within(walk, later, wrapped, before_turn, number, cuts)
         }
     }
 }
 
-/// The first place of the range from which cuts divide what the arguments have of the cell, with those visited first.
+/// The first position of the range from which cuts divide what the arguments have of the cell, with those visited
+/// first.
 #[cycle(first)]
 fn first_within<M: Matcher>(
     walk: &Walk<'_, M>,
@@ -135,16 +137,16 @@ fn first_within<M: Matcher>(
         (IsFirstWithin (M.posed walk.now.matcher.now) walk.now.cell arguments.now start end number cuts) }
 {
     let mut start = start;
-    while let Some(place) = walk
+    while let Some(position) = walk
         .matcher
-        .next_place(walk.cell.rule, walk.alt, number + 1, start, end)
+        .next_position(walk.cell.rule, walk.alt, number + 1, start, end)
     {
         let mut moved = cuts;
-        moved.at[number] = place as u16;
-        if let Some(found) = first_cuts(walk, arguments, place, number + 1, moved) {
+        moved.at[number] = position as u16;
+        if let Some(found) = first_cuts(walk, arguments, position, number + 1, moved) {
             return Some(found);
         }
-        start = place + 1;
+        start = position + 1;
     }
     None
 }
@@ -167,11 +169,11 @@ pub fn next_cuts<M: Matcher>(
     if arguments.len() < 2 {
         return None;
     }
-    let place = cuts.at[number];
-    match next_cuts(walk, &arguments[1..], place as usize, number + 1, cuts) {
+    let position = cuts.at[number];
+    match next_cuts(walk, &arguments[1..], position as usize, number + 1, cuts) {
         Some(found) => Some(found),
         None => {
-            let least_rank = rank(walk.cell, cuts.turns[number], place) + 1;
+            let least_rank = rank(walk.cell, cuts.turns[number], position) + 1;
             first_behind(walk, arguments, from, number, least_rank, cuts)
         }
     }

@@ -86,9 +86,9 @@ returns-in_default-token_end g t c =
 pub are_arguments_noted-requires-in-loop-end : goal.are_arguments_noted-requires-in-loop-end
 are_arguments_noted-requires-in-loop-end g t c κs within =
     let it = others_are g t (goal.at.are_arguments_noted-requires-in-loop-end g t c).After-is_fixed in
-    let places = c.ends_of_first-ends.ensures c.in-Some.argument.now c.in-Some.others.now c.in-Some.ensures.cases.0 in
+    let positions = c.ends_of_first-ends.ensures c.in-Some.argument.now c.in-Some.others.now c.in-Some.ensures.cases.0 in
     let span : IsSpan c.args.lines.now.word c.loop-end.end c.args.to =
-    record { in_order = omega (arith, places.up_to_last, c.loop-end-test.true); in_word = c.requires.span.in_word } in
+    record { in_order = omega (arith, positions.up_to_last, c.loop-end-test.true); in_word = c.requires.span.in_word } in
     (search rules, (within, (it.0, (it.1, (it.2, (span, c.loop-end.invariant.told))))))
 
 pub returns : goal.returns

@@ -2,7 +2,7 @@ use Rattle.std.proofs.Common.{◌↔◌, Bool, true, false, IsTrue, refl}
 use Rattle.std.specs.Bool.{OnTrue}
 use Rattle.adp_model.specs.declared.cell.Cell.{Cell}
 use Rattle.split_lines.specs.Laid.{IsCellOf}
-use Rattle.argument_search.proofs.NotedPlaces.{cell_there}
+use Rattle.argument_search.proofs.NotedPositions.{cell_there}
 use Rattle.argument_search.proofs.passing.is_noted.Goals as goal
 
 pub returns-in-Rule : goal.returns-in-Rule

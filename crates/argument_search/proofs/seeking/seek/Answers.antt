@@ -2,7 +2,7 @@ use Rattle.std.proofs.Common.{◌≡◌, true, subst, arith}
 use Rattle.adp_model.specs.declared.cell.Cell.{Cell}
 use Rattle.adp_model.specs.SplitArguments.{AsksFor}
 use Rattle.adp_model.specs.Visits.{argument_at, is_behind_position}
-use Rattle.argument_search.proofs.WalkEnds.{places_fall}
+use Rattle.argument_search.proofs.WalkEnds.{positions_fall}
 use Rattle.argument_search.proofs.SeekSteps.{asks_one, walk_to, none_sought, on_more, passed_more, next_sought}
 use Rattle.argument_search.proofs.seeking.seek.Goals as goal
 
@@ -31,7 +31,7 @@ loop-position-smaller-else-not-has g c =
     let word = c.requires.span.in_word in
     let letters = c.admissible.ensures.limits.letters in
     let alternatives = c.alternatives_fit.ensures.few p.grammar formed v.cell.rule in
-    places_fall p v c.requires.walk.three c.requires.walk.first alternatives (omega arith) c.loop-position.at
+    positions_fall p v c.requires.walk.three c.requires.walk.first alternatives (omega arith) c.loop-position.at
     c.in-Some.position next.is_argument.viable.three (omega arith)
     (λ at e. (
       (c.loop-position.invariant.walk.at at e).viable.three,
@@ -49,7 +49,7 @@ loop-position-smaller g c =
     let word = c.requires.span.in_word in
     let letters = c.admissible.ensures.limits.letters in
     let alternatives = c.alternatives_fit.ensures.few p.grammar formed v.cell.rule in
-    places_fall p v c.requires.walk.three c.requires.walk.first alternatives (omega arith) c.loop-position.at
+    positions_fall p v c.requires.walk.three c.requires.walk.first alternatives (omega arith) c.loop-position.at
     c.in-Some.position next.is_argument.viable.three (omega arith)
     (λ at e. (
       (c.loop-position.invariant.walk.at at e).viable.three,

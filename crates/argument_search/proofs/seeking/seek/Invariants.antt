@@ -3,7 +3,7 @@ use Rattle.adp_model.specs.declared.cell.Cell.{Cell}
 use Rattle.adp_model.specs.SplitArguments.{SplitArgument, AsksFor}
 use Rattle.adp_model.specs.Visits.{is_behind, is_behind_position}
 use Rattle.adp_model.specs.Visits.{IsWalk}
-use Rattle.argument_search.proofs.WalkEnds.{places_left}
+use Rattle.argument_search.proofs.WalkEnds.{positions_left}
 use Rattle.argument_search.proofs.seeking.seek.Given as goal
 
 abbrev pub invariant-loop-position : goal.invariant-loop-position
@@ -17,4 +17,4 @@ invariant-loop-position g l = record {
 }
 
 abbrev pub decreases-loop-position : goal.decreases-loop-position
-decreases-loop-position g l = places_left l.problem l.visit l.at
+decreases-loop-position g l = positions_left l.problem l.visit l.at

@@ -10,9 +10,9 @@ returns-in-Some g c =
       stands = it.stands;
       low = omega (arith, it.low, c.both_noted-stop.ensures.low);
       high = it.high;
-      noted = λ place contains low high. elim (cases_lt place c.both_noted-stop.result) [
-        | inl less ↦ c.both_noted-stop.ensures.noted place contains low less
-        | inr not ↦ absurd (omega (arith, it.first place contains not, high))
+      noted = λ position contains low high. elim (cases_lt position c.both_noted-stop.result) [
+        | inl less ↦ c.both_noted-stop.ensures.noted position contains low less
+        | inr not ↦ absurd (omega (arith, it.first position contains not, high))
       ];
       whole = tt;
     }
@@ -21,14 +21,14 @@ pub returns-in-Some-last_between : goal.returns-in-Some-last_between
 returns-in-Some-last_between g c =
     let it = c.in-Some-last_between.ensures in
     let all : AreNotedBetween (g.N.NotedCells.is_noted c.args.noted.now) c.args.pair c.args.begin c.args.past =
-    λ place contains low high. elim (cases_lt place c.both_noted-stop.result) [
-      | inl less ↦ c.both_noted-stop.ensures.noted place contains low less
-      | inr not ↦ absurd (c.in-None.ensures place contains not high)
+    λ position contains low high. elim (cases_lt position c.both_noted-stop.result) [
+      | inl less ↦ c.both_noted-stop.ensures.noted position contains low less
+      | inr not ↦ absurd (c.in-None.ensures position contains not high)
     ] in
     record {
       stands = it.0;
       low = it.1;
       high = it.2;
-      noted = λ place contains low high. all place contains low (omega (arith, high, it.2));
+      noted = λ position contains low high. all position contains low (omega (arith, high, it.2));
       whole = all;
     }

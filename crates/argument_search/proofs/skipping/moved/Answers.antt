@@ -4,5 +4,5 @@ use Rattle.argument_search.proofs.skipping.moved.Goals as goal
 
 pub returns-clause-there : goal.returns-clause-there
 returns-clause-there c =
-    index_set c.loop-number.moved c.args.first c.args.place
+    index_set c.loop-number.moved c.args.first c.args.position
     (let few = c.requires in let size = c.loop-number.invariant.size in omega arith)

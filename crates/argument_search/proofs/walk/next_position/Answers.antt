@@ -33,7 +33,7 @@ returns-then-reached g c =
     next_reached p (g.N.NotedCells.is_noted c.args.noted.now) v c.requires.walk c.requires.walk.three
     (c.ranks_tell_splits_apart.ensures p formed v.cell v.turns c.requires.span.in_order c.requires.walk.three
     c.requires.walk.turns)
-    c.in-Some.at c.in-Some.is c.reached.new.position c.if-reached.ensures.next
+    c.in-Some.at c.in-Some.is c.reached.new.argument c.if-reached.ensures.next
 
 pub overflow_add-at-then-at-arguments : goal.overflow_add-at-then-at-arguments
 overflow_add-at-then-at-arguments g c =
@@ -47,7 +47,7 @@ returns-then-at-arguments g c =
     let p = c.args.problem.now in
     let v = c.args.visit in
     let Noted = g.N.NotedCells.is_noted c.args.noted.now in
-    let at = c.reached.new.position in
+    let at = c.reached.new.argument in
     let on = c.if-reached.ensures.past in
     let walk = walk_to p v c.requires.walk at on.is_argument in
     let formed = c.admissible.ensures.checked.well_formed in
@@ -65,7 +65,7 @@ returns-then-next_viable g c =
     let p = c.args.problem.now in
     let v = c.args.visit in
     let Noted = g.N.NotedCells.is_noted c.args.noted.now in
-    let at = c.reached.new.position in
+    let at = c.reached.new.argument in
     let on = c.if-reached.ensures.past in
     let walk = walk_to p v c.requires.walk at on.is_argument in
     let formed = c.admissible.ensures.checked.well_formed in
@@ -88,7 +88,7 @@ returns g c =
     let p = c.args.problem.now in
     let v = c.args.visit in
     let Noted = g.N.NotedCells.is_noted c.args.noted.now in
-    let at = c.reached.new.position in
+    let at = c.reached.new.argument in
     let on = c.if-reached.ensures.past in
     let walk = walk_to p v c.requires.walk at on.is_argument in
     let formed = c.admissible.ensures.checked.well_formed in

@@ -8,7 +8,7 @@ use Rattle.cell_answers.specs.Through.{HasLineTotal}
 use Rattle.cell_answers.specs.Totals.{HasTotal}
 use Rattle.score_numbers.specs.Greatest.{IsGreatestOf}
 use Rattle.cell_answers.proofs.FirstEnds.{AreSound}
-use Rattle.cell_answers.proofs.FrontPlaces.{first_fits, middle_weighted, middle_low, second_known, second_fits, first_token_low, second_token_low, through_parts_low, greatest_here, one_here, sums_low}
+use Rattle.cell_answers.proofs.FrontPositions.{first_fits, middle_weighted, middle_low, second_known, second_fits, first_token_low, second_token_low, through_parts_low, greatest_here, one_here, sums_low}
 use Rattle.cell_answers.proofs.Soundness.{fits_below, sound_by}
 use Rattle.cell_answers.proofs.along.total_through.Goals as goal
 use Rattle.cell_answers.proofs.along.total_through.Goals.{After-answer_is_unique}
@@ -19,7 +19,7 @@ sound c =
 
 pub overflow_add-behind : goal.overflow_add-behind
 overflow_add-behind c =
-    let fits = second_fits c.args.lines.now c.args.line.now c.requires.opened c.args.place c.requires.stands in
+    let fits = second_fits c.args.lines.now c.args.line.now c.requires.opened c.args.position c.requires.stands in
     let last : c.args.line.now.boundary.last < 65536 = search rules in
     omega (arith, fits.0.in_order)
 
@@ -68,16 +68,16 @@ Read number = to_z w64 (of_z w64 number)
 
 -- the numbers that are added up fit, and their sums
 parts : (c : After-answer_is_unique) → (first between second : ℤ)
-    → IsValue c.args.lines.now (HasBestScore c.args.lines.now) (on_span c.args.line.now.arguments.first.now c.args.line.now.from c.args.place) first
-    → HasTotal c.args.lines.now (HasBestScore c.args.lines.now) c.args.line.now.arguments.middle.now c.args.line.now.arguments.middle_factors.now c.args.place (c.args.place + c.args.line.now.boundary.letters) between
-    → IsValue c.args.lines.now (HasBestScore c.args.lines.now) (on_span c.args.line.now.arguments.second.now (c.args.place + c.args.line.now.boundary.letters) c.args.line.now.boundary.last) second
+    → IsValue c.args.lines.now (HasBestScore c.args.lines.now) (on_span c.args.line.now.arguments.first.now c.args.line.now.from c.args.position) first
+    → HasTotal c.args.lines.now (HasBestScore c.args.lines.now) c.args.line.now.arguments.middle.now c.args.line.now.arguments.middle_factors.now c.args.position (c.args.position + c.args.line.now.boundary.letters) between
+    → IsValue c.args.lines.now (HasBestScore c.args.lines.now) (on_span c.args.line.now.arguments.second.now (c.args.position + c.args.line.now.boundary.letters) c.args.line.now.boundary.last) second
     → FitsSigned w64 (c.args.line.now.arguments.first_factor *ℤ first) × FitsSigned w64 ((c.args.line.now.arguments.first_factor *ℤ first) +ℤ between)
     × FitsSigned w64 (c.args.line.now.arguments.second_factor *ℤ second) × FitsSigned w64 (((c.args.line.now.arguments.first_factor *ℤ first) +ℤ between) +ℤ (c.args.line.now.arguments.second_factor *ℤ second))
 parts c first between second is_first has_between is_second =
     let one = c.args.line.now.arguments.first_factor *ℤ first in
     let other = c.args.line.now.arguments.second_factor *ℤ second in
     let low = sums_low one between other
-    (through_parts_low c.args.lines.now c.args.line.now c.requires.opened c.args.place c.requires.stands (sound c) first between second is_first has_between is_second) in
+    (through_parts_low c.args.lines.now c.args.line.now c.requires.opened c.args.position c.requires.stands (sound c) first between second is_first has_between is_second) in
     (fits_below one low.0, fits_below (one +ℤ between) low.1, fits_below other low.2, fits_below ((one +ℤ between) +ℤ other) low.3)
 
 pub overflow_mul-result : goal.overflow_mul-result
@@ -138,16 +138,16 @@ pub returns-clause-greatest : goal.returns-clause-greatest
 returns-clause-greatest c =
     let at = (goal.at.returns-clause-greatest c).After-answer_is_unique in
     let it = parts at c.in-Some.first c.between_total-between.result c.in-Some-value_among.second c.in-Some.ensures c.between_total-between.ensures c.in-Some-value_among.ensures in
-    let T : ℤ → Type 0 = λ total. IsGreatestOf (HasLineTotal c.args.lines.now c.args.line.now c.args.place) (Some total) in
+    let T : ℤ → Type 0 = λ total. IsGreatestOf (HasLineTotal c.args.lines.now c.args.line.now c.args.position) (Some total) in
     subst T (sym (read_sum c.args.line.now.arguments.first_factor c.in-Some.first c.between_total-between.result c.args.line.now.arguments.second_factor c.in-Some-value_among.second (search rules) (search rules) (search rules) (search rules) (search rules) it))
-    (greatest_here c.args.lines.now c.args.line.now c.requires.opened c.args.place c.requires.stands (sound at)
+    (greatest_here c.args.lines.now c.args.line.now c.requires.opened c.args.position c.requires.stands (sound at)
     c.in-Some.first c.between_total-between.result c.in-Some-value_among.second c.in-Some.ensures c.between_total-between.ensures c.in-Some-value_among.ensures)
 
 pub returns-clause-only : goal.returns-clause-only
 returns-clause-only c =
     let at = (goal.at.returns-clause-only c).After-answer_is_unique in
     let it = parts at c.in-Some.first c.between_total-between.result c.in-Some-value_among.second c.in-Some.ensures c.between_total-between.ensures c.in-Some-value_among.ensures in
-    let T : ℤ → Type 0 = λ total. (other : ℤ) → HasLineTotal c.args.lines.now c.args.line.now c.args.place other → other ≡ total in
+    let T : ℤ → Type 0 = λ total. (other : ℤ) → HasLineTotal c.args.lines.now c.args.line.now c.args.position other → other ≡ total in
     subst T (sym (read_sum c.args.line.now.arguments.first_factor c.in-Some.first c.between_total-between.result c.args.line.now.arguments.second_factor c.in-Some-value_among.second (search rules) (search rules) (search rules) (search rules) (search rules) it))
-    (one_here c.args.lines.now c.args.line.now c.requires.opened c.args.place c.requires.stands (sound at)
+    (one_here c.args.lines.now c.args.line.now c.requires.opened c.args.position c.requires.stands (sound at)
     c.in-Some.first c.between_total-between.result c.in-Some-value_among.second c.in-Some.ensures c.between_total-between.ensures c.in-Some-value_among.ensures)

@@ -2,7 +2,7 @@ use Rattle.std.proofs.Common.{ℕ, ℤ, ◌-ℤ◌, FitsSigned, w64, arith, rule
 use Rattle.std.specs.List.{Contains}
 use Rattle.std.proofs.lemmas.Int.{ints, to_z-of_z, fits_signed_from_abs}
 use Rattle.adp_model.specs.Bellman.{HasBestScore}
-use Rattle.score_numbers.specs.FirstPlaces.{IsFirstAmong}
+use Rattle.score_numbers.specs.FirstPositions.{IsFirstAmong}
 use Rattle.cell_answers.specs.LaidBy.{IsFirstEnd}
 use Rattle.cell_answers.specs.Totals.{HasTotal}
 use Rattle.cell_answers.proofs.FirstEnds.{AreLaid, AreSound, total_low}
@@ -60,7 +60,7 @@ unreachable-requires-in-None c =
     let fits_total : FitsSigned w64 c.args.total = search rules in
     let fits_behind : FitsSigned w64 behind = search rules in
     let fits_left : FitsSigned w64 (c.args.total -ℤ behind) = left_fits at behind c.fixed_total.ensures in
-    let none : (place : ℕ) → Contains line.boundary.places.now place → Through p c.args.scores.now line.arguments line.from c.args.to line.boundary (whole at) (c.args.total -ℤ behind) place → ⊥ = simp to_z-of_z at c.in-None.ensures in
+    let none : (position : ℕ) → Contains line.boundary.positions.now position → Through p c.args.scores.now line.arguments line.from c.args.to line.boundary (whole at) (c.args.total -ℤ behind) position → ⊥ = simp to_z-of_z at c.in-None.ensures in
     opened_holds p c.args.scores.now c.args.arguments.now c.args.factors.now c.args.from c.args.to (laid at) line c.in-Some.ensures
     (λ arguments factors from. HasTotal p (HasBestScore p) arguments factors from c.args.to c.args.total → ⊥)
     (λ has. not_nowhere p c.args.scores.now line.arguments line.from c.args.to line.boundary (whole at) c.args.total behind c.fixed_total.ensures has none) c.requires.has
@@ -71,11 +71,11 @@ returns c =
     let p = c.args.lines.now in
     let line = c.in-Some.opened in
     let behind = c.fixed_total.result in
-    let place = c.in-Some-first_through.place in
+    let position = c.in-Some-first_through.position in
     let fits_total : FitsSigned w64 c.args.total = search rules in
     let fits_behind : FitsSigned w64 behind = search rules in
     let fits_left : FitsSigned w64 (c.args.total -ℤ behind) = left_fits at behind c.fixed_total.ensures in
-    let first : IsFirstAmong line.boundary.places.now (Through p c.args.scores.now line.arguments line.from c.args.to line.boundary (whole at) (c.args.total -ℤ behind)) place = simp to_z-of_z at c.in-Some-first_through.ensures in
+    let first : IsFirstAmong line.boundary.positions.now (Through p c.args.scores.now line.arguments line.from c.args.to line.boundary (whole at) (c.args.total -ℤ behind)) position = simp to_z-of_z at c.in-Some-first_through.ensures in
     opened_holds p c.args.scores.now c.args.arguments.now c.args.factors.now c.args.from c.args.to (laid at) line c.in-Some.ensures
-    (λ arguments factors from. IsFirstEnd p arguments factors from c.args.to c.args.total place)
-    (first_left p c.args.scores.now line.arguments line.from c.args.to line.boundary (whole at) c.args.total behind c.fixed_total.ensures place first)
+    (λ arguments factors from. IsFirstEnd p arguments factors from c.args.to c.args.total position)
+    (first_left p c.args.scores.now line.arguments line.from c.args.to line.boundary (whole at) c.args.total behind c.fixed_total.ensures position first)

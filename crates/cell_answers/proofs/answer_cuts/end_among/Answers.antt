@@ -5,7 +5,7 @@ use Rattle.adp_model.specs.declared.grammar.Arg.{Arg}
 use Rattle.adp_model.specs.Splits.{AtRule, FitsSpan}
 use Rattle.adp_model.specs.FirstSplit.{IsValue}
 use Rattle.adp_model.specs.Bellman.{HasBestScore}
-use Rattle.viable_splits.specs.Placing.{on_span, ArePlaces}
+use Rattle.viable_splits.specs.Placing.{on_span, ArePositions}
 use Rattle.cell_answers.specs.Entries.{HasEntry}
 use Rattle.cell_answers.specs.LaidBy.{IsFirstEnd}
 use Rattle.cell_answers.specs.Totals.{HasTotal}
@@ -14,7 +14,7 @@ use Rattle.cell_answers.proofs.FirstEnds.{AreLaid, AreSound, first_low, rest_lai
 use Rattle.cell_answers.proofs.LaidEnds.{HasTotalNowhere, none_valued, none_totalled, none_so_great, found_here, none_at_first, not_all_tried}
 use Rattle.cell_answers.proofs.Soundness.{parts_fit, same_bits, sound_by}
 use Rattle.cell_answers.proofs.answer_cuts.end_among.Goals as goal
-use Rattle.cell_answers.proofs.answer_cuts.end_among.Goals.{After-answer_is_unique, After-ends_of_first-places}
+use Rattle.cell_answers.proofs.answer_cuts.end_among.Goals.{After-answer_is_unique, After-ends_of_first-positions}
 
 -- the arguments, from the first one on
 laid : (c : After-answer_is_unique) → AreLaid c.args.behind.now.lines.now c.args.behind.now.scores.now (c.in-Some-Some.argument.now ∷ c.in-Some-Some.others.now) (c.in-Some-Some.factor.now ∷ c.in-Some-Some.more.now) c.args.from c.args.to
@@ -37,11 +37,11 @@ sound : (c : After-answer_is_unique) → AreSound c.args.behind.now.lines.now
 sound c =
     sound_by c.problem.result.now c.args.behind.now.lines.now c.problem.ensures c.admissible.ensures (c.bounds_are_sound.ensures.score c.args.behind.now.lines.now) (c.answer_is_unique.ensures c.args.behind.now.lines.now)
 
-places : (c : After-ends_of_first-places) → ArePlaces c.args.behind.now.lines.now c.in-Some-Some.argument.now c.in-Some-Some.others.now c.args.from c.args.to c.ends_of_first-places.result
-places c = c.ends_of_first-places.ensures c.in-Some-Some.argument.now c.in-Some-Some.others.now c.in-Some-Some.ensures.cases.0
+positions : (c : After-ends_of_first-positions) → ArePositions c.args.behind.now.lines.now c.in-Some-Some.argument.now c.in-Some-Some.others.now c.args.from c.args.to c.ends_of_first-positions.result
+positions c = c.ends_of_first-positions.ensures c.in-Some-Some.argument.now c.in-Some-Some.others.now c.in-Some-Some.ensures.cases.0
 
-fits : (c : After-ends_of_first-places) (end : ℕ) → c.ends_of_first-places.result.start ≤ end → end < c.ends_of_first-places.result.end → FitsSpan c.args.behind.now.lines.now (on_span c.in-Some-Some.argument.now c.args.from end)
-fits c end l m = (places c).fit end l m
+fits : (c : After-ends_of_first-positions) (end : ℕ) → c.ends_of_first-positions.result.start ≤ end → end < c.ends_of_first-positions.result.end → FitsSpan c.args.behind.now.lines.now (on_span c.in-Some-Some.argument.now c.args.from end)
+fits c end l m = (positions c).fit end l m
 
 -- what a goal has of the total: its bits, read back
 total_is : (c : After-answer_is_unique) → to_z w64 (of_z w64 c.args.total) ≡ c.args.total
@@ -52,17 +52,17 @@ Nowhere c bound total = HasTotalNowhere c.args.behind.now.lines.now c.in-Some-So
 
 pub loop-end-init : goal.loop-end-init
 loop-end-init c =
-    let at = (goal.at.loop-end-init c).After-ends_of_first-places in
+    let at = (goal.at.loop-end-init c).After-ends_of_first-positions in
     let begun = (goal.at.loop-end-init c).After-answer_is_unique in
-    subst (Nowhere begun c.ends_of_first-places.result.start) (sym (total_is begun))
-    (none_at_first c.args.behind.now.lines.now c.args.behind.now.scores.now (sound begun) c.in-Some-Some.argument.now c.in-Some-Some.others.now c.in-Some-Some.factor.now c.in-Some-Some.more.now c.args.from c.args.to c.args.total (laid begun) (greatest begun) c.ends_of_first-places.result (places at))
+    subst (Nowhere begun c.ends_of_first-positions.result.start) (sym (total_is begun))
+    (none_at_first c.args.behind.now.lines.now c.args.behind.now.scores.now (sound begun) c.in-Some-Some.argument.now c.in-Some-Some.others.now c.in-Some-Some.factor.now c.in-Some-Some.more.now c.args.from c.args.to c.args.total (laid begun) (greatest begun) c.ends_of_first-positions.result (positions at))
 
 pub argument_value-requires-clause-fits : goal.argument_value-requires-clause-fits
-argument_value-requires-clause-fits c = fits (goal.at.argument_value-requires-clause-fits c).After-ends_of_first-places c.loop-end.end c.loop-end.auto.end c.loop-end-test.true
+argument_value-requires-clause-fits c = fits (goal.at.argument_value-requires-clause-fits c).After-ends_of_first-positions c.loop-end.end c.loop-end.auto.end c.loop-end-test.true
 
 pub argument_value-requires-clause-low : goal.argument_value-requires-clause-low
 argument_value-requires-clause-low c =
-    let at = (goal.at.argument_value-requires-clause-low c).After-ends_of_first-places in
+    let at = (goal.at.argument_value-requires-clause-low c).After-ends_of_first-positions in
     let begun = (goal.at.argument_value-requires-clause-low c).After-answer_is_unique in
     first_low c.args.behind.now.lines.now c.args.behind.now.scores.now c.in-Some-Some.argument.now c.in-Some-Some.others.now c.in-Some-Some.factor.now c.in-Some-Some.more.now c.args.from c.args.to (laid begun) c.loop-end.end (fits at c.loop-end.end c.loop-end.auto.end c.loop-end-test.true)
 
@@ -75,7 +75,7 @@ after c bound it = subst (Nowhere c bound) (sym (total_is c)) it
 
 pub loop-end-preserved-in_default-argument_value : goal.loop-end-preserved-in_default-argument_value
 loop-end-preserved-in_default-argument_value c =
-    let at = (goal.at.loop-end-preserved-in_default-argument_value c).After-ends_of_first-places in
+    let at = (goal.at.loop-end-preserved-in_default-argument_value c).After-ends_of_first-positions in
     let begun = (goal.at.loop-end-preserved-in_default-argument_value c).After-answer_is_unique in
     let end = c.loop-end.end in
     after begun (end + 1)
@@ -84,7 +84,7 @@ loop-end-preserved-in_default-argument_value c =
 
 pub loop-end-preserved-in_default-greatest_total : goal.loop-end-preserved-in_default-greatest_total
 loop-end-preserved-in_default-greatest_total c =
-    let at = (goal.at.loop-end-preserved-in_default-greatest_total c).After-ends_of_first-places in
+    let at = (goal.at.loop-end-preserved-in_default-greatest_total c).After-ends_of_first-positions in
     let begun = (goal.at.loop-end-preserved-in_default-greatest_total c).After-answer_is_unique in
     let end = c.loop-end.end in
     after begun (end + 1)
@@ -92,23 +92,23 @@ loop-end-preserved-in_default-greatest_total c =
     (fits at end c.loop-end.auto.end c.loop-end-test.true) c.in_default-greatest_total.ensures)
 
 -- the arguments behind an end
-rest : (c : After-answer_is_unique) (range : Range ℕ) → ArePlaces c.args.behind.now.lines.now c.in-Some-Some.argument.now c.in-Some-Some.others.now c.args.from c.args.to range → (end : ℕ) → range.start ≤ end → end < range.end → AreLaid c.args.behind.now.lines.now c.args.behind.now.scores.now c.in-Some-Some.others.now c.in-Some-Some.more.now end c.args.to
+rest : (c : After-answer_is_unique) (range : Range ℕ) → ArePositions c.args.behind.now.lines.now c.in-Some-Some.argument.now c.in-Some-Some.others.now c.args.from c.args.to range → (end : ℕ) → range.start ≤ end → end < range.end → AreLaid c.args.behind.now.lines.now c.args.behind.now.scores.now c.in-Some-Some.others.now c.in-Some-Some.more.now end c.args.to
 rest c range are end l m = rest_laid c.args.behind.now.lines.now c.args.behind.now.scores.now c.in-Some-Some.argument.now c.in-Some-Some.others.now c.in-Some-Some.factor.now c.in-Some-Some.more.now c.args.from c.args.to (laid c) end (are.fit end l m) (omega (arith, are.up_to_last, m))
 
 pub greatest_total-requires-clause-weighted : goal.greatest_total-requires-clause-weighted
 greatest_total-requires-clause-weighted c =
     let it = goal.at.greatest_total-requires-clause-weighted c in
-    (rest it.After-answer_is_unique c.ends_of_first-places.result (places it.After-ends_of_first-places) c.loop-end.end c.loop-end.auto.end c.loop-end-test.true).weighted
+    (rest it.After-answer_is_unique c.ends_of_first-positions.result (positions it.After-ends_of_first-positions) c.loop-end.end c.loop-end.auto.end c.loop-end-test.true).weighted
 
 pub greatest_total-requires-clause-scored : goal.greatest_total-requires-clause-scored
 greatest_total-requires-clause-scored c =
     let it = goal.at.greatest_total-requires-clause-scored c in
-    (rest it.After-answer_is_unique c.ends_of_first-places.result (places it.After-ends_of_first-places) c.loop-end.end c.loop-end.auto.end c.loop-end-test.true).scored
+    (rest it.After-answer_is_unique c.ends_of_first-positions.result (positions it.After-ends_of_first-positions) c.loop-end.end c.loop-end.auto.end c.loop-end-test.true).scored
 
 pub greatest_total-requires-clause-low : goal.greatest_total-requires-clause-low
 greatest_total-requires-clause-low c =
     let it = goal.at.greatest_total-requires-clause-low c in
-    (rest it.After-answer_is_unique c.ends_of_first-places.result (places it.After-ends_of_first-places) c.loop-end.end c.loop-end.auto.end c.loop-end-test.true).low
+    (rest it.After-answer_is_unique c.ends_of_first-positions.result (positions it.After-ends_of_first-positions) c.loop-end.end c.loop-end.auto.end c.loop-end-test.true).low
 
 -- the product of the first argument and the total from an end on fit
 fitting : (c : After-answer_is_unique) (end : ℕ) → FitsSpan c.args.behind.now.lines.now (on_span c.in-Some-Some.argument.now c.args.from end) → (value : ℤ) → (AtRule (HasEntry c.args.behind.now.scores.now) (on_span c.in-Some-Some.argument.now c.args.from end) → IsValue c.args.behind.now.lines.now (HasBestScore c.args.behind.now.lines.now) (on_span c.in-Some-Some.argument.now c.args.from end) value)
@@ -117,7 +117,7 @@ fitting c end end_fits value told rest total = parts_fit c.args.behind.now.lines
 
 pub overflow_mul-factor : goal.overflow_mul-factor
 overflow_mul-factor c =
-    let at = (goal.at.overflow_mul-factor c).After-ends_of_first-places in
+    let at = (goal.at.overflow_mul-factor c).After-ends_of_first-positions in
     let begun = (goal.at.overflow_mul-factor c).After-answer_is_unique in
     let end = c.loop-end.end in
     let end_fits = fits at end c.loop-end.auto.end c.loop-end-test.true in
@@ -131,7 +131,7 @@ overflow_mul-factor c =
 
 pub overflow_add-factor : goal.overflow_add-factor
 overflow_add-factor c =
-    let at = (goal.at.overflow_add-factor c).After-ends_of_first-places in
+    let at = (goal.at.overflow_add-factor c).After-ends_of_first-positions in
     let begun = (goal.at.overflow_add-factor c).After-answer_is_unique in
     let end = c.loop-end.end in
     let end_fits = fits at end c.loop-end.auto.end c.loop-end-test.true in
@@ -147,7 +147,7 @@ overflow_add-factor c =
 
 pub returns-then-factor-value : goal.returns-then-factor-value
 returns-then-factor-value c =
-    let at = (goal.at.returns-then-factor-value c).After-ends_of_first-places in
+    let at = (goal.at.returns-then-factor-value c).After-ends_of_first-positions in
     let begun = (goal.at.returns-then-factor-value c).After-answer_is_unique in
     let end = c.loop-end.end in
     let end_fits = fits at end c.loop-end.auto.end c.loop-end-test.true in
@@ -172,7 +172,7 @@ returns-then-factor-value c =
 
 pub loop-end-preserved : goal.loop-end-preserved
 loop-end-preserved c =
-    let at = (goal.at.loop-end-preserved c).After-ends_of_first-places in
+    let at = (goal.at.loop-end-preserved c).After-ends_of_first-positions in
     let begun = (goal.at.loop-end-preserved c).After-answer_is_unique in
     let end = c.loop-end.end in
     let end_fits = fits at end c.loop-end.auto.end c.loop-end-test.true in
@@ -192,6 +192,6 @@ loop-end-preserved c =
 
 pub unreachable-requires-2 : goal.unreachable-requires-2
 unreachable-requires-2 c =
-    let at = (goal.at.unreachable-requires-2 c).After-ends_of_first-places in
+    let at = (goal.at.unreachable-requires-2 c).After-ends_of_first-positions in
     let begun = (goal.at.unreachable-requires-2 c).After-answer_is_unique in
-    not_all_tried c.args.behind.now.lines.now c.args.behind.now.scores.now (sound begun) c.in-Some-Some.argument.now c.in-Some-Some.others.now c.in-Some-Some.factor.now c.in-Some-Some.more.now c.args.from c.args.to c.args.total (laid begun) (greatest begun) c.ends_of_first-places.result (places at) c.loop-end.end c.loop-end-test.false (before begun c.loop-end.end c.loop-end.invariant)
+    not_all_tried c.args.behind.now.lines.now c.args.behind.now.scores.now (sound begun) c.in-Some-Some.argument.now c.in-Some-Some.others.now c.in-Some-Some.factor.now c.in-Some-Some.more.now c.args.from c.args.to c.args.total (laid begun) (greatest begun) c.ends_of_first-positions.result (positions at) c.loop-end.end c.loop-end-test.false (before begun c.loop-end.end c.loop-end.invariant)

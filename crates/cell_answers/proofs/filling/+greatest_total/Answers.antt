@@ -8,7 +8,7 @@ use Rattle.split_lines.specs.Lines.{IsLine}
 use Rattle.adp_model.specs.Splits.{AtRule, FitsSpan}
 use Rattle.adp_model.specs.FirstSplit.{IsValue}
 use Rattle.adp_model.specs.Bellman.{HasBestScore}
-use Rattle.viable_splits.specs.Placing.{on_span, ArePlaces, Cover}
+use Rattle.viable_splits.specs.Placing.{on_span, ArePositions, Cover}
 use Rattle.cell_answers.specs.Entries.{HasEntry}
 use Rattle.cell_answers.specs.Totals.{HasTotal}
 use Rattle.score_numbers.specs.Greatest.{IsGreatestOf}
@@ -17,7 +17,7 @@ use Rattle.split_lines.specs.Ends.{IsEndTold}
 use Rattle.cell_answers.proofs.OneEnds.{none_ends, one_ends, total_nowhere, none_from, greatest_from, fixed_value, empty_without}
 use Rattle.cell_answers.proofs.Soundness.{parts_fit, sound_by}
 use Rattle.cell_answers.proofs.filling.+greatest_total.Goals as goal
-use Rattle.cell_answers.proofs.filling.+greatest_total.Goals.{After-answer_is_unique, After-ends_of_first-places, After-token_value, In_ok-end}
+use Rattle.cell_answers.proofs.filling.+greatest_total.Goals.{After-answer_is_unique, After-ends_of_first-positions, After-token_value, In_ok-end}
 
 -- the arguments, from the first one on
 laid : (t : ℕ) (c : After-answer_is_unique t) → AreLaid c.args.known.now.lines.now c.args.known.now.scores.now (c.in-Some-Some.argument.now ∷ c.in-Some-Some.others.now) (c.in-Some-Some.factor.now ∷ c.in-Some-Some.factors.now) c.args.from c.args.to
@@ -33,32 +33,32 @@ sound : (t : ℕ) (c : After-answer_is_unique t) → AreSound c.args.known.now.l
 sound t c =
     sound_by c.problem.result.now c.args.known.now.lines.now c.problem.ensures c.admissible.ensures (c.bounds_are_sound.ensures.score c.args.known.now.lines.now) (c.answer_is_unique.ensures c.args.known.now.lines.now)
 
-places : (t : ℕ) (c : After-ends_of_first-places t) → ArePlaces c.args.known.now.lines.now c.in-Some-Some.argument.now c.in-Some-Some.others.now c.args.from c.args.to c.ends_of_first-places.result
-places t c = c.ends_of_first-places.ensures c.in-Some-Some.argument.now c.in-Some-Some.others.now c.in-Some-Some.ensures.cases.0
+positions : (t : ℕ) (c : After-ends_of_first-positions t) → ArePositions c.args.known.now.lines.now c.in-Some-Some.argument.now c.in-Some-Some.others.now c.args.from c.args.to c.ends_of_first-positions.result
+positions t c = c.ends_of_first-positions.ensures c.in-Some-Some.argument.now c.in-Some-Some.others.now c.in-Some-Some.ensures.cases.0
 
-fits : (t : ℕ) (c : After-ends_of_first-places t) (end : ℕ) → c.ends_of_first-places.result.start ≤ end → end < c.ends_of_first-places.result.end → FitsSpan c.args.known.now.lines.now (on_span c.in-Some-Some.argument.now c.args.from end)
-fits t c end l m = (places t c).fit end l m
+fits : (t : ℕ) (c : After-ends_of_first-positions t) (end : ℕ) → c.ends_of_first-positions.result.start ≤ end → end < c.ends_of_first-positions.result.end → FitsSpan c.args.known.now.lines.now (on_span c.in-Some-Some.argument.now c.args.from end)
+fits t c end l m = (positions t c).fit end l m
 
 pub loop-end-init : goal.loop-end-init
 loop-end-init t c =
-    let at = (goal.at.loop-end-init t c).After-ends_of_first-places in
-    none_first c.args.known.now.lines.now c.in-Some-Some.argument.now c.in-Some-Some.others.now c.in-Some-Some.factor.now c.in-Some-Some.factors.now c.args.from c.args.to c.ends_of_first-places.result (places t at)
+    let at = (goal.at.loop-end-init t c).After-ends_of_first-positions in
+    none_first c.args.known.now.lines.now c.in-Some-Some.argument.now c.in-Some-Some.others.now c.in-Some-Some.factor.now c.in-Some-Some.factors.now c.args.from c.args.to c.ends_of_first-positions.result (positions t at)
 
 pub argument_value-requires-clause-fits : goal.argument_value-requires-clause-fits
-argument_value-requires-clause-fits t c = fits t (goal.at.argument_value-requires-clause-fits t c).After-ends_of_first-places c.loop-end.end c.loop-end.auto.end c.loop-end-test.true
+argument_value-requires-clause-fits t c = fits t (goal.at.argument_value-requires-clause-fits t c).After-ends_of_first-positions c.loop-end.end c.loop-end.auto.end c.loop-end-test.true
 
 pub argument_value-requires-clause-low : goal.argument_value-requires-clause-low
 argument_value-requires-clause-low t c =
-    let at = (goal.at.argument_value-requires-clause-low t c).After-ends_of_first-places in
+    let at = (goal.at.argument_value-requires-clause-low t c).After-ends_of_first-positions in
     let begun = (goal.at.argument_value-requires-clause-low t c).After-answer_is_unique in
     first_low c.args.known.now.lines.now c.args.known.now.scores.now c.in-Some-Some.argument.now c.in-Some-Some.others.now c.in-Some-Some.factor.now c.in-Some-Some.factors.now c.args.from c.args.to (laid t begun) c.loop-end.end
     (fits t at c.loop-end.end c.loop-end.auto.end c.loop-end-test.true)
 
 pub returns : goal.returns
 returns t c =
-    let at = (goal.at.returns t c).After-ends_of_first-places in
+    let at = (goal.at.returns t c).After-ends_of_first-positions in
     let p = c.args.known.now.lines.now in
-    let found = all_found p c.in-Some-Some.argument.now c.in-Some-Some.others.now c.in-Some-Some.factor.now c.in-Some-Some.factors.now c.args.from c.args.to c.ends_of_first-places.result (places t at) c.loop-end.end c.loop-end.greatest c.loop-end-test.false c.loop-end.invariant in
+    let found = all_found p c.in-Some-Some.argument.now c.in-Some-Some.others.now c.in-Some-Some.factor.now c.in-Some-Some.factors.now c.args.from c.args.to c.ends_of_first-positions.result (positions t at) c.loop-end.end c.loop-end.greatest c.loop-end-test.false c.loop-end.invariant in
     let A : List Arg → Type 0 = λ arguments. IsGreatestOf (HasTotal p (HasBestScore p) arguments (c.in-Some-Some.factor.now ∷ c.in-Some-Some.factors.now) c.args.from c.args.to) c.loop-end.greatest in
     let F : List ℤ → Type 0 = λ factors. IsGreatestOf (HasTotal p (HasBestScore p) c.args.arguments.now factors c.args.from c.args.to) c.loop-end.greatest in
     subst F (sym c.in-Some-Some.ensures'.cases.0) (subst A (sym c.in-Some-Some.ensures.cases.0) found)
@@ -71,11 +71,11 @@ later_line t c =
 
 pub greatest_total-requires-in-loop-end : goal.greatest_total-requires-in-loop-end
 greatest_total-requires-in-loop-end t c =
-    let at = (goal.at.greatest_total-requires-in-loop-end t c).After-ends_of_first-places in
+    let at = (goal.at.greatest_total-requires-in-loop-end t c).After-ends_of_first-positions in
     let begun = (goal.at.greatest_total-requires-in-loop-end t c).After-answer_is_unique in
     let p = c.args.known.now.lines.now in
     let end = c.loop-end.end in
-    let l : end ≤ c.args.to = omega (arith, (places t at).up_to_last, c.loop-end-test.true) in
+    let l : end ≤ c.args.to = omega (arith, (positions t at).up_to_last, c.loop-end-test.true) in
     let rest = rest_laid p c.args.known.now.scores.now c.in-Some-Some.argument.now c.in-Some-Some.others.now c.in-Some-Some.factor.now c.in-Some-Some.factors.now c.args.from c.args.to (laid t begun) end (fits t at end c.loop-end.auto.end c.loop-end-test.true) l in
     let fewer = c.in-Some-Some.ensures.cases.1 in
     let N : ℕ → Type 0 = λ n. IfSome c.args.known.now.line (λ line. IsLine p (drop n c.in-Some-Some.others.now) line) in
@@ -89,7 +89,7 @@ fitting t c end end_fits value told rest total = parts_fit c.args.known.now.line
 
 pub overflow_mul-factor : goal.overflow_mul-factor
 overflow_mul-factor t c =
-    let at = (goal.at.overflow_mul-factor t c).After-ends_of_first-places in
+    let at = (goal.at.overflow_mul-factor t c).After-ends_of_first-positions in
     let begun = (goal.at.overflow_mul-factor t c).After-answer_is_unique in
     let end = c.loop-end.end in
     let end_fits = fits t at end c.loop-end.auto.end c.loop-end-test.true in
@@ -103,7 +103,7 @@ overflow_mul-factor t c =
 
 pub overflow_add-factor : goal.overflow_add-factor
 overflow_add-factor t c =
-    let at = (goal.at.overflow_add-factor t c).After-ends_of_first-places in
+    let at = (goal.at.overflow_add-factor t c).After-ends_of_first-positions in
     let begun = (goal.at.overflow_add-factor t c).After-answer_is_unique in
     let end = c.loop-end.end in
     let end_fits = fits t at end c.loop-end.auto.end c.loop-end-test.true in
@@ -119,7 +119,7 @@ overflow_add-factor t c =
 
 pub loop-end-preserved : goal.loop-end-preserved
 loop-end-preserved t c =
-    let at = (goal.at.loop-end-preserved t c).After-ends_of_first-places in
+    let at = (goal.at.loop-end-preserved t c).After-ends_of_first-positions in
     let begun = (goal.at.loop-end-preserved t c).After-answer_is_unique in
     let end = c.loop-end.end in
     let end_fits = fits t at end c.loop-end.auto.end c.loop-end-test.true in
@@ -137,7 +137,7 @@ loop-end-preserved t c =
 
 pub loop-end-preserved-in_default-argument_value : goal.loop-end-preserved-in_default-argument_value
 loop-end-preserved-in_default-argument_value t c =
-    let at = (goal.at.loop-end-preserved-in_default-argument_value t c).After-ends_of_first-places in
+    let at = (goal.at.loop-end-preserved-in_default-argument_value t c).After-ends_of_first-positions in
     let begun = (goal.at.loop-end-preserved-in_default-argument_value t c).After-answer_is_unique in
     let end = c.loop-end.end in
     unvalued_more c.args.known.now.lines.now c.args.known.now.scores.now c.in-Some-Some.argument.now c.in-Some-Some.others.now c.in-Some-Some.factor.now c.in-Some-Some.factors.now c.args.from c.args.to (laid t begun) end (fits t at end c.loop-end.auto.end c.loop-end-test.true)
@@ -145,7 +145,7 @@ loop-end-preserved-in_default-argument_value t c =
 
 pub loop-end-preserved-in_default-greatest_total : goal.loop-end-preserved-in_default-greatest_total
 loop-end-preserved-in_default-greatest_total t c =
-    let at = (goal.at.loop-end-preserved-in_default-greatest_total t c).After-ends_of_first-places in
+    let at = (goal.at.loop-end-preserved-in_default-greatest_total t c).After-ends_of_first-positions in
     let begun = (goal.at.loop-end-preserved-in_default-greatest_total t c).After-answer_is_unique in
     let end = c.loop-end.end in
     untotalled_more c.args.known.now.lines.now c.args.known.now.scores.now c.in-Some-Some.argument.now c.in-Some-Some.others.now c.in-Some-Some.factor.now c.in-Some-Some.factors.now c.args.from c.args.to (laid t begun) end (fits t at end c.loop-end.auto.end c.loop-end-test.true)

@@ -22,7 +22,7 @@ sound : (c : After-answer_is_unique) → AreSound c.args.lines.now
 sound c =
     sound_by c.problem.result.now c.args.lines.now c.problem.ensures c.admissible.ensures (c.bounds_are_sound.ensures.score c.args.lines.now) (c.answer_is_unique.ensures c.args.lines.now)
 
--- it can end at one place alone
+-- it can end at one position alone
 only : (c : After-answer_is_unique) (other : ℕ) → FitsSpan c.args.lines.now (on_span c.args.argument.now c.args.from other) → Cover c.args.lines.now [] other c.args.to → other ≡ c.args.to
 only c other fits cover = cover
 

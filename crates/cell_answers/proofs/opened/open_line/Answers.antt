@@ -17,7 +17,7 @@ use Rattle.cell_answers.specs.ArgumentEntries.{entries_of}
 use Rattle.cell_answers.specs.Opened.{parts_with}
 use Rattle.cell_answers.specs.Totals.{HasTotal}
 use Rattle.cell_answers.proofs.FirstEnds.{AreLaid, at_rule}
-use Rattle.cell_answers.proofs.WholeLines.{IsWhole, IsFront, whole_front, place_within, first_entry, second_entry, none_without_place, entry_among, some_value_at, between_ends, first_stands, last_stands}
+use Rattle.cell_answers.proofs.WholeLines.{IsWhole, IsFront, whole_front, position_within, first_entry, second_entry, none_without_position, entry_among, some_value_at, between_ends, first_stands, last_stands}
 use Rattle.cell_answers.proofs.opened.open_line.Goals as goal
 use Rattle.cell_answers.proofs.opened.open_line.Goals.{After-line_arguments-arguments}
 
@@ -45,33 +45,33 @@ whole c =
       each = c.line_arguments-arguments.ensures.middle_each;
       middle_fixed = subst (λ (parts : LineParts). AllByRecursion IsFixed parts.middle) (parts_are c) c.requires.line.has_line.parts.middle_fixed;
       tail_fixed = subst (λ (parts : LineParts). AllByRecursion IsFixed parts.tail) (parts_are c) c.requires.line.has_line.parts.tail_fixed;
-      places = subst (λ (parts : LineParts). AreBoundaries p parts c.args.from c.args.to boundary.letters boundary.last boundary.places.now) (parts_are c) c.boundary-boundary.ensures.boundaries;
+      positions = subst (λ (parts : LineParts). AreBoundaries p parts c.args.from c.args.to boundary.letters boundary.last boundary.positions.now) (parts_are c) c.boundary-boundary.ensures.boundaries;
     }
 
 abbrev Stands : After-line_arguments-arguments → ℕ → Type 0
-Stands c place = Contains c.boundary-boundary.result.places.now place
+Stands c position = Contains c.boundary-boundary.result.positions.now position
 
-front : (c : After-line_arguments-arguments) (place : ℕ) → Stands c place → IsFront c.args.lines.now c.line_arguments-arguments.result c.args.from c.boundary-boundary.result
+front : (c : After-line_arguments-arguments) (position : ℕ) → Stands c position → IsFront c.args.lines.now c.line_arguments-arguments.result c.args.from c.boundary-boundary.result
 front c = whole_front c.args.lines.now c.args.scores.now c.line_arguments-arguments.result c.args.from c.args.to c.boundary-boundary.result (whole c)
 
-within : (c : After-line_arguments-arguments) (place : ℕ) → Stands c place → (place + c.boundary-boundary.result.letters ≤ c.boundary-boundary.result.last) × (c.boundary-boundary.result.last ≤ length c.args.lines.now.word)
-within c = place_within c.args.lines.now c.args.scores.now c.line_arguments-arguments.result c.args.from c.args.to c.boundary-boundary.result (whole c)
+within : (c : After-line_arguments-arguments) (position : ℕ) → Stands c position → (position + c.boundary-boundary.result.letters ≤ c.boundary-boundary.result.last) × (c.boundary-boundary.result.last ≤ length c.args.lines.now.word)
+within c = position_within c.args.lines.now c.args.scores.now c.line_arguments-arguments.result c.args.from c.args.to c.boundary-boundary.result (whole c)
 
-first_has : (c : After-line_arguments-arguments) (place : ℕ) → Stands c place → (rule : ℕ) → c.line_arguments-arguments.result.first.now ≡ Rule rule → HasEntry c.args.scores.now (record { rule = rule; from = c.args.from; to = place })
+first_has : (c : After-line_arguments-arguments) (position : ℕ) → Stands c position → (rule : ℕ) → c.line_arguments-arguments.result.first.now ≡ Rule rule → HasEntry c.args.scores.now (record { rule = rule; from = c.args.from; to = position })
 first_has c = first_entry c.args.lines.now c.args.scores.now c.line_arguments-arguments.result c.args.from c.args.to c.boundary-boundary.result (whole c)
 
-second_has : (c : After-line_arguments-arguments) (place : ℕ) → Stands c place → (rule : ℕ) → c.line_arguments-arguments.result.second.now ≡ Rule rule → HasEntry c.args.scores.now (record { rule = rule; from = place + c.boundary-boundary.result.letters; to = c.boundary-boundary.result.last })
+second_has : (c : After-line_arguments-arguments) (position : ℕ) → Stands c position → (rule : ℕ) → c.line_arguments-arguments.result.second.now ≡ Rule rule → HasEntry c.args.scores.now (record { rule = rule; from = position + c.boundary-boundary.result.letters; to = c.boundary-boundary.result.last })
 second_has c = second_entry c.args.lines.now c.args.scores.now c.line_arguments-arguments.result c.args.from c.args.to c.boundary-boundary.result (whole c)
 
 not_zero : (n : ℕ) → false ≡ (n == 0) → 0 < n
 not_zero zero e = absurd (false≢true e)
 not_zero (suc n) e = omega arith
 
-low_stands : (c : After-line_arguments-arguments) → 0 < length c.boundary-boundary.result.places.now → Stands c (get_or c.boundary-boundary.result.places.now 0 0)
-low_stands c = first_stands c.boundary-boundary.result.places.now
+low_stands : (c : After-line_arguments-arguments) → 0 < length c.boundary-boundary.result.positions.now → Stands c (get_or c.boundary-boundary.result.positions.now 0 0)
+low_stands c = first_stands c.boundary-boundary.result.positions.now
 
-high_stands : (c : After-line_arguments-arguments) → 0 < length c.boundary-boundary.result.places.now → Stands c (get_or c.boundary-boundary.result.places.now (length c.boundary-boundary.result.places.now - 1) 0)
-high_stands c = last_stands c.boundary-boundary.result.places.now
+high_stands : (c : After-line_arguments-arguments) → 0 < length c.boundary-boundary.result.positions.now → Stands c (get_or c.boundary-boundary.result.positions.now (length c.boundary-boundary.result.positions.now - 1) 0)
+high_stands c = last_stands c.boundary-boundary.result.positions.now
 
 few_letters : (c : After-line_arguments-arguments) → length c.args.lines.now.word ≤ 4000
 few_letters c = omega (arith, c.admissible.ensures.limits.letters, ap (λ (p : PosedProblem). length p.word) c.problem.ensures)
@@ -81,14 +81,14 @@ returns-then-is_empty c =
     let at = (goal.at.returns-then-is_empty c).After-line_arguments-arguments in
     let p = c.args.lines.now in
     let it = c.line_arguments-arguments.result in
-    let empty : c.boundary-boundary.result.places.now ≡ [] = is_none c.boundary-boundary.result.places.now c.if-is_empty.ensures in
+    let empty : c.boundary-boundary.result.positions.now ≡ [] = is_none c.boundary-boundary.result.positions.now c.if-is_empty.ensures in
     subst (λ xs. (total : ℤ) → HasTotal p (HasBestScore p) xs c.args.factors.now c.args.from c.args.to total → ⊥) (sym (arguments_are at))
     (subst (λ ys. (total : ℤ) → HasTotal p (HasBestScore p) (it.first.now ∷ (it.middle.now ++ it.second.now ∷ it.tail.now)) ys c.args.from c.args.to total → ⊥) (sym c.line_arguments-arguments.ensures.factors)
-    (none_without_place p c.args.scores.now it c.args.from c.args.to c.boundary-boundary.result (whole at) empty))
+    (none_without_position p c.args.scores.now it c.args.from c.args.to c.boundary-boundary.result (whole at) empty))
   where
-    is_none : (places : List ℕ) → true ≡ (length places == 0) → places ≡ []
+    is_none : (positions : List ℕ) → true ≡ (length positions == 0) → positions ≡ []
     is_none [] e = refl
-    is_none (place ∷ places) e = absurd (let none : suc (length places) ≡ 0 = eqb-true _ _ (sym e) in omega arith)
+    is_none (position ∷ positions) e = absurd (let none : suc (length positions) ≡ 0 = eqb-true _ _ (sym e) in omega arith)
 
 pub entries-row-requires-clause-short : goal.entries-row-requires-clause-short
 entries-row-requires-clause-short c =
@@ -139,7 +139,7 @@ returns c =
         weighted = front.weighted;
         middle_each = c.line_arguments-arguments.ensures.middle_each;
         middle_fixed = (whole at).middle_fixed;
-        boundary = front.places;
+        boundary = front.positions;
         limits = c.boundary-boundary.ensures.limits;
         low = front.low;
         common = c.entries-column.ensures.first ∙ ap (λ first. first + c.boundary-boundary.result.letters) (sym c.entries-row.ensures.first);
@@ -152,7 +152,7 @@ returns c =
       factors_are = c.line_arguments-arguments.ensures.factors;
       tail_fixed = (whole at).tail_fixed;
       begins = refl;
-      boundary = (whole at).places;
+      boundary = (whole at).positions;
       some = some;
     }
   where
@@ -162,36 +162,36 @@ returns c =
     p : PosedProblem
     p = c.args.lines.now
 
-    row : (place : ℕ) → Stands at place → AtRule (HasEntryAt p (entries_of c.entries-row.result) c.entries-row.result.first place) (on_span c.line_arguments-arguments.result.first.now c.args.from place)
-    row place stands =
+    row : (position : ℕ) → Stands at position → AtRule (HasEntryAt p (entries_of c.entries-row.result) c.entries-row.result.first position) (on_span c.line_arguments-arguments.result.first.now c.args.from position)
+    row position stands =
         let scores = entries_of c.entries-row.result in
-        let low = get_or c.boundary-boundary.result.places.now 0 0 in
-        let ends = between_ends c.boundary-boundary.result.places.now place c.boundary-boundary.ensures.boundaries.rising stands in
-        let N : ℕ → Type 0 = λ first. AtRule (HasEntryAt p scores first place) (on_span c.line_arguments-arguments.result.first.now c.args.from place) in
+        let low = get_or c.boundary-boundary.result.positions.now 0 0 in
+        let ends = between_ends c.boundary-boundary.result.positions.now position c.boundary-boundary.ensures.boundaries.rising stands in
+        let N : ℕ → Type 0 = λ first. AtRule (HasEntryAt p scores first position) (on_span c.line_arguments-arguments.result.first.now c.args.from position) in
         subst N (sym c.entries-row.ensures.first)
-        (at_rule (HasEntryAt p scores low place) c.line_arguments-arguments.result.first.now c.args.from place (λ rule is.
-        let entry = first_has at place stands rule is in
-        let cell : Cell = record { rule = rule; from = c.args.from; to = place } in
-        entry_among p c.args.scores.now.rows rule c.args.from low place entry.entry scores cell ends.0
-        (c.entries-row.ensures.values rule place is ends.0 ends.1)
+        (at_rule (HasEntryAt p scores low position) c.line_arguments-arguments.result.first.now c.args.from position (λ rule is.
+        let entry = first_has at position stands rule is in
+        let cell : Cell = record { rule = rule; from = c.args.from; to = position } in
+        entry_among p c.args.scores.now.rows rule c.args.from low position entry.entry scores cell ends.0
+        (c.entries-row.ensures.values rule position is ends.0 ends.1)
         entry.in_row
         (subst (λ (problem : PosedProblem). IsEntry problem cell entry.entry) c.requires.same_problem entry.is_entry)))
 
-    column : (place : ℕ) → Stands at place → AtRule (HasEntryAt p (entries_of c.entries-column.result) c.entries-column.result.first (place + c.boundary-boundary.result.letters)) (on_span c.line_arguments-arguments.result.second.now (place + c.boundary-boundary.result.letters) c.boundary-boundary.result.last)
-    column place stands =
+    column : (position : ℕ) → Stands at position → AtRule (HasEntryAt p (entries_of c.entries-column.result) c.entries-column.result.first (position + c.boundary-boundary.result.letters)) (on_span c.line_arguments-arguments.result.second.now (position + c.boundary-boundary.result.letters) c.boundary-boundary.result.last)
+    column position stands =
         let scores = entries_of c.entries-column.result in
         let letters = c.boundary-boundary.result.letters in
         let last = c.boundary-boundary.result.last in
-        let ends = between_ends c.boundary-boundary.result.places.now place c.boundary-boundary.ensures.boundaries.rising stands in
-        let begin : ℕ = get_or c.boundary-boundary.result.places.now 0 0 + letters in
-        let low : begin ≤ place + letters = omega (arith, ends.0) in
-        let high : place + letters ≤ get_or c.boundary-boundary.result.places.now (length c.boundary-boundary.result.places.now - 1) 0 + letters = omega (arith, ends.1) in
-        let N : ℕ → Type 0 = λ first. AtRule (HasEntryAt p scores first (place + letters)) (on_span c.line_arguments-arguments.result.second.now (place + letters) last) in
+        let ends = between_ends c.boundary-boundary.result.positions.now position c.boundary-boundary.ensures.boundaries.rising stands in
+        let begin : ℕ = get_or c.boundary-boundary.result.positions.now 0 0 + letters in
+        let low : begin ≤ position + letters = omega (arith, ends.0) in
+        let high : position + letters ≤ get_or c.boundary-boundary.result.positions.now (length c.boundary-boundary.result.positions.now - 1) 0 + letters = omega (arith, ends.1) in
+        let N : ℕ → Type 0 = λ first. AtRule (HasEntryAt p scores first (position + letters)) (on_span c.line_arguments-arguments.result.second.now (position + letters) last) in
         subst N (sym c.entries-column.ensures.first)
-        (at_rule (HasEntryAt p scores begin (place + letters)) c.line_arguments-arguments.result.second.now (place + letters) last (λ rule is.
-        let entry = second_has at place stands rule is in
-        let cell : Cell = record { rule = rule; from = place + letters; to = last } in
-        entry_among p c.args.scores.now.columns rule last begin (place + letters) entry.entry scores cell low
-        (c.entries-column.ensures.values rule (place + letters) is low high)
+        (at_rule (HasEntryAt p scores begin (position + letters)) c.line_arguments-arguments.result.second.now (position + letters) last (λ rule is.
+        let entry = second_has at position stands rule is in
+        let cell : Cell = record { rule = rule; from = position + letters; to = last } in
+        entry_among p c.args.scores.now.columns rule last begin (position + letters) entry.entry scores cell low
+        (c.entries-column.ensures.values rule (position + letters) is low high)
         entry.in_column
         (subst (λ (problem : PosedProblem). IsEntry problem cell entry.entry) c.requires.same_problem entry.is_entry)))

@@ -29,7 +29,7 @@ returns-clause-drawn c =
     ◌≡◌ {A = List ℕ × Lcg}
     (c.turn-first.result ∷ c.turn.result ∷ c.turn-2.result ∷ c.turn-3.result ∷ [], c.turn-3.new.self)
     (drawn_turns (length (alternatives_of c.args.problem.now.grammar c.args.cell.rule) ∷ n ∷ n ∷ n ∷ []) c.args.orders.now))
-    (ap (λ n. n + 1) c.from-places.ensures)
+    (ap (λ n. n + 1) c.from-positions.ensures)
     (drawn_four _ _ _ _ _ _ _ _ _ _ _
     (subst (λ n. ◌≡◌ (c.turn-first.result, c.turn-first.new.self) (drawn_turn n c.args.orders.now)) l c.turn-first.ensures.drawn)
     c.turn.ensures.drawn c.turn-2.ensures.drawn c.turn-3.ensures.drawn)

@@ -32,8 +32,8 @@ mark_arguments-requires-in-loop-end t c =
     let argument = c.in-Some.argument.now in
     let others = c.in-Some.others.now in
     let split : all ≡ argument ∷ others = c.in-Some.ensures.cases.0 in
-    let places = c.ends_of_first-ends.ensures argument others split in
-    let fits = places.fit end c.loop-end.auto.end c.loop-end-test.true in
+    let positions = c.ends_of_first-ends.ensures argument others split in
+    let fits = positions.fit end c.loop-end.auto.end c.loop-end-test.true in
     let L : List Arg → Type 0 = λ xs. IfSome (option_copied c.args.line) (λ line. IsLine p (drop c.args.ahead xs) line) in
     let N : ℕ → Type 0 = λ n. IfSome (option_copied c.args.line) (λ line. IsLine p (drop n others) line) in
     let K : List Arg → Type 0 = λ xs. AllByRecursion (IsKnown p.grammar) xs in
@@ -51,7 +51,7 @@ mark_arguments-requires-in-loop-end t c =
             (
               omega (arith, c.requires.begin, fits.0.in_order),
               (
-                record { in_order = omega (arith, places.up_to_last, c.loop-end-test.true); in_word = c.requires.span.in_word },
+                record { in_order = omega (arith, positions.up_to_last, c.loop-end-test.true); in_word = c.requires.span.in_word },
                 (
                   c.loop-end.invariant.marked.marked.problem ∙ c.requires.same_problem,
                   λ cell demands. counted cell (end, fits, inr demands),
@@ -117,9 +117,9 @@ returns-clause-laid t c =
     let argument = c.in-Some.argument.now in
     let others = c.in-Some.others.now in
     let split : all ≡ argument ∷ others = c.in-Some.ensures.cases.0 in
-    let places = c.ends_of_first-ends.ensures argument others split in
+    let positions = c.ends_of_first-ends.ensures argument others split in
     let T : List Arg → Type 0 = λ xs. IsTrue c.loop-end.is_laid ↔ Cover p xs c.args.from c.args.to in
-    subst T (sym split) (all_covered p argument others c.args.from c.args.to c.ends_of_first-ends.result c.loop-end.end places (omega arith) c.loop-end.is_laid c.loop-end.invariant.laid)
+    subst T (sym split) (all_covered p argument others c.args.from c.args.to c.ends_of_first-ends.result c.loop-end.end positions (omega arith) c.loop-end.is_laid c.loop-end.invariant.laid)
 
 pub returns-clause-marked : goal.returns-clause-marked
 returns-clause-marked t c =
@@ -128,9 +128,9 @@ returns-clause-marked t c =
     let argument = c.in-Some.argument.now in
     let others = c.in-Some.others.now in
     let split : all ≡ argument ∷ others = c.in-Some.ensures.cases.0 in
-    let places = c.ends_of_first-ends.ensures argument others split in
+    let positions = c.ends_of_first-ends.ensures argument others split in
     let T : List Arg → Type 0 = λ xs. AreMarkedFrom c.args.begin c.args.marks.now c.loop-end.marks (Demands p xs c.args.from c.args.to) in
-    subst T (sym split) (all_marked p argument others c.args.from c.args.to c.ends_of_first-ends.result c.loop-end.end places (omega arith) c.args.begin c.args.marks.now c.loop-end.marks c.loop-end.invariant.marked)
+    subst T (sym split) (all_marked p argument others c.args.from c.args.to c.ends_of_first-ends.result c.loop-end.end positions (omega arith) c.args.begin c.args.marks.now c.loop-end.marks c.loop-end.invariant.marked)
 
 -- ---- a token in front
 

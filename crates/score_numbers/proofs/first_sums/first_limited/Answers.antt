@@ -4,7 +4,7 @@ use Rattle.std.proofs.lemmas.Int.{to_z-of_z}
 use Rattle.std.proofs.lemmas.Option.{slice_get-get_or}
 use Rattle.score_numbers.specs.Sums.{IsUnlimitedSum}
 use Rattle.score_numbers.proofs.FirstSums.{made_unlimited}
-use Rattle.score_numbers.proofs.LargestSums.{limit_fits, short_fits, some_place}
+use Rattle.score_numbers.proofs.LargestSums.{limit_fits, short_fits, some_position}
 use Rattle.score_numbers.proofs.first_sums.first_limited.Goals as goal
 use Rattle.score_numbers.proofs.first_sums.first_limited.Goals.{After-make}
 
@@ -42,5 +42,5 @@ returns c = λ k it.
     let fits_sum : FitsSigned w64 c.args.sum = search rules in
     let N : ℤ → Type 0 = λ sum. (k : ℕ) → k < c.loop-k.k → IsUnlimitedSum c.args.limits.now c.args.first.now c.args.second.now k sum → ⊥ in
     let none : N c.args.sum = simp to_z-of_z at c.loop-k.invariant in
-    let within = some_place c.args.limits.now k _ it.0 in
+    let within = some_position c.args.limits.now k _ it.0 in
     none k (omega (arith, within, c.loop-k-test.false)) it

@@ -1,6 +1,6 @@
 use Rattle.std.proofs.Common.{ℤ, List, FitsSigned, w64, rules}
 use Rattle.std.proofs.lemmas.Int.{to_z-of_z}
-use Rattle.score_numbers.specs.FirstPlaces.{IsFirstOf}
+use Rattle.score_numbers.specs.FirstPositions.{IsFirstOf}
 use Rattle.score_numbers.specs.Packing.{long}
 use Rattle.score_numbers.specs.Sums.{AreLowSums, HasScaledSum, number_at}
 use Rattle.score_numbers.proofs.LargestSums.{as_values, from_values}

@@ -1,7 +1,7 @@
 use Rattle.std.proofs.Common.{◌≡◌, ℕ, ◌+◌, ℤ, List, length, map, w64, to_z, of_z, sym, ap, subst, FitsSigned, arith, rules}
 use Rattle.std.specs.List.{Contains}
 use Rattle.std.proofs.lemmas.Int.{to_z-of_z}
-use Rattle.score_numbers.specs.FirstPlaces.{IsFirstAmong, IsFirstOf}
+use Rattle.score_numbers.specs.FirstPositions.{IsFirstAmong, IsFirstOf}
 use Rattle.score_numbers.specs.Packing.{short}
 use Rattle.score_numbers.specs.Sums.{AreLowSums, HasScaledSum, IsUnlimitedSum, number_at}
 use Rattle.score_numbers.proofs.FirstFound.{below_last}

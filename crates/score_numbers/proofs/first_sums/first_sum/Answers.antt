@@ -1,7 +1,7 @@
 use Rattle.std.proofs.Common.{◌≡◌, ℕ, ◌<◌, ℤ, length, map, get_or, FitsSigned, w64, to_z, of_z, sym, subst, ◌∙◌, arith, rules}
 use Rattle.std.proofs.lemmas.Int.{to_z-of_z}
 use Rattle.std.proofs.lemmas.List.{length-map}
-use Rattle.score_numbers.specs.FirstPlaces.{IsFirstOf}
+use Rattle.score_numbers.specs.FirstPositions.{IsFirstOf}
 use Rattle.score_numbers.specs.Sums.{AreLowSums, HasScaledSum, HasSum, number_at}
 use Rattle.score_numbers.proofs.FirstSums.{none_aligned}
 use Rattle.score_numbers.proofs.first_sums.first_sum.Given.{Over}

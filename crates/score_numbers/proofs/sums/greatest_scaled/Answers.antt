@@ -7,14 +7,14 @@ use Rattle.score_numbers.specs.Entries.{no_candidate}
 use Rattle.score_numbers.specs.Greatest.{IsGreatestOf}
 use Rattle.score_numbers.specs.Sums.{HasScaledSum, number_at}
 use Rattle.score_numbers.proofs.Greatest.{HasBefore}
-use Rattle.score_numbers.proofs.LargestSums.{AtPlace, IsLargest, SomePlace, all_scattered, largest_entry, least_entry, mark_cases, nothing_yet, read_number, scaled_marked, scaled_scored}
+use Rattle.score_numbers.proofs.LargestSums.{AtPosition, IsLargest, SomePosition, all_scattered, largest_entry, least_entry, mark_cases, nothing_yet, read_number, scaled_marked, scaled_scored}
 use Rattle.score_numbers.proofs.sums.greatest_scaled.Goals as goal
 
 pub loop-position-init : goal.loop-position-init
 loop-position-init g c =
     let Sum : ℕ → ℤ → Type 0 = HasScaledSum c.args.mark c.args.scales (map g.N.Number.value c.args.first.now) (map g.N.Number.value c.args.second.now) in
     let fits_mark : FitsSigned w64 c.args.mark = search rules in
-    simp to_z-of_z (nothing_yet least_entry (AtPlace c.args.positions Sum) no_candidate (omega (arith, ints)))
+    simp to_z-of_z (nothing_yet least_entry (AtPosition c.args.positions Sum) no_candidate (omega (arith, ints)))
 
 pub overflow_sub-number : goal.overflow_sub-number
 overflow_sub-number g c = c.requires.have.from_first (get_or c.args.positions.at.now c.loop-position.position-index 0) (Contains-get_or c.args.positions.at.now c.loop-position.position-index 0 c.loop-position-test.true)
@@ -72,9 +72,9 @@ loop-position-preserved g c =
     let max_new : new ≡ int_max old c.sum.result = to_z-of_z w64 c.max-greatest.result fits_new ∙ max in
     let marked : (a ≡ mark) ⊎ (b ≡ mark) → c.sum.result ≡ no_candidate = simp to_z-of_z at c.sum.ensures.marked in
     let scored : (a ≡ mark → ⊥) → (b ≡ mark → ⊥) → c.sum.result ≡ ((scales.before *ℤ a) +ℤ (scales.behind *ℤ b)) = simp to_z-of_z at c.sum.ensures.scored in
-    let before : IsLargest least_entry (HasBefore (AtPlace positions (HasScaledSum mark scales firsts seconds)) c.loop-position.position-index) old = simp to_z-of_z at c.loop-position.invariant in
+    let before : IsLargest least_entry (HasBefore (AtPosition positions (HasScaledSum mark scales firsts seconds)) c.loop-position.position-index) old = simp to_z-of_z at c.loop-position.invariant in
     let at : ℕ → ℕ = λ k. number_at positions (get_or positions.at.now k 0) in
-    let after : IsLargest least_entry (HasBefore (AtPlace positions (HasScaledSum mark scales firsts seconds)) (c.loop-position.position-index + 1)) new =
+    let after : IsLargest least_entry (HasBefore (AtPosition positions (HasScaledSum mark scales firsts seconds)) (c.loop-position.position-index + 1)) new =
     elim (mark_cases mark a b) [
       | inl e ↦ scaled_marked mark scales firsts seconds at c.loop-position.position-index old new a b c.sum.result max_new there behind before e (marked e)
       | inr e ↦
@@ -91,6 +91,6 @@ returns g c =
     let greatest = to_z w64 c.loop-position.greatest-bits in
     let fits_mark : FitsSigned w64 c.args.mark = search rules in
     let fits : FitsSigned w64 greatest = search rules in
-    let before : IsLargest least_entry (HasBefore (AtPlace c.args.positions Sum) c.loop-position.position-index) greatest = simp to_z-of_z at c.loop-position.invariant in
-    subst (IsGreatestOf (SomePlace c.args.positions Sum)) (sym c.score_of.ensures)
-    (largest_entry (SomePlace c.args.positions Sum) greatest fits (all_scattered c.args.positions Sum least_entry c.loop-position.position-index greatest all before))
+    let before : IsLargest least_entry (HasBefore (AtPosition c.args.positions Sum) c.loop-position.position-index) greatest = simp to_z-of_z at c.loop-position.invariant in
+    subst (IsGreatestOf (SomePosition c.args.positions Sum)) (sym c.score_of.ensures)
+    (largest_entry (SomePosition c.args.positions Sum) greatest fits (all_scattered c.args.positions Sum least_entry c.loop-position.position-index greatest all before))

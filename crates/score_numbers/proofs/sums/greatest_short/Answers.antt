@@ -2,7 +2,7 @@ use Rattle.std.proofs.Common.{◌≡◌, ℕ, ℤ, List, length, map, w64, to_z,
 use Rattle.score_numbers.specs.Packing.{short}
 use Rattle.score_numbers.specs.Sums.{AreLowSums, HasScaledSumAt, HasSum, HasSumAt}
 use Rattle.score_numbers.specs.Greatest.{IsGreatestOf}
-use Rattle.score_numbers.proofs.LargestSums.{aligned_places, as_values, from_values, limited_places, plain_greatest}
+use Rattle.score_numbers.proofs.LargestSums.{aligned_positions, as_values, from_values, limited_positions, plain_greatest}
 use Rattle.score_numbers.proofs.sums.greatest_short.Goals as goal
 
 pub greatest_scaled-requires-clause-low : goal.greatest_scaled-requires-clause-low
@@ -37,7 +37,7 @@ returns-then-positions-limits c =
     let plain = c.are_plain.ensures.0 c.if-not-are_plain.false in
     let found = c.greatest_aligned.result in
     plain_greatest short c.args.scales plain.0 plain.1 c.args.first.now c.args.second.now c.args.positions found
-    (aligned_places c.args.positions c.args.first.now c.args.second.now c.requires.have c.requires.rising as_many short found
+    (aligned_positions c.args.positions c.args.first.now c.args.second.now c.requires.have c.requires.rising as_many short found
     (from_values (λ firsts seconds. IsGreatestOf (λ sum. (k : ℕ) × HasSum short firsts seconds k sum) found)
     c.args.first.now c.args.second.now c.greatest_aligned.ensures))
 
@@ -47,5 +47,5 @@ returns-else-positions-limits c =
     let plain = c.are_plain.ensures.0 c.if-not-are_plain.false in
     plain_greatest short c.args.scales plain.0 plain.1 c.args.first.now c.args.second.now c.args.positions
     c.greatest_limited_short.result
-    (limited_places c.args.positions c.args.first.now c.args.second.now c.args.limits.now c.requires.have c.requires.limits
+    (limited_positions c.args.positions c.args.first.now c.args.second.now c.args.limits.now c.requires.have c.requires.limits
     as_many c.greatest_limited_short.result c.greatest_limited_short.ensures)

@@ -2,7 +2,7 @@ use Rattle.std.proofs.Common.{◌≡◌, length, map, w64, sym, subst, ◌∙◌
 use Rattle.std.proofs.lemmas.Int.{to_z-of_z}
 use Rattle.std.proofs.lemmas.List.{length-map}
 use Rattle.score_numbers.specs.Sums.{AreLowSums}
-use Rattle.score_numbers.proofs.LargestSums.{aligned_places, plain_greatest}
+use Rattle.score_numbers.proofs.LargestSums.{aligned_positions, plain_greatest}
 use Rattle.score_numbers.proofs.sums.greatest_sum.Goals as goal
 
 pub greatest_scaled-requires-clause-low : goal.greatest_scaled-requires-clause-low
@@ -21,7 +21,7 @@ returns-then-second-positions g c =
     let as_many : length firsts ≡ length c.args.positions.at.now =
     length-map c.args.first.now value ∙ c.if-first-positions.true in
     plain_greatest g.N.Number.width c.args.scales plain.0 plain.1 firsts seconds c.args.positions c.greatest_aligned.result
-    (aligned_places c.args.positions firsts seconds c.requires.have c.requires.rising as_many g.N.Number.width
+    (aligned_positions c.args.positions firsts seconds c.requires.have c.requires.rising as_many g.N.Number.width
     c.greatest_aligned.result c.greatest_aligned.ensures)
 
 pub returns-else-first-positions : goal.returns-else-first-positions

@@ -2,9 +2,9 @@ use Rattle.std.proofs.Common.{◌≡◌, ℕ, ◌+◌, ◌≤◌, get_or, length
 use Rattle.split_lines.proofs.ClassFacts.{IsLastOf}
 use Rattle.split_lines.proofs.classes.ahead.Given as goal
 
--- the last places so far
-abbrev pub invariant-loop-place : goal.invariant-loop-place
-invariant-loop-place l = record {
+-- the last positions so far
+abbrev pub invariant-loop-position : goal.invariant-loop-position
+invariant-loop-position l = record {
   each : length l.ahead.items ≡ length l.word + 1;
-  told : (from : ℕ) → l.place ≤ from → from ≤ length l.word → IsLastOf l.class l.word from (get_or l.ahead.items from 0);
+  told : (from : ℕ) → l.position ≤ from → from ≤ length l.word → IsLastOf l.class l.word from (get_or l.ahead.items from 0);
 }

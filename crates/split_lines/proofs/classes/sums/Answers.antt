@@ -40,7 +40,7 @@ loop-letter-preserved c =
           let kept : L old = omega (arith, low) in
           (w.sum-is ∙ now ∙ sym (total_same class word i within missed), subst L (sym w.sum-is) kept)
     ] in
-    let T : List ℤ → Type 0 = λ items. (place : ℕ) → place ≤ i + 1 → IsSumOf class word place (get_or items place (pos 0)) in
+    let T : List ℤ → Type 0 = λ items. (position : ℕ) → position ≤ i + 1 → IsSumOf class word position (get_or items position (pos 0)) in
     record {
       each = omega (arith, c.in_ok-push-2.ensures.len, c.loop-letter.invariant.each);
       now = both;
@@ -59,5 +59,5 @@ returns c =
           let before = told from (omega (arith, span.in_order, span.in_word)) in
           let behind = told to (omega (arith, span.in_word)) in
           omega (arith, ints, before.0, behind.0, total_between class word from to span);
-      low = λ place l. (told place (omega (arith, l, whole))).1;
+      low = λ position l. (told position (omega (arith, l, whole))).1;
     }

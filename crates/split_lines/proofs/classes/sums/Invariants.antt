@@ -7,5 +7,5 @@ abbrev pub invariant-loop-letter : goal.invariant-loop-letter
 invariant-loop-letter l = record {
   each : length l.sums.items ≡ l.letter-index + 1;
   now : IsSumOf l.class l.word l.letter-index l.sum;
-  told : (place : ℕ) → place ≤ l.letter-index → IsSumOf l.class l.word place (get_or l.sums.items place (pos 0));
+  told : (position : ℕ) → position ≤ l.letter-index → IsSumOf l.class l.word position (get_or l.sums.items position (pos 0));
 }

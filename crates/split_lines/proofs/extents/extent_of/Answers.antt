@@ -2,7 +2,7 @@ use Rattle.std.proofs.Common.{sym, subst}
 use Rattle.adp_model.specs.declared.grammar.Arg.{Arg}
 use Rattle.adp_model.specs.WellFormed.{IsKnown}
 use Rattle.split_lines.specs.Extents.{IsExtent}
-use Rattle.split_lines.proofs.ExtentPlaces.{rule_extent, run_extent}
+use Rattle.split_lines.proofs.ExtentPositions.{rule_extent, run_extent}
 use Rattle.split_lines.proofs.extents.extent_of.Goals as goal
 
 pub returns-in-Rule : goal.returns-in-Rule

@@ -1,4 +1,4 @@
-use Rattle.viable_splits.proofs.EndPlaces.{literal_ends_at, literal_ends_nowhere}
+use Rattle.viable_splits.proofs.EndPositions.{literal_ends_at, literal_ends_nowhere}
 use Rattle.viable_splits.proofs.ends.literal_ends.Goals as goal
 
 pub returns-then-begins_with : goal.returns-then-begins_with

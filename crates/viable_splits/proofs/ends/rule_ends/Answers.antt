@@ -1,4 +1,4 @@
-use Rattle.viable_splits.proofs.EndPlaces.{rule_ends_at}
+use Rattle.viable_splits.proofs.EndPositions.{rule_ends_at}
 use Rattle.viable_splits.proofs.ends.rule_ends.Goals as goal
 
 pub returns : goal.returns

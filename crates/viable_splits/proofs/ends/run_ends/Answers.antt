@@ -1,4 +1,4 @@
-use Rattle.viable_splits.proofs.EndPlaces.{run_ends_at}
+use Rattle.viable_splits.proofs.EndPositions.{run_ends_at}
 use Rattle.viable_splits.proofs.ends.run_ends.Goals as goal
 
 pub returns : goal.returns

@@ -5,7 +5,7 @@ use Rattle.adp_model.specs.WellFormed.{IsKnown}
 use Rattle.viable_splits.specs.Placing.{CoverNone, HasNoneBehind, IsFirstBehind, HasNoneWithin, IsFirstWithin}
 use Rattle.viable_splits.proofs.Dividing.{split_first, rest_later}
 use Rattle.viable_splits.proofs.Passing.{none_passed, none_joined, none_up_to, first_there}
-use Rattle.viable_splits.proofs.FirstPlace.{Looking, first_ahead, first_wrapped, none_either}
+use Rattle.viable_splits.proofs.FirstPosition.{Looking, first_ahead, first_wrapped, none_either}
 use Rattle.viable_splits.proofs.Closing.{all_at, not_contained, closed_first, divide_one, divide_none, fits_one, match_option}
 use Rattle.viable_splits.proofs.placing.+first.Goals as goal
 
@@ -21,7 +21,7 @@ first_behind-returns-in-Some g t c =
     let number = c.args.number in
     let turns_three : length cuts.turns ≡ 3 = search rules in
     let split : all ≡ first ∷ later = parts.1 in
-    let look : Looking p cell first later c.args.from number c.first_ends-places.result.start c.first_ends-places.result.end cuts = record {
+    let look : Looking p cell first later c.args.from number c.first_ends-positions.result.start c.first_ends-positions.result.end cuts = record {
       after = c.requires.left.after;
       some = omega (arith, c.requires.several, ap length split);
       boundary = omega (arith, c.requires.several, c.requires.left.few);
@@ -29,10 +29,10 @@ first_behind-returns-in-Some g t c =
       turns_three = turns_three;
       turned = all_at (λ turn. turn ≤ cell.to - cell.from) cuts.turns number 0 (omega (arith, c.requires.several, c.requires.left.few)) c.requires.left.turned;
       few = omega (arith, c.requires.several, c.requires.left.few, ap length split);
-      places = c.first_ends-places.ensures.places first later split;
+      positions = c.first_ends-positions.ensures.positions first later split;
     } in
     subst (λ xs. IsFirstBehind p cell xs c.args.from number c.args.least_rank cuts c.in-Some.found) (sym split)
-    (first_ahead p cell first later c.args.from number c.first_ends-places.result.start c.first_ends-places.result.end cuts look c.args.least_rank c.max-ahead.result c.in-Some.found c.max-ahead.ensures c.in-Some.ensures)
+    (first_ahead p cell first later c.args.from number c.first_ends-positions.result.start c.first_ends-positions.result.end cuts look c.args.least_rank c.max-ahead.result c.in-Some.found c.max-ahead.ensures c.in-Some.ensures)
 
 pub first_behind-returns-in-None : goal.first_behind-returns-in-None
 first_behind-returns-in-None g t c =
@@ -46,7 +46,7 @@ first_behind-returns-in-None g t c =
     let number = c.args.number in
     let turns_three : length cuts.turns ≡ 3 = search rules in
     let split : all ≡ first ∷ later = parts.1 in
-    let look : Looking p cell first later c.args.from number c.first_ends-places.result.start c.first_ends-places.result.end cuts = record {
+    let look : Looking p cell first later c.args.from number c.first_ends-positions.result.start c.first_ends-positions.result.end cuts = record {
       after = c.requires.left.after;
       some = omega (arith, c.requires.several, ap length split);
       boundary = omega (arith, c.requires.several, c.requires.left.few);
@@ -54,10 +54,10 @@ first_behind-returns-in-None g t c =
       turns_three = turns_three;
       turned = all_at (λ turn. turn ≤ cell.to - cell.from) cuts.turns number 0 (omega (arith, c.requires.several, c.requires.left.few)) c.requires.left.turned;
       few = omega (arith, c.requires.several, c.requires.left.few, ap length split);
-      places = c.first_ends-places.ensures.places first later split;
+      positions = c.first_ends-positions.ensures.positions first later split;
     } in
-    let wrapped_is : c.max-wrapped.result ≡ max c.first_ends-places.result.start (cell.from + (c.args.least_rank - (cell.to + 1 - (cell.from + slice_index cuts.turns number)))) =
-    c.max-wrapped.ensures ∙ ap (λ n. max c.first_ends-places.result.start (cell.from + n)) c.saturating_sub-skipped.ensures in
+    let wrapped_is : c.max-wrapped.result ≡ max c.first_ends-positions.result.start (cell.from + (c.args.least_rank - (cell.to + 1 - (cell.from + slice_index cuts.turns number)))) =
+    c.max-wrapped.ensures ∙ ap (λ n. max c.first_ends-positions.result.start (cell.from + n)) c.saturating_sub-skipped.ensures in
     match_option c.first_within-in-None.result
     (HasNoneWithin p cell later c.max-wrapped.result c.min-before_turn.result number cuts.turns)
     (HasNoneBehind p cell all c.args.from number c.args.least_rank cuts.turns)
@@ -65,10 +65,10 @@ first_behind-returns-in-None g t c =
     (λ found. IsFirstBehind p cell all c.args.from number c.args.least_rank cuts found)
     (λ none.
     subst (λ xs. HasNoneBehind p cell xs c.args.from number c.args.least_rank cuts.turns) (sym split)
-    (none_either p cell first later c.args.from number c.first_ends-places.result.start c.first_ends-places.result.end cuts look c.args.least_rank c.max-ahead.result c.max-wrapped.result c.min-before_turn.result c.max-ahead.ensures wrapped_is c.min-before_turn.ensures c.in-None.ensures none))
+    (none_either p cell first later c.args.from number c.first_ends-positions.result.start c.first_ends-positions.result.end cuts look c.args.least_rank c.max-ahead.result c.max-wrapped.result c.min-before_turn.result c.max-ahead.ensures wrapped_is c.min-before_turn.ensures c.in-None.ensures none))
     (λ found within.
     subst (λ xs. IsFirstBehind p cell xs c.args.from number c.args.least_rank cuts found) (sym split)
-    (first_wrapped p cell first later c.args.from number c.first_ends-places.result.start c.first_ends-places.result.end cuts look c.args.least_rank c.max-ahead.result c.max-wrapped.result c.min-before_turn.result found c.max-ahead.ensures wrapped_is c.min-before_turn.ensures c.in-None.ensures within))
+    (first_wrapped p cell first later c.args.from number c.first_ends-positions.result.start c.first_ends-positions.result.end cuts look c.args.least_rank c.max-ahead.result c.max-wrapped.result c.min-before_turn.result found c.max-ahead.ensures wrapped_is c.min-before_turn.ensures c.in-None.ensures within))
     c.first_within-in-None.ensures
 
 pub first_cuts-returns-in-empty : goal.first_cuts-returns-in-empty
@@ -104,12 +104,12 @@ first_behind-first_within-requires g t c κs within =
     let all = c.args.arguments.now in
     let parts = split_first all (omega (arith, c.requires.several)) in
     let later : List Arg = take (length all - 1) (drop 1 all) in
-    let places = c.first_ends-places.ensures.places parts.0 later parts.1 in
+    let positions = c.first_ends-positions.ensures.positions parts.0 later parts.1 in
     let known : AllByRecursion (IsKnown p.grammar) (parts.0 ∷ later) = subst (AllByRecursion (IsKnown p.grammar)) parts.1 c.requires.left.known in
     let rest = rest_later p cell c.args.walk.now.alt c.args.number all c.requires.left.rest in
     let long : length all ≡ length later + 1 = omega (arith, ap length parts.1) in
-    let high = places.up_to_last in
-    let low = places.behind in
+    let high = positions.up_to_last in
+    let low = positions.behind in
     let after = c.requires.left.after in
     let word = c.requires.left.span.in_word in
     (search rules, (within, (omega (arith, low), (omega (arith, high), (search rules, (word, (known.1, (rest, (omega (arith, c.requires.several), (omega (arith, c.requires.left.few), c.requires.left.turned))))))))))
@@ -121,12 +121,12 @@ first_behind-first_within-requires-in-None g t c κs within =
     let all = c.args.arguments.now in
     let parts = split_first all (omega (arith, c.requires.several)) in
     let later : List Arg = take (length all - 1) (drop 1 all) in
-    let places = c.first_ends-places.ensures.places parts.0 later parts.1 in
+    let positions = c.first_ends-positions.ensures.positions parts.0 later parts.1 in
     let known : AllByRecursion (IsKnown p.grammar) (parts.0 ∷ later) = subst (AllByRecursion (IsKnown p.grammar)) parts.1 c.requires.left.known in
     let rest = rest_later p cell c.args.walk.now.alt c.args.number all c.requires.left.rest in
     let long : length all ≡ length later + 1 = omega (arith, ap length parts.1) in
-    let high = places.up_to_last in
-    let low = places.behind in
+    let high = positions.up_to_last in
+    let low = positions.behind in
     let after = c.requires.left.after in
     let word = c.requires.left.span.in_word in
     (search rules, (within, (omega (arith, low), (omega (arith, high), (search rules, (word, (known.1, (rest, (omega (arith, c.requires.several), (omega (arith, c.requires.left.few), c.requires.left.turned))))))))))
@@ -134,24 +134,24 @@ first_behind-first_within-requires-in-None g t c κs within =
 pub first_within-overflow_cast-moved : goal.first_within-overflow_cast-moved
 first_within-overflow_cast-moved g t c = omega (arith, c.in-Some.ensures.high, c.requires.short)
 
-pub first_within-loop-place-preserved : goal.first_within-loop-place-preserved
-first_within-loop-place-preserved g t c =
+pub first_within-loop-position-preserved : goal.first_within-loop-position-preserved
+first_within-loop-position-preserved g t c =
     let p = g.M.Matcher.posed c.args.walk.now.matcher.now in
     let low = c.in-Some.ensures.low in (
-      omega (arith, c.loop-place.invariant.0),
-      none_up_to p c.args.walk.now.cell c.args.arguments.now c.args.start c.loop-place.start c.args.end c.in-Some.place c.args.number c.args.cuts.turns c.requires.some c.requires.few c.loop-place.invariant.1 (rw c.requires.rest.are c.in-Some.ensures) c.in_default-first_cuts.ensures,
+      omega (arith, c.loop-position.invariant.0),
+      none_up_to p c.args.walk.now.cell c.args.arguments.now c.args.start c.loop-position.start c.args.end c.in-Some.position c.args.number c.args.cuts.turns c.requires.some c.requires.few c.loop-position.invariant.1 (rw c.requires.rest.are c.in-Some.ensures) c.in_default-first_cuts.ensures,
     )
 
 pub first_within-returns-in-Some-first_cuts : goal.first_within-returns-in-Some-first_cuts
 first_within-returns-in-Some-first_cuts g t c =
     let p = g.M.Matcher.posed c.args.walk.now.matcher.now in
-    first_there p c.args.walk.now.cell c.args.arguments.now c.args.start c.loop-place.start c.args.end c.in-Some.place c.args.number c.args.cuts c.in-Some-first_cuts.found c.requires.some c.requires.few c.loop-place.invariant.0 c.loop-place.invariant.1 (rw c.requires.rest.are c.in-Some.ensures) c.in-Some-first_cuts.ensures
+    first_there p c.args.walk.now.cell c.args.arguments.now c.args.start c.loop-position.start c.args.end c.in-Some.position c.args.number c.args.cuts c.in-Some-first_cuts.found c.requires.some c.requires.few c.loop-position.invariant.0 c.loop-position.invariant.1 (rw c.requires.rest.are c.in-Some.ensures) c.in-Some-first_cuts.ensures
 
 pub first_within-returns : goal.first_within-returns
 first_within-returns g t c =
     let p = g.M.Matcher.posed c.args.walk.now.matcher.now in
     let cell = c.args.walk.now.cell in
     let turns = c.args.cuts.turns in
-    let passed : CoverNone p c.args.arguments.now c.loop-place.start c.args.end = rw c.requires.rest.are c.in_default.ensures in
-    none_joined p cell c.args.arguments.now c.args.start c.loop-place.start c.args.end c.args.number turns c.loop-place.invariant.1
-    (none_passed p cell c.args.arguments.now c.loop-place.start c.args.end c.args.number turns c.requires.some c.requires.few passed)
+    let passed : CoverNone p c.args.arguments.now c.loop-position.start c.args.end = rw c.requires.rest.are c.in_default.ensures in
+    none_joined p cell c.args.arguments.now c.args.start c.loop-position.start c.args.end c.args.number turns c.loop-position.invariant.1
+    (none_passed p cell c.args.arguments.now c.loop-position.start c.args.end c.args.number turns c.requires.some c.requires.few passed)

@@ -11,11 +11,11 @@ decreases-first_behind g l = 3 * length l.arguments.now + 1
 abbrev pub decreases-first_within : goal.decreases-first_within
 decreases-first_within g l = 3 * length l.arguments.now + 3
 
--- the places of the range that are passed over
-abbrev pub invariant-first_within-loop-place : goal.invariant-first_within-loop-place
-invariant-first_within-loop-place g l =
+-- the positions of the range that are passed over
+abbrev pub invariant-first_within-loop-position : goal.invariant-first_within-loop-position
+invariant-first_within-loop-position g l =
     (l.initial.start ≤ l.start)
     × HasNoneWithin (g.M.Matcher.posed l.walk.matcher.now) l.walk.cell l.arguments l.initial.start l.start l.number l.cuts.turns
 
-abbrev pub decreases-first_within-loop-place : goal.decreases-first_within-loop-place
-decreases-first_within-loop-place g l = l.end - l.start
+abbrev pub decreases-first_within-loop-position : goal.decreases-first_within-loop-position
+decreases-first_within-loop-position g l = l.end - l.start

@@ -6,7 +6,7 @@ use Rattle.adp_model.specs.WellFormed.{IsKnown}
 use Rattle.viable_splits.specs.Placing.{rank_at, AreLeft, Divide, HasNoneBehind, IsFirstBehind, IsNextFrom, IsLastFrom}
 use Rattle.viable_splits.proofs.Dividing.{split_first, rest_later}
 use Rattle.viable_splits.proofs.Closing.{all_at, closed_last, match_option}
-use Rattle.viable_splits.proofs.NextPlace.{Standing, place_after, place_before, later_divide, next_later, next_here, last_here}
+use Rattle.viable_splits.proofs.NextPosition.{Standing, position_after, position_before, later_divide, next_later, next_here, last_here}
 use Rattle.viable_splits.proofs.placing.+next_cuts.Goals as goal
 
 pub returns-then-arguments-lt2 : goal.returns-then-arguments-lt2
@@ -56,8 +56,8 @@ returns-in-None g t c =
       turned = all_at (λ turn. turn ≤ cell.to - cell.from) cuts.turns number 0 (omega (arith, c.if-arguments-lt2.false, c.requires.left.few)) c.requires.left.turned;
       divides = subst (λ xs. Divide p xs c.args.from cell.to (drop number cuts.at)) split.1 c.requires.divides;
     } in
-    let place = slice_index cuts.at number in
-    let least_rank = rank_at cell cuts.turns number place + 1 in
+    let position = slice_index cuts.at number in
+    let least_rank = rank_at cell cuts.turns number position + 1 in
     match_option c.first_behind.result
     (HasNoneBehind p cell all c.args.from number least_rank cuts.turns)
     (IsLastFrom p cell all c.args.from number cuts)
@@ -91,13 +91,13 @@ next_cuts-requires g t c κs within =
       turned = all_at (λ turn. turn ≤ cell.to - cell.from) cuts.turns number 0 (omega (arith, c.if-arguments-lt2.false, c.requires.left.few)) c.requires.left.turned;
       divides = subst (λ xs. Divide p xs c.args.from cell.to (drop number cuts.at)) split.1 c.requires.divides;
     } in
-    let span : IsSpan p.word (slice_index cuts.at number) cell.to = record { in_order = place_before p cell first later c.args.from number cuts stand; in_word = c.requires.left.span.in_word } in
+    let span : IsSpan p.word (slice_index cuts.at number) cell.to = record { in_order = position_before p cell first later c.args.from number cuts stand; in_word = c.requires.left.span.in_word } in
     let rest = rest_later p cell c.args.walk.now.alt number all c.requires.left.rest in
     let known : AllByRecursion (IsKnown p.grammar) (first ∷ later) = subst (AllByRecursion (IsKnown p.grammar)) split.1 c.requires.left.known in
     let long : length all ≡ length later + 1 = omega (arith, ap length split.1) in
     let left : AreLeft p cell c.args.walk.now.alt later (slice_index cuts.at number) (number + 1) cuts.turns = record {
       span = span;
-      after = place_after p cell first later c.args.from number cuts stand;
+      after = position_after p cell first later c.args.from number cuts stand;
       known = known.1;
       rest = rest;
       few = omega (arith, c.requires.left.few);

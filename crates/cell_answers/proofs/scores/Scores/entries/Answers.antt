@@ -61,10 +61,10 @@ returns-clause-values c = elim c.match-self.branch [
       let side = c.args.side in
       let e = side_is c.self.inside (Short table) c.args.self.now side c.self.view_is w.in-Short.is ∙ spans_told short goal table side in
       λ rule far is low high.
-      let place = far - c.args.first in
-      let read : slice_get w.numbers_between.result.now place ≡ value_at (spans_of table side) rule c.args.near far = w.numbers_between.ensures.values rule far is low high ∙ ap (λ (spans : Spans ℤ). value_at spans rule c.args.near far) w.grid.ensures in
-      ap (λ (numbers : Numbers). slice_get (told_numbers goal numbers) place) w.numbers-is
-      ∙ told_between short goal w.numbers_between.result.now place (spans_of table side) rule c.args.near far read
+      let position = far - c.args.first in
+      let read : slice_get w.numbers_between.result.now position ≡ value_at (spans_of table side) rule c.args.near far = w.numbers_between.ensures.values rule far is low high ∙ ap (λ (spans : Spans ℤ). value_at spans rule c.args.near far) w.grid.ensures in
+      ap (λ (numbers : Numbers). slice_get (told_numbers goal numbers) position) w.numbers-is
+      ∙ told_between short goal w.numbers_between.result.now position (spans_of table side) rule c.args.near far read
       ∙ ap (λ (spans : Spans ℤ). value_at spans rule c.args.near far) (sym e)
   | in-Medium w ↦
       let table = w.in-Medium.table in
@@ -72,10 +72,10 @@ returns-clause-values c = elim c.match-self.branch [
       let side = c.args.side in
       let e = side_is c.self.inside (Medium table) c.args.self.now side c.self.view_is w.in-Medium.is ∙ spans_told medium goal table side in
       λ rule far is low high.
-      let place = far - c.args.first in
-      let read : slice_get w.numbers_between-in-Medium.result.now place ≡ value_at (spans_of table side) rule c.args.near far = w.numbers_between-in-Medium.ensures.values rule far is low high ∙ ap (λ (spans : Spans ℤ). value_at spans rule c.args.near far) w.grid-in-Medium.ensures in
-      ap (λ (numbers : Numbers). slice_get (told_numbers goal numbers) place) w.numbers-is
-      ∙ told_between medium goal w.numbers_between-in-Medium.result.now place (spans_of table side) rule c.args.near far read
+      let position = far - c.args.first in
+      let read : slice_get w.numbers_between-in-Medium.result.now position ≡ value_at (spans_of table side) rule c.args.near far = w.numbers_between-in-Medium.ensures.values rule far is low high ∙ ap (λ (spans : Spans ℤ). value_at spans rule c.args.near far) w.grid-in-Medium.ensures in
+      ap (λ (numbers : Numbers). slice_get (told_numbers goal numbers) position) w.numbers-is
+      ∙ told_between medium goal w.numbers_between-in-Medium.result.now position (spans_of table side) rule c.args.near far read
       ∙ ap (λ (spans : Spans ℤ). value_at spans rule c.args.near far) (sym e)
   | in-Long w ↦
       let table = w.in-Long.table in
@@ -83,10 +83,10 @@ returns-clause-values c = elim c.match-self.branch [
       let side = c.args.side in
       let e = side_is c.self.inside (Long table) c.args.self.now side c.self.view_is w.in-Long.is ∙ spans_told long goal table side in
       λ rule far is low high.
-      let place = far - c.args.first in
-      let read : slice_get w.numbers_between-in-Long.result.now place ≡ value_at (spans_of table side) rule c.args.near far = w.numbers_between-in-Long.ensures.values rule far is low high ∙ ap (λ (spans : Spans ℤ). value_at spans rule c.args.near far) w.grid-in-Long.ensures in
-      ap (λ (numbers : Numbers). slice_get (told_numbers goal numbers) place) w.numbers-is
-      ∙ told_between long goal w.numbers_between-in-Long.result.now place (spans_of table side) rule c.args.near far read
+      let position = far - c.args.first in
+      let read : slice_get w.numbers_between-in-Long.result.now position ≡ value_at (spans_of table side) rule c.args.near far = w.numbers_between-in-Long.ensures.values rule far is low high ∙ ap (λ (spans : Spans ℤ). value_at spans rule c.args.near far) w.grid-in-Long.ensures in
+      ap (λ (numbers : Numbers). slice_get (told_numbers goal numbers) position) w.numbers-is
+      ∙ told_between long goal w.numbers_between-in-Long.result.now position (spans_of table side) rule c.args.near far read
       ∙ ap (λ (spans : Spans ℤ). value_at spans rule c.args.near far) (sym e)
   | in-Whole w ↦
       let table = w.in-Whole.table in
@@ -94,8 +94,8 @@ returns-clause-values c = elim c.match-self.branch [
       let side = c.args.side in
       let e = side_is c.self.inside (Whole table) c.args.self.now side c.self.view_is w.in-Whole.is in
       λ rule far is low high.
-      let place = far - c.args.first in
-      ap (λ (numbers : Numbers). slice_get (told_numbers goal numbers) place) w.numbers-is
+      let position = far - c.args.first in
+      ap (λ (numbers : Numbers). slice_get (told_numbers goal numbers) position) w.numbers-is
       ∙ w.numbers_between-in-Whole.ensures.values rule far is low high
       ∙ ap (λ (spans : Spans ℤ). value_at spans rule c.args.near far) (w.grid-in-Whole.ensures ∙ sym e)
 ]

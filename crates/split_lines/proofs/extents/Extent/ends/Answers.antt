@@ -1,4 +1,4 @@
-use Rattle.split_lines.proofs.ExtentPlaces.{extent_ends}
+use Rattle.split_lines.proofs.ExtentPositions.{extent_ends}
 use Rattle.split_lines.proofs.extents.Extent.ends.Goals as goal
 
 pub returns : goal.returns

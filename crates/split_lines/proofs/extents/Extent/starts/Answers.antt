@@ -1,5 +1,5 @@
 use Rattle.std.proofs.Common.{max, ap, ◌∙◌}
-use Rattle.split_lines.proofs.ExtentPlaces.{extent_starts}
+use Rattle.split_lines.proofs.ExtentPositions.{extent_starts}
 use Rattle.split_lines.proofs.extents.Extent.starts.Goals as goal
 
 pub returns : goal.returns

@@ -7,9 +7,9 @@ use Rattle.adp_model.specs.WellFormed.{IsKnown}
 use Rattle.viable_splits.specs.Placing.{Cover, AreEnds}
 use Rattle.split_lines.specs.Begins.{AreStarts}
 use Rattle.split_lines.specs.Extents.{IsExtent}
-use Rattle.split_lines.specs.Lines.{parts_by, LeavesPlace}
+use Rattle.split_lines.specs.Lines.{parts_by, LeavesPosition}
 use Rattle.split_lines.proofs.LineFacts.{rest_taken}
-use Rattle.split_lines.proofs.LinePlaces.{all_dropped, place_left}
+use Rattle.split_lines.proofs.LinePositions.{all_dropped, position_left}
 use Rattle.split_lines.proofs.lines.Lines.range.Goals as goal
 
 pub tail_covers-requires-clause-known : goal.tail_covers-requires-clause-known
@@ -44,6 +44,6 @@ returns-clause-exact c =
     let tail : C p (drop (between + 2) all) = subst (C p) (rest_taken all (between + 1 + 1) between (omega arith)) (subst (λ p. C p (take (length all - (between + 1 + 1)) (drop (between + 1 + 1) all))) c.self.view_is (c.tail_covers.ensures.0 c.if-not-tail_covers.false)) in
     let end_is = c.min-end.ensures ∙ ap (min c.ends-ends.result.end) c.saturating_sub-2.ensures in
     let start_is = c.min.ensures ∙ ap (λ n. min n c.min-end.result) (c.max-start.ensures ∙ ap (max c.ends-ends.result.start) c.saturating_sub.ensures) in
-    let left = place_left p parts from to letters last c.ends-ends.result.start c.ends-ends.result.end c.starts-starts.result.start c.starts-starts.result.end c.min.result c.min-end.result ends starts tail end_is start_is in
-    let L : ℕ → Type 0 = λ last. (place : ℕ) → ((c.min.result ≤ place) × (place < c.min-end.result)) ↔ LeavesPlace p parts from to letters last place in
+    let left = position_left p parts from to letters last c.ends-ends.result.start c.ends-ends.result.end c.starts-starts.result.start c.starts-starts.result.end c.min.result c.min-end.result ends starts tail end_is start_is in
+    let L : ℕ → Type 0 = λ last. (position : ℕ) → ((c.min.result ≤ position) × (position < c.min-end.result)) ↔ LeavesPosition p parts from to letters last position in
     subst L c.saturating_sub-last.ensures left

@@ -3,8 +3,8 @@ use Rattle.std.specs.Int.{w128}
 use Rattle.std.proofs.lemmas.Int.{ints, to_z-of_z}
 use Rattle.split_lines.proofs.lines.Lines.weight.Goals as goal
 
-fits : (a : ℤ) (place : ℕ) → nat_abs a ≤ 2 ^ 63 * place → place < 2 ^ 16 → FitsSigned w128 a
-fits a place low short = omega (arith, ints)
+fits : (a : ℤ) (position : ℕ) → nat_abs a ≤ 2 ^ 63 * position → position < 2 ^ 16 → FitsSigned w128 a
+fits a position low short = omega (arith, ints)
 
 fits_both : (a b : ℤ) (from to : ℕ) → nat_abs a ≤ 2 ^ 63 * to → nat_abs b ≤ 2 ^ 63 * from → to < 2 ^ 16 → from < 2 ^ 16 → FitsSigned w128 (a -ℤ b)
 fits_both a b from to low low' short short' = omega (arith, ints)

@@ -6,11 +6,11 @@ use Rattle.split_lines.proofs.matches.Matches.limits_among.Goals.{After-row_know
 
 in_order : (c : After-row_known-in-Some-Some-1) → c.in-Some-Some.first.now ≤ c.in-Some-Some.last.now
 in_order c = let r = c.requires in
-    first_before c.args.self.now.places.items c.args.places.now c.args.self.now.limits.items r.limits r.some r.whole r.rising c.in-Some-Some.first.now c.in-Some-Some.last.now c.in-Some-Some.ensures.value c.in-Some-Some.ensures'.value
+    first_before c.args.self.now.positions.items c.args.positions.now c.args.self.now.limits.items r.limits r.some r.whole r.rising c.in-Some-Some.first.now c.in-Some-Some.last.now c.in-Some-Some.ensures.value c.in-Some-Some.ensures'.value
 
 within : (c : After-row_known-in-Some-Some-1) → c.in-Some-Some.last.now < length c.args.self.now.limits.items
 within c = let r = c.requires in
-    last_within c.args.self.now.places.items c.args.places.now c.args.self.now.limits.items r.limits r.some r.whole r.rising c.in-Some-Some.first.now c.in-Some-Some.last.now c.in-Some-Some.ensures.value c.in-Some-Some.ensures'.value
+    last_within c.args.self.now.positions.items c.args.positions.now c.args.self.now.limits.items r.limits r.some r.whole r.rising c.in-Some-Some.first.now c.in-Some-Some.last.now c.in-Some-Some.ensures.value c.in-Some-Some.ensures'.value
 
 pub slice_bounds-result-count : goal.slice_bounds-result-count
 slice_bounds-result-count c = omega (arith, in_order c)
@@ -26,5 +26,5 @@ returns-in-Some-Some c =
     let r = c.requires in
     let first = c.in-Some-Some.first.now in
     let last = c.in-Some-Some.last.now in
-    let F : List ℤ → Type 0 = λ limits. AreLimited c.args.places.now (take (last + 1 - first) (drop first limits)) in
-    subst F (sym c.deref.ensures.value) (limited_among c.args.self.now.places.items c.args.places.now c.args.self.now.limits.items r.limits r.some r.whole r.rising first last c.in-Some-Some.ensures.value c.in-Some-Some.ensures'.value)
+    let F : List ℤ → Type 0 = λ limits. AreLimited c.args.positions.now (take (last + 1 - first) (drop first limits)) in
+    subst F (sym c.deref.ensures.value) (limited_among c.args.self.now.positions.items c.args.positions.now c.args.self.now.limits.items r.limits r.some r.whole r.rising first last c.in-Some-Some.ensures.value c.in-Some-Some.ensures'.value)

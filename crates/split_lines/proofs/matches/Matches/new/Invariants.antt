@@ -1,12 +1,12 @@
 use Rattle.std.proofs.Common.{◌≡◌, ◌≤◌, length}
-use Rattle.split_lines.specs.Matching.{AreMatchPlaces, AreCounts}
+use Rattle.split_lines.specs.Matching.{AreMatchPositions, AreCounts}
 use Rattle.split_lines.proofs.matches.Matches.new.Given as goal
 
--- the places so far, and the counts
-abbrev pub invariant-loop-place : goal.invariant-loop-place
-invariant-loop-place l = record {
-  places : AreMatchPlaces l.tables l.tokens l.width l.place l.places.items;
-  each : length l.before.items ≡ l.place;
-  before : AreCounts l.places.items l.before.items;
-  few : length l.places.items ≤ l.place;
+-- the positions so far, and the counts
+abbrev pub invariant-loop-position : goal.invariant-loop-position
+invariant-loop-position l = record {
+  positions : AreMatchPositions l.tables l.tokens l.width l.position l.positions.items;
+  each : length l.before.items ≡ l.position;
+  before : AreCounts l.positions.items l.before.items;
+  few : length l.positions.items ≤ l.position;
 }

@@ -1,5 +1,5 @@
 use Rattle.std.proofs.Common.{◌-◌, take, drop, ap}
-use Rattle.viable_splits.proofs.EndPlaces.{class_end_at}
+use Rattle.viable_splits.proofs.EndPositions.{class_end_at}
 use Rattle.viable_splits.proofs.matcher.ProblemMatcher.class_end.Goals as goal
 
 pub returns : goal.returns

@@ -1,11 +1,11 @@
 use Rattle.std.proofs.Common.{◌≡◌, ◌-◌, get_or, ap, ◌∙◌, subst, arith}
 use Rattle.viable_splits.specs.Placing.{AreEnds, AreLengths}
 use Rattle.viable_splits.proofs.Dividing.{rest_of}
-use Rattle.viable_splits.proofs.LengthSums.{places_left}
-use Rattle.viable_splits.proofs.end_places.first_ends.Goals as goal
+use Rattle.viable_splits.proofs.LengthSums.{positions_left}
+use Rattle.viable_splits.proofs.end_positions.first_ends.Goals as goal
 
-pub returns-clause-places : goal.returns-clause-places
-returns-clause-places g c = λ first later split.
+pub returns-clause-positions : goal.returns-clause-positions
+returns-clause-positions g c = λ first later split.
     let p = g.M.Matcher.posed c.args.matcher.now in
     let from = c.args.from in
     let last = c.args.last in
@@ -15,4 +15,4 @@ returns-clause-places g c = λ first later split.
     let least = c.total_lengths-least.result.0 in
     let greatest = c.total_lengths-least.result.1 in
     let lengths = subst (λ xs. AreLengths p xs (last - from) least greatest) (rest_of c.args.arguments.now first later split) (rw c.problem.ensures at c.total_lengths-least.ensures) in
-    places_left p first later from last c.argument_ends-ends.result.start c.argument_ends-ends.result.end least greatest c.min.result c.min-2.result c.requires.span.in_order ends lengths (omega arith) (omega arith)
+    positions_left p first later from last c.argument_ends-ends.result.start c.argument_ends-ends.result.end least greatest c.min.result c.min-2.result c.requires.span.in_order ends lengths (omega arith) (omega arith)

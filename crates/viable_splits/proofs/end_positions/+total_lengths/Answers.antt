@@ -3,7 +3,7 @@ use Rattle.adp_model.specs.declared.grammar.Arg.{Arg}
 use Rattle.viable_splits.specs.Placing.{AreLengths}
 use Rattle.viable_splits.proofs.Dividing.{split_at_first}
 use Rattle.viable_splits.proofs.LengthSums.{more_lengths}
-use Rattle.viable_splits.proofs.end_places.+total_lengths.Goals as goal
+use Rattle.viable_splits.proofs.end_positions.+total_lengths.Goals as goal
 
 pub returns : goal.returns
 returns t c =

@@ -3,7 +3,7 @@ ghost use Rattle.std.specs.List.{AllByRecursion};
 ghost use Rattle.adp_model.specs.declared.grammar.Arg.{Arg as Argument};
 ghost use Rattle.adp_model.specs.PosedProblem.{IsSpan};
 ghost use Rattle.adp_model.specs.WellFormed.{IsKnown};
-ghost use Rattle.viable_splits.specs.Placing.{AreLengths, ArePlaces};
+ghost use Rattle.viable_splits.specs.Placing.{AreLengths, ArePositions};
 
 use crate::ends::argument_ends;
 use crate::matcher::Matcher;
@@ -60,8 +60,8 @@ pub fn first_ends<M: Matcher>(
     requires few { length arguments.now ≤ 4 }
     requires span { IsSpan (M.posed matcher.now).word from last }
     requires short { last < 2 ^ 16 }
-    ensures places { (first : Argument) (later : List Argument) → arguments.now ≡ first ∷ later
-        → ArePlaces (M.posed matcher.now) first later from last result }
+    ensures positions { (first : Argument) (later : List Argument) → arguments.now ≡ first ∷ later
+        → ArePositions (M.posed matcher.now) first later from last result }
     ensures start { result.start ≤ last + 1 }
     ensures end { result.end ≤ last + 1 }
 {

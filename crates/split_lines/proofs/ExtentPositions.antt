@@ -1,4 +1,4 @@
--- The extent of an argument, and the places at which it may end and begin.
+-- The extent of an argument, and the positions at which it may end and begin.
 use Rattle.std.proofs.Common.{◌≡◌, ◌↔◌, ℕ, max, min, ◌+◌, ◌-◌, ◌<◌, ◌≤◌, Option, Some, None, IfSome, length, subst, sym, arith}
 use Rattle.adp_model.specs.declared.grammar.Arg.{Arg}
 use Rattle.adp_model.specs.declared.grammar.Arg.TheVariants.{Rule, Run}

@@ -1,4 +1,4 @@
--- The arguments of a line up to its second one of open length, at a place of the boundary.
+-- The arguments of a line up to its second one of open length, at a position of the boundary.
 use Rattle.std.proofs.Common.{◌≡◌, ℕ, ◌+◌, ◌≤◌, ℤ, ◌+ℤ◌, ◌*ℤ◌, nat_abs, Option, Some, List, [], ◌∷◌, ◌++◌, length, get_or, refl, sym, subst, ◌∙◌, arith}
 use Rattle.std.specs.List.{AllByRecursion, Contains}
 use Rattle.std.proofs.lemmas.Int.{ints}
@@ -49,7 +49,7 @@ weighted_back p front back factors others each it = record {
 }
 
 module _ (p : PosedProblem) (line : OpenedLine) (opened : IsOpened p line) where
-  open line use {arguments.{first.{now as first}, first_factor, middle.{now as middle}, middle_factors.{now as middle_factors}, second.{now as second}, second_factor}, boundary.{letters, last, places.{now as places}}, from}
+  open line use {arguments.{first.{now as first}, first_factor, middle.{now as middle}, middle_factors.{now as middle_factors}, second.{now as second}, second_factor}, boundary.{letters, last, positions.{now as positions}}, from}
 
   middle_and_second : AreWeighted p (middle ++ second ∷ []) (middle_factors ++ second_factor ∷ [])
   middle_and_second = weighted_rest p first (middle ++ second ∷ []) first_factor (middle_factors ++ second_factor ∷ []) opened.weighted
@@ -63,57 +63,57 @@ module _ (p : PosedProblem) (line : OpenedLine) (opened : IsOpened p line) where
   pub second_known : IsKnown p.grammar second
   second_known = second_weighted.known.0
 
-  -- the total through the place of this number
+  -- the total through the position of this number
   abbrev pub Through : ℕ → ℤ → Type 0
-  Through number = HasLineTotal p line (get_or places number 0)
+  Through number = HasLineTotal p line (get_or positions number 0)
 
-  -- behind the last place all totals are found
-  pub all_through : (count : ℕ) (greatest : Option ℤ) → length places ≤ count → count ≤ length places → IsGreatestOf (HasBefore Through count) greatest
+  -- behind the last position all totals are found
+  pub all_through : (count : ℕ) (greatest : Option ℤ) → length positions ≤ count → count ≤ length positions → IsGreatestOf (HasBefore Through count) greatest
       → IsGreatestOf (HasTotal p (HasBestScore p) (first ∷ (middle ++ second ∷ [])) (first_factor ∷ (middle_factors ++ second_factor ∷ [])) from last) greatest
   all_through count greatest l m before =
       greatest_same (HasBefore Through count) (HasTotal p (HasBestScore p) (first ∷ (middle ++ second ∷ [])) (first_factor ∷ (middle_factors ++ second_factor ∷ [])) from last) greatest
-      (λ total h. through_total p (HasBestScore p) first middle second first_factor middle_factors second_factor from letters last places opened.boundary opened.middle_each (get_or places h.0 0) total (Contains-get_or places h.0 0 (omega (arith, h.1, m))) h.2)
+      (λ total h. through_total p (HasBestScore p) first middle second first_factor middle_factors second_factor from letters last positions opened.boundary opened.middle_each (get_or positions h.0 0) total (Contains-get_or positions h.0 0 (omega (arith, h.1, m))) h.2)
       (λ total has.
-      let it = total_through p (HasBestScore p) first middle second first_factor middle_factors second_factor from letters last places opened.boundary opened.middle_each total has in
-      let at : get_or places it.1.0 0 ≡ it.0 = get_or_default places it.1.0 0 it.0 it.1.1 ∙ it.1.2 in
-      (it.1.0, omega (arith, it.1.1, l), subst (λ place. HasLineTotal p line place total) (sym at) it.2))
+      let it = total_through p (HasBestScore p) first middle second first_factor middle_factors second_factor from letters last positions opened.boundary opened.middle_each total has in
+      let at : get_or positions it.1.0 0 ≡ it.0 = get_or_default positions it.1.0 0 it.0 it.1.1 ∙ it.1.2 in
+      (it.1.0, omega (arith, it.1.1, l), subst (λ position. HasLineTotal p line position total) (sym at) it.2))
       before
 
-  module _ (place : ℕ) (stands : Contains places place) where
-    pub first_fits : FitsSpan p (on_span first from place)
-    first_fits = ((opened.boundary.exact place).0 stands).0
+  module _ (position : ℕ) (stands : Contains positions position) where
+    pub first_fits : FitsSpan p (on_span first from position)
+    first_fits = ((opened.boundary.exact position).0 stands).0
 
-    pub middle_covers : Cover p middle place (place + letters)
-    middle_covers = ((opened.boundary.exact place).0 stands).1
+    pub middle_covers : Cover p middle position (position + letters)
+    middle_covers = ((opened.boundary.exact position).0 stands).1
 
-    pub second_fits : FitsSpan p (on_span second (place + letters) last)
-    second_fits = ((opened.boundary.exact place).0 stands).2
+    pub second_fits : FitsSpan p (on_span second (position + letters) last)
+    second_fits = ((opened.boundary.exact position).0 stands).2
 
-    pub first_token_low : nat_abs (token_value p.grammar first (letters_between p.word from place)) ≤ greatest_score
-    first_token_low = opened.weighted.tokens_low first from place (0, omega arith, refl) first_fits
+    pub first_token_low : nat_abs (token_value p.grammar first (letters_between p.word from position)) ≤ greatest_score
+    first_token_low = opened.weighted.tokens_low first from position (0, omega arith, refl) first_fits
 
-    pub second_token_low : nat_abs (token_value p.grammar second (letters_between p.word (place + letters) last)) ≤ greatest_score
-    second_token_low = second_weighted.tokens_low second (place + letters) last (0, omega arith, refl) second_fits
+    pub second_token_low : nat_abs (token_value p.grammar second (letters_between p.word (position + letters) last)) ≤ greatest_score
+    second_token_low = second_weighted.tokens_low second (position + letters) last (0, omega arith, refl) second_fits
 
-    pub middle_low : AreLow p middle middle_factors place (place + letters)
+    pub middle_low : AreLow p middle middle_factors position (position + letters)
     middle_low =
-        low_front p middle (second ∷ []) middle_factors (second_factor ∷ []) place (place + letters) last opened.middle_each
-        (low_rest p first (middle ++ second ∷ []) first_factor (middle_factors ++ second_factor ∷ []) from place last opened.low first_fits)
+        low_front p middle (second ∷ []) middle_factors (second_factor ∷ []) position (position + letters) last opened.middle_each
+        (low_rest p first (middle ++ second ∷ []) first_factor (middle_factors ++ second_factor ∷ []) from position last opened.low first_fits)
         (last, second_fits, refl)
 
-    module _ (sound : AreSound p) (value between other : ℤ) (is_value : IsValue p (HasBestScore p) (on_span first from place) value) (has_between : HasTotal p (HasBestScore p) middle middle_factors place (place + letters) between)
-        (is_other : IsValue p (HasBestScore p) (on_span second (place + letters) last) other) where
+    module _ (sound : AreSound p) (value between other : ℤ) (is_value : IsValue p (HasBestScore p) (on_span first from position) value) (has_between : HasTotal p (HasBestScore p) middle middle_factors position (position + letters) between)
+        (is_other : IsValue p (HasBestScore p) (on_span second (position + letters) last) other) where
       pub through_parts_low : nat_abs (first_factor *ℤ value) + nat_abs between + nat_abs (second_factor *ℤ other) ≤ greatest_score
       through_parts_low =
-          through_low p (HasBestScore p) first middle second first_factor middle_factors second_factor from letters last places opened.boundary opened.middle_each sound.within opened.low place (((first_factor *ℤ value) +ℤ between) +ℤ (second_factor *ℤ other)) stands
+          through_low p (HasBestScore p) first middle second first_factor middle_factors second_factor from letters last positions opened.boundary opened.middle_each sound.within opened.low position (((first_factor *ℤ value) +ℤ between) +ℤ (second_factor *ℤ other)) stands
           (record { value = value; is_value = is_value; between = between; has_between = has_between; other = other; is_other = is_other; is = refl })
 
-      pub greatest_here : IsGreatestOf (HasLineTotal p line place) (Some (((first_factor *ℤ value) +ℤ between) +ℤ (second_factor *ℤ other)))
+      pub greatest_here : IsGreatestOf (HasLineTotal p line position) (Some (((first_factor *ℤ value) +ℤ between) +ℤ (second_factor *ℤ other)))
       greatest_here =
-          greatest_through p (HasBestScore p) first middle second first_factor middle_factors second_factor from letters last places opened.boundary opened.middle_each sound.one opened.middle_fixed place value between other is_value has_between is_other
+          greatest_through p (HasBestScore p) first middle second first_factor middle_factors second_factor from letters last positions opened.boundary opened.middle_each sound.one opened.middle_fixed position value between other is_value has_between is_other
 
-      pub one_here : (number : ℤ) → HasLineTotal p line place number → number ≡ (((first_factor *ℤ value) +ℤ between) +ℤ (second_factor *ℤ other))
-      one_here = one_through p (HasBestScore p) first middle second first_factor middle_factors second_factor from letters last places opened.boundary opened.middle_each sound.one opened.middle_fixed place value between other is_value has_between is_other
+      pub one_here : (number : ℤ) → HasLineTotal p line position number → number ≡ (((first_factor *ℤ value) +ℤ between) +ℤ (second_factor *ℤ other))
+      one_here = one_through p (HasBestScore p) first middle second first_factor middle_factors second_factor from letters last positions opened.boundary opened.middle_each sound.one opened.middle_fixed position value between other is_value has_between is_other
 
 -- sums of numbers that are low together
 pub sums_low : (a b c : ℤ) → nat_abs a + nat_abs b + nat_abs c ≤ greatest_score → (nat_abs a ≤ greatest_score) × (nat_abs (a +ℤ b) ≤ greatest_score) × (nat_abs c ≤ greatest_score) × (nat_abs ((a +ℤ b) +ℤ c) ≤ greatest_score)

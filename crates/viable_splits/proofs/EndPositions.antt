@@ -1,4 +1,4 @@
--- The places at which an argument may end.
+-- The positions at which an argument may end.
 use Rattle.std.proofs.Common.{◌≡◌, ℕ, ◌+◌, ◌-◌, ◌≤◌, ◌↔◌, Option, IfSome, Bool, true, false, List, ◌++◌, length, take, drop, refl, sym, ap, subst, ◌∙◌, arith, eqb, length-take, length-drop, length-append}
 use Rattle.std.specs.List.{AllByRecursion, starts_with}
 use Rattle.std.proofs.lemmas.List.{take-take, take_at, take-append-drop}
@@ -17,7 +17,7 @@ pub length-letters_between : (word : List ℕ) (from to : ℕ) → IsSpan word f
 length-letters_between word from to span =
     simp (length-take, length-drop) (omega (arith, span.in_order, span.in_word))
 
--- a number of letters up to the last place keeps a bound exactly where the place that they end at does
+-- a number of letters up to the last position keeps a bound exactly where the position that they end at does
 abbrev pub KeepsMost : ℕ → ℕ → Option ℕ → ℕ → Type 0
 KeepsMost from last high most = (to : ℕ) → from ≤ to → to ≤ last → (to ≤ most) ↔ IfSome high (λ m. to - from ≤ m)
 
@@ -86,7 +86,7 @@ run_ends_at p class low from last most end high span after within exact class_en
       up_to_last = omega arith;
     }
 
--- a literal may end at one place, if it stands there
+-- a literal may end at one position, if it stands there
 pub literal_ends_at : (p : PosedProblem) (text : List ℕ) (from last : ℕ) (starts : Bool) → IsSpan p.word from last → starts ≡ starts_with eqb (take (last - from) (drop from p.word)) text → starts ≡ true → AreEnds p (Literal text) from last (record { start = from + length text; end = from + length text + 1 })
 literal_ends_at p text from last starts span is holds =
     let s = take (last - from) (drop from p.word) in

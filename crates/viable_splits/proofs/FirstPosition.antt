@@ -1,4 +1,4 @@
--- The first place of a boundary from which the rest can be divided: first those from the turn on, then those before it.
+-- The first position of a boundary from which the rest can be divided: first those from the turn on, then those before it.
 use Rattle.std.proofs.Common.{◌≡◌, ℕ, ◌+◌, ◌-◌, ◌<◌, ◌≤◌, ◌⊎◌, inl, inr, min, max, List, [], ◌∷◌, length, drop, refl, sym, subst, ◌∙◌, arith, slice_index}
 use Rattle.std.proofs.lemmas.List.{drop_more}
 use Rattle.std.proofs.lemmas.Bool.{cases_lt}
@@ -8,7 +8,7 @@ use Rattle.adp_model.specs.PosedProblem.{PosedProblem}
 use Rattle.adp_model.specs.Splits.{FitsSpan}
 use Rattle.adp_model.specs.Walk.{rank_of, IsVisitedBefore}
 use Rattle.viable_splits.specs.declared.cuts.Cuts.{Cuts}
-use Rattle.viable_splits.specs.Placing.{on_span, rank_at, moved, ArePlaces, Divide, HasNoneBehind, IsFirstBehind, IsFirstWithin, HasNoneWithin}
+use Rattle.viable_splits.specs.Placing.{on_span, rank_at, moved, ArePositions, Divide, HasNoneBehind, IsFirstBehind, IsFirstWithin, HasNoneWithin}
 use Rattle.viable_splits.proofs.TurnedRanks.{rank_before, rank_after, rank_same}
 use Rattle.viable_splits.proofs.Dividing.{divide_first, divide_later, divide_both, divide_forward, divide_cover, moved_boundary, kept_before}
 
@@ -21,7 +21,7 @@ pub record Looking (p : PosedProblem) (cell : Cell) (argument : Arg) (later : Li
   pub turns_three : length cuts.turns ≡ 3
   pub turned : slice_index cuts.turns number ≤ cell.to - cell.from
   pub few : length later + number ≤ 3
-  pub places : ArePlaces p argument later from cell.to (record { start = start; end = end })
+  pub positions : ArePositions p argument later from cell.to (record { start = start; end = end })
 
 -- one boundary of two that are compared, then the others
 pub visited_before : (cell : Cell) (turns cuts others : List ℕ) (turn cut other : ℕ) (later_turns later_cuts later_others : List ℕ) → turns ≡ turn ∷ later_turns → cuts ≡ cut ∷ later_cuts → others ≡ other ∷ later_others → IsVisitedBefore cell turns cuts others → (rank_of cell turn cut < rank_of cell turn other) ⊎ ((rank_of cell turn cut ≡ rank_of cell turn other) × IsVisitedBefore cell later_turns later_cuts later_others)
@@ -42,7 +42,7 @@ module _ (p : PosedProblem) (cell : Cell) (argument : Arg) (later : List Arg) (f
   turns_at : drop number cuts.turns ≡ slice_index cuts.turns number ∷ drop (number + 1) cuts.turns
   turns_at = drop_more cuts.turns number 0 (omega (arith, look.boundary, look.turns_three))
 
-  -- cuts that divide begin with a place at which the argument may end
+  -- cuts that divide begin with a position at which the argument may end
   record Begun (cut : ℕ) (others : List ℕ) : Type 0 where
     fits : FitsSpan p (on_span argument from cut)
     divides : Divide p later cut cell.to others
@@ -56,7 +56,7 @@ module _ (p : PosedProblem) (cell : Cell) (argument : Arg) (later : List Arg) (f
       let fits = divide_first p argument later from cell.to cut others look.some h in
       let divides = divide_later p argument later from cell.to cut others look.some h in
       let last = divide_forward p later cut cell.to others look.some divides in
-      let between = look.places.none_missed cut fits (divide_cover p later cut cell.to others look.some (omega (arith, look.few)) divides) in
+      let between = look.positions.none_missed cut fits (divide_cover p later cut cell.to others look.some (omega (arith, look.few)) divides) in
       record {
         fits = fits;
         divides = divides;
@@ -66,47 +66,47 @@ module _ (p : PosedProblem) (cell : Cell) (argument : Arg) (later : List Arg) (f
         first = omega (arith, look.after, fits.0.in_order);
       }
 
-  -- nothing divides the rest from places of lesser rank
+  -- nothing divides the rest from positions of lesser rank
   abbrev NoneOfLesserRank : ℕ → ℕ → Type 0
-  NoneOfLesserRank least_rank place =
+  NoneOfLesserRank least_rank position =
       (cut : ℕ) → start ≤ cut → cut < end → cell.from ≤ cut → cut ≤ cell.to
       → least_rank ≤ rank_at cell cuts.turns number cut
-      → rank_at cell cuts.turns number cut < rank_at cell cuts.turns number place
+      → rank_at cell cuts.turns number cut < rank_at cell cuts.turns number position
       → HasNoneBehind p cell later cut (number + 1) 0 cuts.turns
 
-  module _ (least_rank place : ℕ) (found : Cuts) (low : start ≤ place) (high : place < end) (ranked : least_rank ≤ rank_at cell cuts.turns number place) (there : IsFirstBehind p cell later place (number + 1) 0 (moved cuts number place) found) (none : NoneOfLesserRank least_rank place) where
-    found_at : drop number found.at ≡ place ∷ drop (number + 1) found.at
-    found_at = moved_boundary found.at cuts.at number place (omega (arith, look.boundary, look.at_three)) (there.continues.three ∙ sym look.at_three) there.continues.kept
+  module _ (least_rank position : ℕ) (found : Cuts) (low : start ≤ position) (high : position < end) (ranked : least_rank ≤ rank_at cell cuts.turns number position) (there : IsFirstBehind p cell later position (number + 1) 0 (moved cuts number position) found) (none : NoneOfLesserRank least_rank position) where
+    found_at : drop number found.at ≡ position ∷ drop (number + 1) found.at
+    found_at = moved_boundary found.at cuts.at number position (omega (arith, look.boundary, look.at_three)) (there.continues.three ∙ sym look.at_three) there.continues.kept
 
-    found_here : slice_index found.at number ≡ place
+    found_here : slice_index found.at number ≡ position
     found_here =
         let e = drop_more found.at number 0 (omega (arith, look.boundary, there.continues.three)) in
-        let f : slice_index found.at number ∷ drop (number + 1) found.at ≡ place ∷ drop (number + 1) found.at = sym e ∙ found_at in
+        let f : slice_index found.at number ∷ drop (number + 1) found.at ≡ position ∷ drop (number + 1) found.at = sym e ∙ found_at in
         cc
 
-    place_last : place ≤ cell.to
-    place_last = divide_forward p later place cell.to (drop (number + 1) found.at) look.some there.continues.divides
+    position_last : position ≤ cell.to
+    position_last = divide_forward p later position cell.to (drop (number + 1) found.at) look.some there.continues.divides
 
     none_first : (others : List ℕ) → length others + number ≡ 3 → Divide p (argument ∷ later) from cell.to others → least_rank ≤ rank_at cell cuts.turns number (slice_index others 0) → IsVisitedBefore cell (drop number cuts.turns) others (drop number found.at) → ⊥
     none_first [] l h r before = omega (arith, look.boundary)
     none_first (cut ∷ others) l h r before =
         let many : length others + (number + 1) ≡ 3 = omega arith in
         let b = begun cut others many h in
-        elim (visited_before cell (drop number cuts.turns) (cut ∷ others) (drop number found.at) (slice_index cuts.turns number) cut place (drop (number + 1) cuts.turns) others (drop (number + 1) found.at) turns_at refl found_at before) [
+        elim (visited_before cell (drop number cuts.turns) (cut ∷ others) (drop number found.at) (slice_index cuts.turns number) cut position (drop (number + 1) cuts.turns) others (drop (number + 1) found.at) turns_at refl found_at before) [
           | inl lesser ↦ none cut b.low b.high b.first b.last r lesser others many b.divides (omega arith)
           | inr equal ↦
-              let same = rank_same cell (slice_index cuts.turns number) cut place look.turned b.first b.last (omega (arith, low, look.places.behind, look.after)) place_last equal.0 in
+              let same = rank_same cell (slice_index cuts.turns number) cut position look.turned b.first b.last (omega (arith, low, look.positions.behind, look.after)) position_last equal.0 in
               there.first others many (subst (λ c. Divide p later c cell.to others) same b.divides) (omega arith) equal.1
         ]
 
-    first_from_place : IsFirstBehind p cell (argument ∷ later) from number least_rank cuts found
-    first_from_place =
+    first_from_position : IsFirstBehind p cell (argument ∷ later) from number least_rank cuts found
+    first_from_position =
         record {
           continues = record {
             turns = there.continues.turns;
             three = there.continues.three;
-            kept = kept_before found.at cuts.at number place (omega (arith, look.boundary, look.at_three)) there.continues.kept;
-            divides = subst (Divide p (argument ∷ later) from cell.to) (sym found_at) (divide_both p argument later from cell.to place (drop (number + 1) found.at) look.some (look.places.fit place low high) there.continues.divides);
+            kept = kept_before found.at cuts.at number position (omega (arith, look.boundary, look.at_three)) there.continues.kept;
+            divides = subst (Divide p (argument ∷ later) from cell.to) (sym found_at) (divide_both p argument later from cell.to position (drop (number + 1) found.at) look.some (look.positions.fit position low high) there.continues.divides);
           };
           behind = subst (λ n. least_rank ≤ rank_at cell cuts.turns number n) (sym found_here) ranked;
           first = none_first;
@@ -116,29 +116,29 @@ module _ (p : PosedProblem) (cell : Cell) (argument : Arg) (later : List Arg) (f
   abbrev pivot : ℕ
   pivot = cell.from + slice_index cuts.turns number
 
-  -- a place from the turn on
+  -- a position from the turn on
   pub first_ahead : (least_rank ahead : ℕ) (found : Cuts) → ahead ≡ max start (pivot + least_rank) → IsFirstWithin p cell later ahead end number cuts found → IsFirstBehind p cell (argument ∷ later) from number least_rank cuts found
   first_ahead least_rank ahead found ahead_is w =
       let turn = slice_index cuts.turns number in
-      let within : w.place ≤ cell.to = omega (arith, w.high, look.places.up_to_last) in
-      let rank_place = rank_after cell turn w.place look.turned within (omega (arith, w.low)) in
-      first_from_place least_rank w.place found (omega (arith, w.low)) w.high (omega (arith, w.low, rank_place)) w.there
+      let within : w.position ≤ cell.to = omega (arith, w.high, look.positions.up_to_last) in
+      let rank_position = rank_after cell turn w.position look.turned within (omega (arith, w.low)) in
+      first_from_position least_rank w.position found (omega (arith, w.low)) w.high (omega (arith, w.low, rank_position)) w.there
       (λ cut low high first last ranked lesser.
       elim (cases_lt cut pivot) [
-        | inl before ↦ absurd (omega (arith, rank_before cell turn cut look.turned first before, rank_place, look.turned))
+        | inl before ↦ absurd (omega (arith, rank_before cell turn cut look.turned first before, rank_position, look.turned))
         | inr after ↦
             let rank_cut = rank_after cell turn cut look.turned last after in
             w.none_before cut (omega arith) (omega (arith, w.low))
       ])
 
-  -- a place before the turn
+  -- a position before the turn
   pub first_wrapped : (least_rank ahead wrapped before_turn : ℕ) (found : Cuts) → ahead ≡ max start (pivot + least_rank) → wrapped ≡ max start (cell.from + (least_rank - (cell.to + 1 - pivot))) → before_turn ≡ min end pivot → HasNoneWithin p cell later ahead end number cuts.turns → IsFirstWithin p cell later wrapped before_turn number cuts found → IsFirstBehind p cell (argument ∷ later) from number least_rank cuts found
   first_wrapped least_rank ahead wrapped before_turn found ahead_is wrapped_is before_turn_is none w =
       let turn = slice_index cuts.turns number in
-      let before : w.place < pivot = omega (arith, w.high) in
-      let first : cell.from ≤ w.place = omega (arith, w.low) in
-      let rank_place = rank_before cell turn w.place look.turned first before in
-      first_from_place least_rank w.place found (omega (arith, w.low)) (omega (arith, w.high)) (omega (arith, w.low, rank_place, look.turned)) w.there
+      let before : w.position < pivot = omega (arith, w.high) in
+      let first : cell.from ≤ w.position = omega (arith, w.low) in
+      let rank_position = rank_before cell turn w.position look.turned first before in
+      first_from_position least_rank w.position found (omega (arith, w.low)) (omega (arith, w.high)) (omega (arith, w.low, rank_position, look.turned)) w.there
       (λ cut low high first_cut last ranked lesser.
       elim (cases_lt cut pivot) [
         | inl before_cut ↦
@@ -149,7 +149,7 @@ module _ (p : PosedProblem) (cell : Cell) (argument : Arg) (later : List Arg) (f
             none cut (omega arith) high
       ])
 
-  -- no place at all
+  -- no position at all
   pub none_either : (least_rank ahead wrapped before_turn : ℕ) → ahead ≡ max start (pivot + least_rank) → wrapped ≡ max start (cell.from + (least_rank - (cell.to + 1 - pivot))) → before_turn ≡ min end pivot → HasNoneWithin p cell later ahead end number cuts.turns → HasNoneWithin p cell later wrapped before_turn number cuts.turns → HasNoneBehind p cell (argument ∷ later) from number least_rank cuts.turns
   none_either least_rank ahead wrapped before_turn ahead_is wrapped_is before_turn_is none_ahead none_wrapped [] l h r = omega (arith, look.boundary)
   none_either least_rank ahead wrapped before_turn ahead_is wrapped_is before_turn_is none_ahead none_wrapped (cut ∷ others) l h r =
