@@ -17,7 +17,7 @@ use Rattle.traceback.specs.Preorder.{nodes_of, nodes_of_all}
 use Rattle.report.specs.declared.tree_lines.Piece.{Piece}
 use Rattle.report.specs.declared.tree_lines.Piece.TheVariants.{Mark, Letters, Subtree}
 use Rattle.adp_model.specs.Ascii.{closing_bracket, comma}
-use Rattle.report.specs.Pieces.{AreBestNodes, StandsFor, Waiting, Unwritten, head_text, piece_of, child_pieces, further_pieces, pieces_behind}
+use Rattle.report.specs.Pieces.{AreBestNodes, StandsFor, Waiting, Unwritten, head_text, piece_of, child_pieces, comma_before, pieces_behind}
 
 append-nil : {A : Type 0} (xs : List A) → xs ++ [] ≡ xs
 append-nil [] = refl
@@ -107,10 +107,6 @@ written_letters p written pieces from to nodes whole unwritten =
 
 -- ---- children
 
--- a tree under a comma
-under_comma : (p : PosedProblem) (piece : Piece) (nodes : List NodeAt) (text : List ℕ) → StandsFor p piece nodes text → Waiting p (piece ∷ Mark comma ∷ []) nodes (comma ∷ text)
-under_comma p piece nodes text stands = (nodes, [], text, comma ∷ [], stands, ([], [], comma ∷ [], [], (refl, refl), (refl, refl), refl, refl), refl, refl)
-
 alone : (p : PosedProblem) (piece : Piece) (nodes : List NodeAt) (text : List ℕ) → StandsFor p piece nodes text → Waiting p (piece ∷ []) nodes text
 alone p piece nodes text stands = (nodes, [], text, [], stands, (refl, refl), refl, refl)
 
@@ -118,20 +114,27 @@ leaf_stands : (p : PosedProblem) (from from' to : ℕ) → from' ≡ from → Is
 leaf_stands p from from' to e span =
     subst (λ (x : ℕ). StandsFor p (Letters x to) [] (quoted (letters_between p.word from' to))) e (span, refl, refl)
 
+-- children on the stack with a comma over them
 Waiting-further : (p : PosedProblem) (arguments : List Arg) (from to : ℕ) (children : Trees) → DeriveArguments p arguments from to children
-    → Waiting p (further_pieces (place arguments from (ends_of children))) (nodes_of_all children) (further_text p children)
-Waiting-further p [] from to Nil h = (refl, refl)
-Waiting-further p [] from to (Cons first others) h = absurd h
-Waiting-further p (argument ∷ arguments) from to Nil h = absurd h
-Waiting-further p (Rule rule ∷ arguments) from to (Cons first others) h =
-    Waiting-append p (further_pieces (place arguments (end_of first) (ends_of others))) (Subtree ∷ Mark comma ∷ []) (nodes_of_all others) (nodes_of first) (further_text p others) (comma ∷ tree_text p first)
-    (Waiting-further p arguments (end_of first) to others h.1)
-    (under_comma p Subtree (nodes_of first) (tree_text p first) (record { rule = rule; from = from; to = end_of first }, first, h.0, refl, refl))
-Waiting-further p (token ∷ arguments) from to (Cons (Leaf from' to') others) h =
-    Waiting-append p (further_pieces (place arguments to' (ends_of others))) (Letters from to' ∷ Mark comma ∷ []) (nodes_of_all others) [] (further_text p others) (comma ∷ tree_text p (Leaf from' to'))
-    (Waiting-further p arguments to' to others h.1)
-    (under_comma p (Letters from to') [] (tree_text p (Leaf from' to')) (leaf_stands p from from' to' h.0.0 h.0.1))
-Waiting-further p (token ∷ arguments) from to (Cons (Node rule alternative from' to' children) others) h = absurd h.0
+    → Waiting p (child_pieces (place arguments from (ends_of children))) (nodes_of_all children) (children_text p children)
+    → Waiting p (child_pieces (place arguments from (ends_of children)) ++ comma_before (place arguments from (ends_of children))) (nodes_of_all children) (further_text p children)
+Waiting-further p [] from to Nil h waiting = (refl, refl)
+Waiting-further p [] from to (Cons first others) h waiting = absurd h
+Waiting-further p (argument ∷ arguments) from to Nil h waiting = absurd h
+Waiting-further p (argument ∷ arguments) from to (Cons first others) h waiting =
+    let children : Trees = Cons first others in
+    Waiting-append p (child_pieces (place (argument ∷ arguments) from (ends_of children))) (Mark comma ∷ []) (nodes_of_all children) [] (children_text p children) (comma ∷ []) waiting
+    (alone p (Mark comma) [] (comma ∷ []) (refl, refl))
+
+-- a child over further ones
+Waiting-over : (p : PosedProblem) (arguments : List Arg) (from to : ℕ) (others : Trees) → DeriveArguments p arguments from to others
+    → Waiting p (child_pieces (place arguments from (ends_of others))) (nodes_of_all others) (children_text p others)
+    → (piece : Piece) (own : List NodeAt) (own_text : List ℕ) → StandsFor p piece own own_text
+    → Waiting p ((child_pieces (place arguments from (ends_of others)) ++ comma_before (place arguments from (ends_of others))) ++ piece ∷ []) (own ++ nodes_of_all others) (own_text ++ further_text p others)
+Waiting-over p arguments from to others h waiting piece own own_text stands =
+    let places : List Placed = place arguments from (ends_of others) in
+    Waiting-append p (child_pieces places ++ comma_before places) (piece ∷ []) (nodes_of_all others) own (further_text p others) own_text
+    (Waiting-further p arguments from to others h waiting) (alone p piece own own_text stands)
 
 Waiting-children : (p : PosedProblem) (arguments : List Arg) (from to : ℕ) (children : Trees) → DeriveArguments p arguments from to children
     → Waiting p (child_pieces (place arguments from (ends_of children))) (nodes_of_all children) (children_text p children)
@@ -139,13 +142,11 @@ Waiting-children p [] from to Nil h = (refl, refl)
 Waiting-children p [] from to (Cons first others) h = absurd h
 Waiting-children p (argument ∷ arguments) from to Nil h = absurd h
 Waiting-children p (Rule rule ∷ arguments) from to (Cons first others) h =
-    Waiting-append p (further_pieces (place arguments (end_of first) (ends_of others))) (Subtree ∷ []) (nodes_of_all others) (nodes_of first) (further_text p others) (tree_text p first)
-    (Waiting-further p arguments (end_of first) to others h.1)
-    (alone p Subtree (nodes_of first) (tree_text p first) (record { rule = rule; from = from; to = end_of first }, first, h.0, refl, refl))
+    Waiting-over p arguments (end_of first) to others h.1 (Waiting-children p arguments (end_of first) to others h.1)
+    Subtree (nodes_of first) (tree_text p first) (record { rule = rule; from = from; to = end_of first }, first, h.0, refl, refl)
 Waiting-children p (token ∷ arguments) from to (Cons (Leaf from' to') others) h =
-    Waiting-append p (further_pieces (place arguments to' (ends_of others))) (Letters from to' ∷ []) (nodes_of_all others) [] (further_text p others) (tree_text p (Leaf from' to'))
-    (Waiting-further p arguments to' to others h.1)
-    (alone p (Letters from to') [] (tree_text p (Leaf from' to')) (leaf_stands p from from' to' h.0.0 h.0.1))
+    Waiting-over p arguments to' to others h.1 (Waiting-children p arguments to' to others h.1)
+    (Letters from to') [] (tree_text p (Leaf from' to')) (leaf_stands p from from' to' h.0.0 h.0.1)
 Waiting-children p (token ∷ arguments) from to (Cons (Node rule alternative from' to' children) others) h = absurd h.0
 
 -- ---- a node
@@ -236,15 +237,13 @@ length-place [] from ends = omega arith
 length-place (argument ∷ arguments) from [] = omega arith
 length-place (argument ∷ arguments) from (to ∷ ends) = let h = length-place arguments to ends in omega arith
 
-length-further : (places : List Placed) → length (further_pieces places) ≡ 2 * length places
-length-further [] = refl
-length-further (place ∷ places) =
-    let h = length-further places in omega (arith, length-append (further_pieces places) (piece_of place ∷ Mark comma ∷ []))
-
-length-children : (places : List Placed) → length places ≤ 4 → length (child_pieces places) ≤ 7
-length-children [] few = omega arith
-length-children (place ∷ places) few =
-    let h = length-further places in omega (arith, length-append (further_pieces places) (piece_of place ∷ []))
+length-children : (places : List Placed) → length (child_pieces places) ≤ 2 * length places - 1
+length-children [] = omega arith
+length-children (place ∷ []) = omega arith
+length-children (place ∷ next ∷ places) =
+    let further = child_pieces (next ∷ places) in
+    let h = length-children (next ∷ places) in
+    omega (arith, length-append (further ++ Mark comma ∷ []) (piece_of place ∷ []), length-append further (Mark comma ∷ []))
 
 -- behind the head of a node there are at most four children, three commas and a bracket
 pub few_pieces : (p : PosedProblem) → ((rule alternative : ℕ) → length (arguments_of p.grammar rule alternative) ≤ 4)
@@ -254,7 +253,7 @@ few_pieces p few node =
     let arguments = arguments_of p.grammar node.cell.rule node.choice.alt in
     let h : length places ≤ length arguments = length-place arguments node.cell.from (node.choice.cuts ++ node.cell.to ∷ []) in
     let four : length arguments ≤ 4 = few node.cell.rule node.choice.alt in
-    let k : length (child_pieces places) ≤ 7 = length-children places (omega arith) in
+    let k : length (child_pieces places) ≤ 2 * length places - 1 = length-children places in
     omega arith
 
 -- ---- the code's words for the first node and the others

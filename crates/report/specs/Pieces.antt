@@ -53,15 +53,15 @@ piece_of placed = of placed.argument
     of (Rule rule) = Subtree
     of token = Letters placed.from placed.to
 
--- further children with a comma before each, the first on top
-abbrev pub further_pieces : List Placed → List Piece
-further_pieces [] = []
-further_pieces (placed ∷ others) = further_pieces others ++ piece_of placed ∷ Mark comma ∷ []
+-- the comma before further children, where there are any
+abbrev pub comma_before : List Placed → List Piece
+comma_before [] = []
+comma_before (placed ∷ others) = Mark comma ∷ []
 
 -- children with a comma between two, the first on top
 abbrev pub child_pieces : List Placed → List Piece
 child_pieces [] = []
-child_pieces (placed ∷ others) = further_pieces others ++ piece_of placed ∷ []
+child_pieces (placed ∷ others) = (child_pieces others ++ comma_before others) ++ piece_of placed ∷ []
 
 -- what waits behind the head of a node: its children, and a bracket
 abbrev pub pieces_behind : PosedProblem → NodeAt → List Piece

@@ -5,7 +5,7 @@ ghost use Rattle.adp_model.specs.PosedProblem.{IsSpan};
 ghost use Rattle.adp_model.specs.Parts.{alternatives_of, alternative_at};
 ghost use Rattle.adp_model.specs.Splits.{place};
 ghost use Rattle.adp_model.specs.Tokens.{letters_between};
-ghost use Rattle.report.specs.Pieces.{AreBestNodes, IsBestText, Unwritten, Waiting, child_pieces, further_pieces, head_text, piece_of, pieces_behind};
+ghost use Rattle.report.specs.Pieces.{AreBestNodes, IsBestText, Unwritten, Waiting, child_pieces, comma_before, head_text, piece_of, pieces_behind};
 
 use adp_model::laws::derivation::children_are_placed;
 use adp_model::laws::well_formed::arguments_are_few_and_known;
@@ -128,7 +128,7 @@ fn push_behind(
     )
 }
 
-// Puts children on the stack, with a comma between two, the first on top.
+// Puts children on the stack, with a comma between two, the first on top. There are at most four.
 fn push_children(
     pieces: &mut Vec<Piece>,
     arguments: &[Arg],
@@ -141,32 +141,25 @@ fn push_children(
         ([], _) => Ok(()),
         (_, []) => Ok(()),
         ([argument, arguments @ ..], [to, ends @ ..]) => {
-            push_further(pieces, arguments, *to, ends)?;
+            push_children(pieces, arguments, *to, ends)?;
+            push_comma(pieces, arguments, ends)?;
             pieces.push(waiting_child(argument, from, *to))?;
             Ok(())
         }
     }
 }
 
-// Puts further children on the stack, with a comma before each, the first on top. There are at most three.
-fn push_further(
-    pieces: &mut Vec<Piece>,
-    arguments: &[Arg],
-    from: u16,
-    ends: &[u16],
-) -> Result<(), AllocError>
-    ensures { OnOk result (pieces.new.items ≡ pieces.old.items ++ further_pieces (place arguments.now from ends.now)) }
+// Puts a comma on the stack where there are further children.
+fn push_comma(pieces: &mut Vec<Piece>, arguments: &[Arg], ends: &[u16]) -> Result<(), AllocError>
+    ensures { OnOk result ((from : ℕ)
+        → pieces.new.items ≡ pieces.old.items ++ comma_before (place arguments.now from ends.now)) }
 {
-    match (arguments, ends) {
-        ([], _) => Ok(()),
-        (_, []) => Ok(()),
-        ([argument, arguments @ ..], [to, ends @ ..]) => {
-            push_further(pieces, arguments, *to, ends)?;
-            pieces.push(waiting_child(argument, from, *to))?;
-            pieces.push(Piece::Mark(b','))?;
-            Ok(())
-        }
+    let further = arguments.len().min(ends.len());
+    if further == 0 {
+        return Ok(());
     }
+    pieces.push(Piece::Mark(b','))?;
+    Ok(())
 }
 
 // What an argument on a span waits as.

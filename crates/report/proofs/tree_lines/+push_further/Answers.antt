@@ -1,7 +1,0 @@
-use Rattle.std.proofs.Common.{arith}
-use Rattle.std.proofs.lemmas.Grind.{common_steps}
-use Rattle.report.proofs.Children.{further_pieces-none}
-use Rattle.report.proofs.tree_lines.+push_further.Goals as goal
-
-pub returns-in_default-empty : goal.returns-in_default-empty
-returns-in_default-empty t c = grind (arith, common_steps, further_pieces-none c.args.arguments.now c.args.from)
