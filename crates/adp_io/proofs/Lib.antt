@@ -1,3 +1,4 @@
 pub mod Told
 pub mod MemoryLemmas
 pub mod Asked
+pub mod Faults

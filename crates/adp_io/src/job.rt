@@ -27,7 +27,6 @@ pub enum JobFault {
 
 /// Reads to the end of the source, or until one byte more than `JOB_LIMIT` has come, in pieces of at most
 /// `PIECE_LIMIT` bytes. After a refusal the bytes read are gone.
-#[tactic(auto, using(crate::proofs::Asked::over_reads))]
 pub fn read_job<S: Source>(alloc: Global, source: &mut S) -> Result<Vec<u8>, JobFault>
     ensures told { SameTold (S.left source.old) (S.left source.new) }
     ensures faults { RisesWhere (S.faults source.old) (S.faults source.new) (IsErrOf result JobFault.ReadFault) }
