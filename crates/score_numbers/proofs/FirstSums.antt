@@ -20,9 +20,11 @@ use Rattle.score_numbers.proofs.LargestSums.{number_back, number_is, plain_sum, 
 
 -- ---- numbers as bits
 
+pub same_number : (a b : ℤ) → FitsSigned w64 a → FitsSigned w64 b → of_z w64 a ≡ of_z w64 b → a ≡ b
+same_number a b fits_a fits_b same = sym (to_z-of_z w64 a fits_a) ∙ ap (to_z w64) same ∙ to_z-of_z w64 b fits_b
+
 pub same_bits : (a b : ℤ) → FitsSigned w64 a → FitsSigned w64 b → nat_eq (of_z w64 a) (of_z w64 b) ≡ true → a ≡ b
-same_bits a b fits_a fits_b same =
-    sym (to_z-of_z w64 a fits_a) ∙ ap (to_z w64) ((Decides-eqb (of_z w64 a) (of_z w64 b)).0 same) ∙ to_z-of_z w64 b fits_b
+same_bits a b fits_a fits_b same = same_number a b fits_a fits_b ((Decides-eqb (of_z w64 a) (of_z w64 b)).0 same)
 
 pub bits_same : (a b : ℤ) → a ≡ b → nat_eq (of_z w64 a) (of_z w64 b) ≡ true
 bits_same a b e = (Decides-eqb (of_z w64 a) (of_z w64 b)).1 (ap (of_z w64) e)

@@ -14,7 +14,7 @@ use Rattle.std.proofs.lemmas.Option.{slice_get-get_or, slice_get-map}
 use Rattle.adp_model.specs.ProblemFields.{greatest_score}
 use Rattle.score_numbers.specs.declared.sums.Positions.{Positions}
 use Rattle.score_numbers.specs.declared.sums.Scales.{Scales}
-use Rattle.score_numbers.specs.Packing.{Width, IsProper, short}
+use Rattle.score_numbers.specs.Packing.{Width, AreProper, IsProper, short}
 use Rattle.score_numbers.specs.Spaced.{IsSpaced, least_sum}
 use Rattle.score_numbers.specs.Entries.{no_candidate, score_of_entry}
 use Rattle.score_numbers.specs.Limits.{no_limit, AreLimited}
@@ -422,6 +422,9 @@ module _ (mark : ℤ) (scales : Scales) (firsts seconds : List ℤ) (at : ℕ �
       )
 
 -- numbers that stay as they are
+pub as_proper : (width : Width) (xs : List ℤ) → AreProper width xs → AreProper width (map (λ x. x) xs)
+as_proper width xs = subst (AreProper width) (sym (map-id xs))
+
 module _ (P : List ℤ → List ℤ → Type 0) (xs ys : List ℤ) where
   pub as_values : P xs ys → P (map (λ x. x) xs) (map (λ x. x) ys)
   as_values p = subst (λ zs. P zs (map (λ x. x) ys)) (sym (map-id xs)) (subst (P xs) (sym (map-id ys)) p)

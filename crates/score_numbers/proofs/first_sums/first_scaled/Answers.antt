@@ -13,14 +13,20 @@ use Rattle.score_numbers.proofs.first_sums.first_scaled.Goals.{After-wide-behind
 
 pub loop-index-init : goal.loop-index-init
 loop-index-init g c =
-    let fits_mark : FitsSigned w64 c.args.mark = search rules in
-    let fits_sum : FitsSigned w64 c.args.sum = search rules in
+    let fits_mark : FitsSigned w64 c.args.mark = c.ranges.mark in
+    let fits_sum : FitsSigned w64 c.args.sum = c.ranges.sum in
     simp to_z-of_z c.requires.passed
 
 pub overflow_sub-number : goal.overflow_sub-number
 overflow_sub-number g c =
     let index = c.loop-index.index in
     c.requires.have.from_first (get_or c.args.positions.at.now index 0) (Contains-get_or c.args.positions.at.now index 0 c.loop-index-test.true)
+
+pub bounds-first-number : goal.bounds-first-number
+bounds-first-number g c =
+    let position = get_or c.args.positions.at.now c.loop-index.index 0 in
+    let stands = Contains-get_or c.args.positions.at.now c.loop-index.index 0 c.loop-index-test.true in
+    omega (arith, c.requires.have.before position stands, length-map c.args.first.now g.N.Number.value)
 
 pub bounds-second-number : goal.bounds-second-number
 bounds-second-number g c =
@@ -47,7 +53,7 @@ make-requires g c =
     let stands = Contains-get_or c.args.positions.at.now c.loop-index.index 0 c.loop-index-test.true in
     let fits_a : FitsSigned w64 c.wide-before.result = search rules in
     let fits_b : FitsSigned w64 c.wide-behind.result = search rules in
-    let fits_mark : FitsSigned w64 c.args.mark = search rules in
+    let fits_mark : FitsSigned w64 c.args.mark = c.ranges.mark in
     simp to_z-of_z (record {
       low = scaled_low c.args.mark c.args.scales (map g.N.Number.value c.args.first.now) (map g.N.Number.value c.args.second.now) (number_at c.args.positions position) c.wide-before.result c.wide-behind.result (there g at) (behind g at)
           (λ number it. c.requires.low position number stands it);
@@ -67,16 +73,16 @@ tested g c =
     read_number g.N.Number.value c.args.second.now number c.index-second-number.result b (c.requires.have.behind position stands) c.index-second-number.is c.wide-behind.ensures in
     let fits_a : FitsSigned w64 a = search rules in
     let fits_b : FitsSigned w64 b = search rules in
-    let fits_mark : FitsSigned w64 c.args.mark = search rules in
-    let fits_sum : FitsSigned w64 c.args.sum = search rules in
+    let fits_mark : FitsSigned w64 c.args.mark = c.ranges.mark in
+    let fits_sum : FitsSigned w64 c.args.sum = c.ranges.sum in
     made c.args.mark c.args.scales (map g.N.Number.value c.args.first.now) (map g.N.Number.value c.args.second.now) number a b there behind c.args.sum c.make.result
     (simp to_z-of_z at c.make.ensures.apart) (simp to_z-of_z at c.make.ensures.sum)
 
 pub returns-then-make : goal.returns-then-make
 returns-then-make g c =
     let at = (goal.at.returns-then-make g c).After-make in
-    let fits_mark : FitsSigned w64 c.args.mark = search rules in
-    let fits_sum : FitsSigned w64 c.args.sum = search rules in
+    let fits_mark : FitsSigned w64 c.args.mark = c.ranges.mark in
+    let fits_sum : FitsSigned w64 c.args.sum = c.ranges.sum in
     let H : ℕ → Type 0 = λ position. HasScaledSum c.args.mark c.args.scales (map g.N.Number.value c.args.first.now) (map g.N.Number.value c.args.second.now) (number_at c.args.positions position) c.args.sum in
     let none : HoldsOfNone c.args.positions.at.now H c.loop-index.index = simp to_z-of_z at c.loop-index.invariant in
     found_first c.args.positions.at.now H c.loop-index.index c.requires.rising c.loop-index-test.true none ((tested g at).0 c.if-make.true)
@@ -84,15 +90,15 @@ returns-then-make g c =
 pub loop-index-preserved : goal.loop-index-preserved
 loop-index-preserved g c =
     let at = (goal.at.loop-index-preserved g c).After-make in
-    let fits_mark : FitsSigned w64 c.args.mark = search rules in
-    let fits_sum : FitsSigned w64 c.args.sum = search rules in
+    let fits_mark : FitsSigned w64 c.args.mark = c.ranges.mark in
+    let fits_sum : FitsSigned w64 c.args.sum = c.ranges.sum in
     below_more _ _ c.loop-index.invariant
     (simp to_z-of_z (λ it. absurd (let yes = (tested g at).1 it in let no = c.if-make.false in cc)))
 
 pub returns : goal.returns
 returns g c =
-    let fits_mark : FitsSigned w64 c.args.mark = search rules in
-    let fits_sum : FitsSigned w64 c.args.sum = search rules in
+    let fits_mark : FitsSigned w64 c.args.mark = c.ranges.mark in
+    let fits_sum : FitsSigned w64 c.args.sum = c.ranges.sum in
     let H : ℕ → Type 0 = λ position. HasScaledSum c.args.mark c.args.scales (map g.N.Number.value c.args.first.now) (map g.N.Number.value c.args.second.now) (number_at c.args.positions position) c.args.sum in
     let none : HoldsOfNone c.args.positions.at.now H c.loop-index.index = simp to_z-of_z at c.loop-index.invariant in
     found_none c.args.positions.at.now H c.loop-index.index (omega (arith, c.loop-index-test.false)) none

@@ -19,7 +19,7 @@ first_scaled-requires-clause-low g c =
 pub returns-then-not-are_plain : goal.returns-then-not-are_plain
 returns-then-not-are_plain g c =
     let at = (goal.at.returns-then-not-are_plain g c).After-wide-mark in
-    let fits_sum : FitsSigned w64 c.args.sum = search rules in
+    let fits_sum : FitsSigned w64 c.args.sum = c.ranges.sum in
     let F : ℤ → ℤ → Type 0 = λ mark sum. IsFirstOf c.args.positions.at.now (λ position. HasScaledSum mark c.args.scales (map g.N.Number.value c.args.first.now) (map g.N.Number.value c.args.second.now) (number_at c.args.positions position) sum) c.first_scaled.result in
     subst (F g.N.Number.width.mark) (to_z-of_z w64 c.args.sum fits_sum) (subst (λ mark. F mark (to_z w64 (of_z w64 c.args.sum))) (mark_is g at) c.first_scaled.ensures)
 
@@ -35,7 +35,7 @@ first_scaled-requires-2-clause-passed g c =
     let firsts = map g.N.Number.value c.args.first.now in
     let seconds = map g.N.Number.value c.args.second.now in
     let passed = c.passed_aligned-passed.result in
-    let fits_sum : FitsSigned w64 c.args.sum = search rules in
+    let fits_sum : FitsSigned w64 c.args.sum = c.ranges.sum in
     let plain = c.are_plain.ensures.0 c.if-not-are_plain.false in
     let count = length-map c.args.first.now g.N.Number.value in
     let as_many : length firsts ≡ length c.args.positions.at.now = omega (arith, count) in
@@ -47,6 +47,6 @@ first_scaled-requires-2-clause-passed g c =
 pub returns : goal.returns
 returns g c =
     let at = (goal.at.returns g c).After-wide-mark in
-    let fits_sum : FitsSigned w64 c.args.sum = search rules in
+    let fits_sum : FitsSigned w64 c.args.sum = c.ranges.sum in
     let F : ℤ → ℤ → Type 0 = λ mark sum. IsFirstOf c.args.positions.at.now (λ position. HasScaledSum mark c.args.scales (map g.N.Number.value c.args.first.now) (map g.N.Number.value c.args.second.now) (number_at c.args.positions position) sum) c.first_scaled-2.result in
     subst (F g.N.Number.width.mark) (to_z-of_z w64 c.args.sum fits_sum) (subst (λ mark. F mark (to_z w64 (of_z w64 c.args.sum))) (mark_is g at) c.first_scaled-2.ensures)

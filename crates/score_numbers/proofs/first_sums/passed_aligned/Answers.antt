@@ -15,7 +15,7 @@ greatest_aligned-greatest-requires-clause-second g c =
 
 pub returns-then-not-are_less-clause-none : goal.returns-then-not-are_less-clause-none
 returns-then-not-are_less-clause-none g c =
-    let fits_sum : FitsSigned w64 c.args.sum = search rules in
+    let fits_sum : FitsSigned w64 c.args.sum = c.ranges.sum in
     simp to_z-of_z at c.loop-passed.invariant.1
 
 pub loop-passed-preserved : goal.loop-passed-preserved
@@ -27,7 +27,7 @@ loop-passed-preserved g c =
     let firsts = c.args.first.now in
     let seconds = c.args.second.now in
     let sum = c.args.sum in
-    let fits_sum : FitsSigned w64 c.args.sum = search rules in
+    let fits_sum : FitsSigned w64 c.args.sum = c.ranges.sum in
     let within : end ≤ length firsts = omega (arith, c.loop-passed-test.true) in
     let within' : end ≤ length seconds = omega (arith, c.loop-passed-test.true, c.requires.as_many) in
     let Holds : ℕ → Type 0 = λ k. HasSum width (map value firsts) (map value seconds) k sum in
@@ -44,5 +44,5 @@ loop-passed-preserved g c =
 
 pub returns-clause-none : goal.returns-clause-none
 returns-clause-none g c =
-    let fits_sum : FitsSigned w64 c.args.sum = search rules in
+    let fits_sum : FitsSigned w64 c.args.sum = c.ranges.sum in
     simp to_z-of_z at c.loop-passed.invariant.1

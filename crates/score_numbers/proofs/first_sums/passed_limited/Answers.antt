@@ -1,11 +1,48 @@
-use Rattle.std.proofs.Common.{ℕ, ◌+◌, ◌-◌, ◌<◌, ◌≤◌, ℤ, IfSome, ◌<ℤ◌, length, FitsSigned, w64, arith, rules}
+use Rattle.std.proofs.Common.{ℕ, ◌+◌, ◌-◌, ◌<◌, ◌≤◌, ◌≡◌, ℤ, List, IfSome, ◌<ℤ◌, length, FitsSigned, w64, sym, ◌∙◌, arith}
 use Rattle.std.specs.List.{between}
 use Rattle.std.proofs.lemmas.Int.{to_z-of_z}
-use Rattle.score_numbers.specs.Limits.{no_limit}
+use Rattle.std.proofs.lemmas.List.Edits.{length-between}
+use Rattle.score_numbers.specs.Limits.{AreLimits, no_limit}
 use Rattle.score_numbers.specs.Packing.{short}
 use Rattle.score_numbers.specs.Sums.{HasUnlimitedSum, IsUnlimitedSum}
-use Rattle.score_numbers.proofs.FirstSums.{block_sum, in_block, none_above, none_before}
+use Rattle.score_numbers.proofs.FirstSums.{block_proper, block_sum, from_block, in_block, none_above, none_before}
 use Rattle.score_numbers.proofs.first_sums.passed_limited.Goals as goal
+
+block_limits : (limits : List ℤ) (from to : ℕ) → to ≤ length limits → AreLimits limits → AreLimits (between from to limits)
+block_limits limits from to within are k limit there = are (from + k) limit (from_block limits from to within k limit there)
+
+as_many : (ones others : List ℤ) (from to : ℕ) → to ≤ length others → length ones ≡ length others → length (between from to ones) ≡ length (between from to others)
+as_many ones others from to within same = length-between ones from to (omega (arith, within, same)) ∙ sym (length-between others from to within)
+
+pub greatest_limited_short-greatest-requires-clause-first : goal.greatest_limited_short-greatest-requires-clause-first
+greatest_limited_short-greatest-requires-clause-first c =
+    block_proper short c.args.first.now c.loop-passed.passed (c.loop-passed.passed + 32) (omega (arith, c.loop-passed-test.true, c.requires.as_many)) c.requires.first
+
+pub greatest_limited_short-greatest-requires-clause-second : goal.greatest_limited_short-greatest-requires-clause-second
+greatest_limited_short-greatest-requires-clause-second c =
+    block_proper short c.args.second.now c.loop-passed.passed (c.loop-passed.passed + 32) (omega (arith, c.loop-passed-test.true, c.requires.as_many_behind)) c.requires.second
+
+pub greatest_limited_short-greatest-requires-clause-limits : goal.greatest_limited_short-greatest-requires-clause-limits
+greatest_limited_short-greatest-requires-clause-limits c =
+    block_limits c.args.limits.now c.loop-passed.passed (c.loop-passed.passed + 32) (omega (arith, c.loop-passed-test.true)) c.requires.limits
+
+pub greatest_limited_short-greatest-requires-clause-as_many : goal.greatest_limited_short-greatest-requires-clause-as_many
+greatest_limited_short-greatest-requires-clause-as_many c =
+    as_many c.args.first.now c.args.limits.now c.loop-passed.passed (c.loop-passed.passed + 32) (omega (arith, c.loop-passed-test.true)) c.requires.as_many
+
+pub greatest_limited_short-greatest-requires-clause-as_many_behind : goal.greatest_limited_short-greatest-requires-clause-as_many_behind
+greatest_limited_short-greatest-requires-clause-as_many_behind c =
+    as_many c.args.second.now c.args.limits.now c.loop-passed.passed (c.loop-passed.passed + 32) (omega (arith, c.loop-passed-test.true)) c.requires.as_many_behind
+
+pub returns-then-not-are_less-clause-none : goal.returns-then-not-are_less-clause-none
+returns-then-not-are_less-clause-none c =
+    let fits_sum : FitsSigned w64 c.args.sum = c.ranges.sum in
+    simp to_z-of_z at c.loop-passed.invariant.1
+
+pub returns-clause-none : goal.returns-clause-none
+returns-clause-none c =
+    let fits_sum : FitsSigned w64 c.args.sum = c.ranges.sum in
+    simp to_z-of_z at c.loop-passed.invariant.1
 
 pub loop-passed-preserved : goal.loop-passed-preserved
 loop-passed-preserved c =
@@ -15,7 +52,7 @@ loop-passed-preserved c =
     let seconds = c.args.second.now in
     let limits = c.args.limits.now in
     let sum = c.args.sum in
-    let fits_sum : FitsSigned w64 c.args.sum = search rules in
+    let fits_sum : FitsSigned w64 c.args.sum = c.ranges.sum in
     let within : end ≤ length limits = omega (arith, c.loop-passed-test.true) in
     let within_first : end ≤ length firsts = omega (arith, within, c.requires.as_many) in
     let within_second : end ≤ length seconds = omega (arith, within, c.requires.as_many_behind) in

@@ -1,8 +1,17 @@
 use Rattle.score_numbers.specs.Packing.{medium}
-use Rattle.score_numbers.specs.Sums.{AreLowSums, HasScaledSumAt}
+use Rattle.score_numbers.specs.Sums.{AreLowSums, HasScaledSumAt, HaveNumbers}
 use Rattle.score_numbers.specs.Greatest.{IsGreatestOf}
-use Rattle.score_numbers.proofs.LargestSums.{as_values, from_values}
+use Rattle.score_numbers.proofs.LargestSums.{as_proper, as_values, from_values}
 use Rattle.score_numbers.proofs.sums.greatest_medium.Goals as goal
+
+pub greatest_sum-requires-clause-first : goal.greatest_sum-requires-clause-first
+greatest_sum-requires-clause-first c = as_proper medium c.args.first.now c.requires.first
+
+pub greatest_sum-requires-clause-second : goal.greatest_sum-requires-clause-second
+greatest_sum-requires-clause-second c = as_proper medium c.args.second.now c.requires.second
+
+pub greatest_sum-requires-clause-have : goal.greatest_sum-requires-clause-have
+greatest_sum-requires-clause-have c = as_values (HaveNumbers c.args.positions) c.args.first.now c.args.second.now c.requires.have
 
 pub greatest_sum-requires-clause-low : goal.greatest_sum-requires-clause-low
 greatest_sum-requires-clause-low c =

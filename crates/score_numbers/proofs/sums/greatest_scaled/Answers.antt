@@ -13,11 +13,17 @@ use Rattle.score_numbers.proofs.sums.greatest_scaled.Goals as goal
 pub loop-position-init : goal.loop-position-init
 loop-position-init g c =
     let Sum : ℕ → ℤ → Type 0 = HasScaledSum c.args.mark c.args.scales (map g.N.Number.value c.args.first.now) (map g.N.Number.value c.args.second.now) in
-    let fits_mark : FitsSigned w64 c.args.mark = search rules in
+    let fits_mark : FitsSigned w64 c.args.mark = c.ranges.mark in
     simp to_z-of_z (nothing_yet least_entry (AtPosition c.args.positions Sum) no_candidate (omega (arith, ints)))
 
 pub overflow_sub-number : goal.overflow_sub-number
 overflow_sub-number g c = c.requires.have.from_first (get_or c.args.positions.at.now c.loop-position.position-index 0) (Contains-get_or c.args.positions.at.now c.loop-position.position-index 0 c.loop-position-test.true)
+
+pub bounds-first-number : goal.bounds-first-number
+bounds-first-number g c =
+    let position = get_or c.args.positions.at.now c.loop-position.position-index 0 in
+    let stands = Contains-get_or c.args.positions.at.now c.loop-position.position-index 0 c.loop-position-test.true in
+    omega (arith, c.requires.have.before position stands, length-map c.args.first.now g.N.Number.value)
 
 pub bounds-second-number : goal.bounds-second-number
 bounds-second-number g c =
@@ -39,7 +45,7 @@ sum-requires g c =
     read_number g.N.Number.value c.args.second.now number c.index-second-number.result b (c.requires.have.behind position stands) c.index-second-number.is c.wide-behind.ensures in
     let fits_a : FitsSigned w64 a = search rules in
     let fits_b : FitsSigned w64 b = search rules in
-    let fits_mark : FitsSigned w64 c.args.mark = search rules in
+    let fits_mark : FitsSigned w64 c.args.mark = c.ranges.mark in
     simp to_z-of_z (record {
       low = λ apart apart'. c.requires.low position ((c.args.scales.before *ℤ a) +ℤ (c.args.scales.behind *ℤ b)) stands
           (record { first = a; second = b; first_there = there; second_there = behind; first_scores = apart; second_scores = apart'; is = refl });
@@ -63,7 +69,7 @@ loop-position-preserved g c =
     read_number g.N.Number.value c.args.second.now number c.index-second-number.result b (c.requires.have.behind position stands) c.index-second-number.is c.wide-behind.ensures in
     let fits_a : FitsSigned w64 a = search rules in
     let fits_b : FitsSigned w64 b = search rules in
-    let fits_mark : FitsSigned w64 mark = search rules in
+    let fits_mark : FitsSigned w64 mark = c.ranges.mark in
     let fits_entry : FitsSigned w64 c.sum.result = search rules in
     let fits_new : FitsSigned w64 c.max-greatest.result = search rules in
     let old = to_z w64 c.loop-position.greatest-bits in
@@ -89,7 +95,7 @@ returns g c =
     let Sum : ℕ → ℤ → Type 0 = HasScaledSum c.args.mark c.args.scales (map g.N.Number.value c.args.first.now) (map g.N.Number.value c.args.second.now) in
     let all : c.loop-position.position-index ≡ length c.args.positions.at.now = omega (arith, c.loop-position-test.false, c.loop-position.auto.position-index-end) in
     let greatest = to_z w64 c.loop-position.greatest-bits in
-    let fits_mark : FitsSigned w64 c.args.mark = search rules in
+    let fits_mark : FitsSigned w64 c.args.mark = c.ranges.mark in
     let fits : FitsSigned w64 greatest = search rules in
     let before : IsLargest least_entry (HasBefore (AtPosition c.args.positions Sum) c.loop-position.position-index) greatest = simp to_z-of_z at c.loop-position.invariant in
     subst (IsGreatestOf (SomePosition c.args.positions Sum)) (sym c.score_of.ensures)

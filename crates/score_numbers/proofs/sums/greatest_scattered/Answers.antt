@@ -1,16 +1,37 @@
-use Rattle.std.proofs.Common.{◌≡◌, ◌+ℤ◌, Some, length, map, get_or, slice_get, refl, subst, arith}
+use Rattle.std.proofs.Common.{◌≡◌, ℕ, ℤ, ◌+ℤ◌, Some, length, map, get_or, slice_get, refl, sym, subst, arith}
 use Rattle.std.specs.Int.{int_max}
+use Rattle.std.proofs.lemmas.List.{length-map}
 use Rattle.std.proofs.lemmas.List.Elements.{Contains-get_or}
 use Rattle.score_numbers.specs.Sums.{HasSum, HasSumAt, number_at}
 use Rattle.score_numbers.specs.Spaced.{least_sum}
-use Rattle.score_numbers.proofs.LargestSums.{all_scattered, largest_sum, read_number, sum_more}
+use Rattle.score_numbers.proofs.Greatest.{HasBefore}
+use Rattle.score_numbers.proofs.LargestSums.{AtPosition, IsLargest, all_scattered, largest_sum, none_yet, read_number, sum_more}
 use Rattle.score_numbers.proofs.sums.greatest_scattered.Goals as goal
+
+pub loop-position-init : goal.loop-position-init
+loop-position-init g c =
+    let width = g.N.Number.width in
+    let Sum : ℕ → ℤ → Type 0 = HasSum width (map g.N.Number.value c.args.first.now) (map g.N.Number.value c.args.second.now) in
+    subst (IsLargest (least_sum width) (HasBefore (AtPosition c.args.positions Sum) 0)) (sym c.mark-greatest.ensures)
+    (none_yet width c.is_spaced.ensures (AtPosition c.args.positions Sum))
 
 pub overflow_sub-number : goal.overflow_sub-number
 overflow_sub-number g c =
     let index = c.loop-position.position-index in
     c.requires.have.from_first (get_or c.args.positions.at.now index 0)
     (Contains-get_or c.args.positions.at.now index 0 c.loop-position-test.true)
+
+pub bounds-first-number : goal.bounds-first-number
+bounds-first-number g c =
+    let position = get_or c.args.positions.at.now c.loop-position.position-index 0 in
+    let stands = Contains-get_or c.args.positions.at.now c.loop-position.position-index 0 c.loop-position-test.true in
+    omega (arith, c.requires.have.before position stands, length-map c.args.first.now g.N.Number.value)
+
+pub bounds-second-number : goal.bounds-second-number
+bounds-second-number g c =
+    let position = get_or c.args.positions.at.now c.loop-position.position-index 0 in
+    let stands = Contains-get_or c.args.positions.at.now c.loop-position.position-index 0 c.loop-position-test.true in
+    omega (arith, c.requires.have.behind position stands, length-map c.args.second.now g.N.Number.value)
 
 pub plus-requires-clause-first : goal.plus-requires-clause-first
 plus-requires-clause-first g c =

@@ -1,9 +1,33 @@
 use Rattle.std.proofs.Common.{◌≡◌, ℕ, ℤ, List, length, map, w64, to_z, of_z, sym, ap, subst, arith}
 use Rattle.score_numbers.specs.Packing.{short}
-use Rattle.score_numbers.specs.Sums.{AreLowSums, HasScaledSumAt, HasSum, HasSumAt}
+use Rattle.score_numbers.specs.Sums.{AreLowSums, HasScaledSumAt, HasSum, HasSumAt, HaveNumbers}
 use Rattle.score_numbers.specs.Greatest.{IsGreatestOf}
-use Rattle.score_numbers.proofs.LargestSums.{aligned_positions, as_values, from_values, limited_positions, plain_greatest}
+use Rattle.score_numbers.proofs.LargestSums.{aligned_positions, as_proper, as_values, from_values, limited_positions, plain_greatest}
 use Rattle.score_numbers.proofs.sums.greatest_short.Goals as goal
+
+pub greatest_scaled-requires-clause-have : goal.greatest_scaled-requires-clause-have
+greatest_scaled-requires-clause-have c = as_values (HaveNumbers c.args.positions) c.args.first.now c.args.second.now c.requires.have
+
+pub greatest_scattered-requires-clause-first : goal.greatest_scattered-requires-clause-first
+greatest_scattered-requires-clause-first c = as_proper short c.args.first.now c.requires.first
+
+pub greatest_scattered-requires-clause-second : goal.greatest_scattered-requires-clause-second
+greatest_scattered-requires-clause-second c = as_proper short c.args.second.now c.requires.second
+
+pub greatest_aligned-requires-clause-first : goal.greatest_aligned-requires-clause-first
+greatest_aligned-requires-clause-first c = as_proper short c.args.first.now c.requires.first
+
+pub greatest_aligned-requires-clause-second : goal.greatest_aligned-requires-clause-second
+greatest_aligned-requires-clause-second c = as_proper short c.args.second.now c.requires.second
+
+pub greatest_scattered-requires-clause-have : goal.greatest_scattered-requires-clause-have
+greatest_scattered-requires-clause-have c = as_values (HaveNumbers c.args.positions) c.args.first.now c.args.second.now c.requires.have
+
+pub greatest_limited_short-requires-clause-as_many : goal.greatest_limited_short-requires-clause-as_many
+greatest_limited_short-requires-clause-as_many c = (c.are_dense.ensures.0 c.if-not-are_dense.false).0
+
+pub greatest_limited_short-requires-clause-as_many_behind : goal.greatest_limited_short-requires-clause-as_many_behind
+greatest_limited_short-requires-clause-as_many_behind c = (c.are_dense.ensures.0 c.if-not-are_dense.false).1
 
 pub greatest_scaled-requires-clause-low : goal.greatest_scaled-requires-clause-low
 greatest_scaled-requires-clause-low c =

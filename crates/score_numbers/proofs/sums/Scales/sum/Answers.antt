@@ -1,37 +1,62 @@
-use Rattle.std.proofs.Common.{◌≡◌, ◌+◌, ◌≤◌, ℤ, ◌+ℤ◌, ◌*ℤ◌, nat_abs, FitsSigned, w64, of_z, ap, arith, rules}
+use Rattle.std.proofs.Common.{◌≡◌, ◌+◌, ◌≤◌, ◌⊎◌, ℤ, ◌+ℤ◌, ◌*ℤ◌, nat_abs, FitsSigned, w64, to_z, of_z, inl, inr, refl, sym, ap, ◌∙◌, arith, rules}
 use Rattle.std.proofs.lemmas.Int.{ints, to_z-of_z, fits_signed_from_abs}
 use Rattle.adp_model.specs.ProblemFields.{greatest_score}
+use Rattle.score_numbers.proofs.FirstSums.{same_number}
 use Rattle.score_numbers.proofs.sums.Scales.sum.Goals as goal
 
--- the products and their sum have 64 bits
-products_fit : (a b : ℤ) → nat_abs a + nat_abs b ≤ greatest_score → FitsSigned w64 a × FitsSigned w64 b × FitsSigned w64 (a +ℤ b)
-products_fit a b low = (fits_signed_from_abs w64 a (omega arith), fits_signed_from_abs w64 b (omega arith), fits_signed_from_abs w64 (a +ℤ b) (omega (arith, ints)))
+module _ (a b x y : ℤ) (fits_a : FitsSigned w64 a) (fits_b : FitsSigned w64 b) (fits_x : FitsSigned w64 x) (fits_y : FitsSigned w64 y) (low : nat_abs (a *ℤ x) + nat_abs (b *ℤ y) ≤ greatest_score) where
+  -- the products and their sum have 64 bits
+  fits_first : FitsSigned w64 (a *ℤ x)
+  fits_first = fits_signed_from_abs w64 (a *ℤ x) (omega (arith, low))
+
+  fits_second : FitsSigned w64 (b *ℤ y)
+  fits_second = fits_signed_from_abs w64 (b *ℤ y) (omega (arith, low))
+
+  fits_both : FitsSigned w64 ((a *ℤ x) +ℤ (b *ℤ y))
+  fits_both = fits_signed_from_abs w64 ((a *ℤ x) +ℤ (b *ℤ y)) (omega (arith, ints))
+
+  first : FitsSigned w64 (to_z w64 (of_z w64 a) *ℤ to_z w64 (of_z w64 x))
+  first = simp to_z-of_z fits_first
+
+  second : FitsSigned w64 (to_z w64 (of_z w64 b) *ℤ to_z w64 (of_z w64 y))
+  second = simp to_z-of_z fits_second
+
+  both : FitsSigned w64 (to_z w64 (of_z w64 (to_z w64 (of_z w64 a) *ℤ to_z w64 (of_z w64 x))) +ℤ to_z w64 (of_z w64 (to_z w64 (of_z w64 b) *ℤ to_z w64 (of_z w64 y))))
+  both = let fits = fits_first in let fits' = fits_second in simp to_z-of_z fits_both
+
+  both_is : to_z w64 (of_z w64 (to_z w64 (of_z w64 (to_z w64 (of_z w64 a) *ℤ to_z w64 (of_z w64 x))) +ℤ to_z w64 (of_z w64 (to_z w64 (of_z w64 b) *ℤ to_z w64 (of_z w64 y)))))
+      ≡ ((a *ℤ x) +ℤ (b *ℤ y))
+  both_is = let fits = fits_first in let fits' = fits_second in let fits'' = fits_both in simp to_z-of_z
+
+pub overflow_mul-result : goal.overflow_mul-result
+overflow_mul-result c =
+    first c.args.self.before c.args.self.behind c.args.before c.args.behind (search rules) (search rules) c.ranges.before c.ranges.behind
+    (c.requires.low (λ e. c.if-behind-mark.false.0 (ap (of_z w64) e)) (λ e. c.if-behind-mark.false.1 (ap (of_z w64) e)))
+
+pub overflow_mul-result-else-behind-mark : goal.overflow_mul-result-else-behind-mark
+overflow_mul-result-else-behind-mark c =
+    second c.args.self.before c.args.self.behind c.args.before c.args.behind (search rules) (search rules) c.ranges.before c.ranges.behind
+    (c.requires.low (λ e. c.if-behind-mark.false.0 (ap (of_z w64) e)) (λ e. c.if-behind-mark.false.1 (ap (of_z w64) e)))
 
 pub overflow_add-result : goal.overflow_add-result
 overflow_add-result c =
-    let before = c.args.self.before *ℤ c.args.before in
-    let behind = c.args.self.behind *ℤ c.args.behind in
-    let apart : c.args.before ≡ c.args.mark → ⊥ = λ e. c.if-behind-mark.false.0 (ap (of_z w64) e) in
-    let apart' : c.args.behind ≡ c.args.mark → ⊥ = λ e. c.if-behind-mark.false.1 (ap (of_z w64) e) in
-    let fit = products_fit before behind (c.requires.low apart apart') in
-    let fits_scale : FitsSigned w64 c.args.self.before = search rules in
-    let fits_scale' : FitsSigned w64 c.args.self.behind = search rules in
-    let fits_number : FitsSigned w64 c.args.before = search rules in
-    let fits_number' : FitsSigned w64 c.args.behind = search rules in
-    let fits_before : FitsSigned w64 before = fit.0 in
-    let fits_behind : FitsSigned w64 behind = fit.1 in
-    simp to_z-of_z fit.2
+    both c.args.self.before c.args.self.behind c.args.before c.args.behind (search rules) (search rules) c.ranges.before c.ranges.behind
+    (c.requires.low (λ e. c.if-behind-mark.false.0 (ap (of_z w64) e)) (λ e. c.if-behind-mark.false.1 (ap (of_z w64) e)))
+
+pub returns-then-behind-mark-clause-marked : goal.returns-then-behind-mark-clause-marked
+returns-then-behind-mark-clause-marked c = λ marked. refl
+
+pub returns-then-behind-mark-clause-scored : goal.returns-then-behind-mark-clause-scored
+returns-then-behind-mark-clause-scored c = λ apart apart'.
+    absurd (elim c.if-behind-mark.either [
+      | inl e ↦ apart (same_number c.args.before c.args.mark c.ranges.before c.ranges.mark e)
+      | inr e ↦ apart' (same_number c.args.behind c.args.mark c.ranges.behind c.ranges.mark e.1)
+    ])
+
+pub returns-else-behind-mark-clause-marked : goal.returns-else-behind-mark-clause-marked
+returns-else-behind-mark-clause-marked c = λ marked.
+    absurd (elim marked [ inl e ↦ c.if-behind-mark.false.0 (ap (of_z w64) e) | inr e ↦ c.if-behind-mark.false.1 (ap (of_z w64) e) ])
 
 pub returns-else-behind-mark-clause-scored : goal.returns-else-behind-mark-clause-scored
 returns-else-behind-mark-clause-scored c = λ apart apart'.
-    let before = c.args.self.before *ℤ c.args.before in
-    let behind = c.args.self.behind *ℤ c.args.behind in
-    let fit = products_fit before behind (c.requires.low apart apart') in
-    let fits_scale : FitsSigned w64 c.args.self.before = search rules in
-    let fits_scale' : FitsSigned w64 c.args.self.behind = search rules in
-    let fits_number : FitsSigned w64 c.args.before = search rules in
-    let fits_number' : FitsSigned w64 c.args.behind = search rules in
-    let fits_before : FitsSigned w64 before = fit.0 in
-    let fits_behind : FitsSigned w64 behind = fit.1 in
-    let fits_sum : FitsSigned w64 (before +ℤ behind) = fit.2 in
-    simp to_z-of_z
+    both_is c.args.self.before c.args.self.behind c.args.before c.args.behind (search rules) (search rules) c.ranges.before c.ranges.behind (c.requires.low apart apart')
