@@ -389,6 +389,13 @@ pub read_number : {X : Type 0} (value : X → ℤ) (items : List X) (k : ℕ) (i
 read_number value items k item number l is e =
     slice_get-map value items k ∙ ap (option_map value) (slice_get-get_or items k item (omega (arith, l, length-map items value))) ∙ ap (λ x. Some (value x)) (sym is) ∙ ap Some (sym e)
 
+-- as many items as values
+pub below_values : {X : Type 0} (value : X → ℤ) (items : List X) (k : ℕ) → k < length (map value items) → k < length items
+below_values value items k l = omega (arith, l, length-map items value)
+
+pub upto_values : {X : Type 0} (value : X → ℤ) (items : List X) (k : ℕ) → k < length (map value items) → k ≤ length items
+upto_values value items k l = omega (arith, l, length-map items value)
+
 -- a value that stands there
 pub value_there : {X : Type 0} (value : X → ℤ) (items : List X) (k : ℕ) (item : X) → slice_get items k ≡ Some item
     → slice_get (map value items) k ≡ Some (value item)

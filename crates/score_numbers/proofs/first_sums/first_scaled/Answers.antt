@@ -1,12 +1,11 @@
 use Rattle.std.proofs.Common.{◌≡◌, ℕ, Some, map, get_or, slice_get, FitsSigned, w64, arith, rules, below_more}
 use Rattle.std.specs.Bool.{Decides}
 use Rattle.std.proofs.lemmas.Int.{to_z-of_z}
-use Rattle.std.proofs.lemmas.List.{length-map}
 use Rattle.std.proofs.lemmas.List.Elements.{Contains-get_or}
 use Rattle.score_numbers.specs.Sums.{HasScaledSum, number_at}
 use Rattle.score_numbers.proofs.FirstFound.{HoldsOfNone, found_first, found_none}
 use Rattle.score_numbers.proofs.FirstSums.{made, scaled_low}
-use Rattle.score_numbers.proofs.LargestSums.{read_number}
+use Rattle.score_numbers.proofs.LargestSums.{below_values, read_number, upto_values}
 use Rattle.score_numbers.proofs.first_sums.first_scaled.Given.{Over}
 use Rattle.score_numbers.proofs.first_sums.first_scaled.Goals as goal
 use Rattle.score_numbers.proofs.first_sums.first_scaled.Goals.{After-wide-behind, After-make}
@@ -22,17 +21,29 @@ overflow_sub-number g c =
     let index = c.loop-index.index in
     c.requires.have.from_first (get_or c.args.positions.at.now index 0) (Contains-get_or c.args.positions.at.now index 0 c.loop-index-test.true)
 
+pub offset_bounds-first-number : goal.offset_bounds-first-number
+offset_bounds-first-number g c =
+    let position = get_or c.args.positions.at.now c.loop-index.index 0 in
+    let stands = Contains-get_or c.args.positions.at.now c.loop-index.index 0 c.loop-index-test.true in
+    upto_values g.N.Number.value c.args.first.now (number_at c.args.positions position) (c.requires.have.before position stands)
+
+pub offset_bounds-second-number : goal.offset_bounds-second-number
+offset_bounds-second-number g c =
+    let position = get_or c.args.positions.at.now c.loop-index.index 0 in
+    let stands = Contains-get_or c.args.positions.at.now c.loop-index.index 0 c.loop-index-test.true in
+    upto_values g.N.Number.value c.args.second.now (number_at c.args.positions position) (c.requires.have.behind position stands)
+
 pub bounds-first-number : goal.bounds-first-number
 bounds-first-number g c =
     let position = get_or c.args.positions.at.now c.loop-index.index 0 in
     let stands = Contains-get_or c.args.positions.at.now c.loop-index.index 0 c.loop-index-test.true in
-    omega (arith, c.requires.have.before position stands, length-map c.args.first.now g.N.Number.value)
+    below_values g.N.Number.value c.args.first.now (number_at c.args.positions position) (c.requires.have.before position stands)
 
 pub bounds-second-number : goal.bounds-second-number
 bounds-second-number g c =
     let position = get_or c.args.positions.at.now c.loop-index.index 0 in
     let stands = Contains-get_or c.args.positions.at.now c.loop-index.index 0 c.loop-index-test.true in
-    omega (arith, c.requires.have.behind position stands, length-map c.args.second.now g.N.Number.value)
+    below_values g.N.Number.value c.args.second.now (number_at c.args.positions position) (c.requires.have.behind position stands)
 
 there : (g : Over) (c : After-wide-behind g) → slice_get (map g.N.Number.value c.args.first.now) (number_at c.args.positions (get_or c.args.positions.at.now c.loop-index.index 0)) ≡ Some c.wide-before.result
 there g c =

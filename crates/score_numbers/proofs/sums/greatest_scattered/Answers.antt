@@ -1,11 +1,10 @@
 use Rattle.std.proofs.Common.{◌≡◌, ℕ, ℤ, ◌+ℤ◌, Some, length, map, get_or, slice_get, refl, sym, subst, arith}
 use Rattle.std.specs.Int.{int_max}
-use Rattle.std.proofs.lemmas.List.{length-map}
 use Rattle.std.proofs.lemmas.List.Elements.{Contains-get_or}
 use Rattle.score_numbers.specs.Sums.{HasSum, HasSumAt, number_at}
 use Rattle.score_numbers.specs.Spaced.{least_sum}
 use Rattle.score_numbers.proofs.Greatest.{HasBefore}
-use Rattle.score_numbers.proofs.LargestSums.{AtPosition, IsLargest, all_scattered, largest_sum, none_yet, read_number, sum_more}
+use Rattle.score_numbers.proofs.LargestSums.{AtPosition, IsLargest, all_scattered, below_values, largest_sum, none_yet, read_number, sum_more, upto_values}
 use Rattle.score_numbers.proofs.sums.greatest_scattered.Goals as goal
 
 pub loop-position-init : goal.loop-position-init
@@ -21,17 +20,29 @@ overflow_sub-number g c =
     c.requires.have.from_first (get_or c.args.positions.at.now index 0)
     (Contains-get_or c.args.positions.at.now index 0 c.loop-position-test.true)
 
+pub offset_bounds-first-number : goal.offset_bounds-first-number
+offset_bounds-first-number g c =
+    let position = get_or c.args.positions.at.now c.loop-position.position-index 0 in
+    let stands = Contains-get_or c.args.positions.at.now c.loop-position.position-index 0 c.loop-position-test.true in
+    upto_values g.N.Number.value c.args.first.now (number_at c.args.positions position) (c.requires.have.before position stands)
+
+pub offset_bounds-second-number : goal.offset_bounds-second-number
+offset_bounds-second-number g c =
+    let position = get_or c.args.positions.at.now c.loop-position.position-index 0 in
+    let stands = Contains-get_or c.args.positions.at.now c.loop-position.position-index 0 c.loop-position-test.true in
+    upto_values g.N.Number.value c.args.second.now (number_at c.args.positions position) (c.requires.have.behind position stands)
+
 pub bounds-first-number : goal.bounds-first-number
 bounds-first-number g c =
     let position = get_or c.args.positions.at.now c.loop-position.position-index 0 in
     let stands = Contains-get_or c.args.positions.at.now c.loop-position.position-index 0 c.loop-position-test.true in
-    omega (arith, c.requires.have.before position stands, length-map c.args.first.now g.N.Number.value)
+    below_values g.N.Number.value c.args.first.now (number_at c.args.positions position) (c.requires.have.before position stands)
 
 pub bounds-second-number : goal.bounds-second-number
 bounds-second-number g c =
     let position = get_or c.args.positions.at.now c.loop-position.position-index 0 in
     let stands = Contains-get_or c.args.positions.at.now c.loop-position.position-index 0 c.loop-position-test.true in
-    omega (arith, c.requires.have.behind position stands, length-map c.args.second.now g.N.Number.value)
+    below_values g.N.Number.value c.args.second.now (number_at c.args.positions position) (c.requires.have.behind position stands)
 
 pub plus-requires-clause-first : goal.plus-requires-clause-first
 plus-requires-clause-first g c =
