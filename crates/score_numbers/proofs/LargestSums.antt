@@ -1,5 +1,5 @@
 -- The greatest sum of two numbers of a width: low where one of them marks that there is no candidate.
-use Rattle.std.proofs.Common.{◌≡◌, ℕ, zero, suc, ◌+◌, ◌-◌, ◌^◌, ◌<◌, ◌≤◌, ◌⊎◌, ℤ, pos, neg_ℤ, ◌+ℤ◌, ◌*ℤ◌, ◌≤ℤ◌, ◌<ℤ◌, nat_abs, MatchOption, Option, Some, None, List, [], ◌∷◌, length, map, get_or, slice_get, slice_index_or, FitsSigned, w16, w64, refl, sym, ap, subst, inl, inr, ◌∙◌, if◌then◌else◌, arith, rules}
+use Rattle.std.proofs.Common.{◌≡◌, ℕ, zero, suc, ◌+◌, ◌-◌, ◌^◌, ◌<◌, ◌≤◌, ◌⊎◌, ℤ, pos, neg_ℤ, ◌+ℤ◌, ◌*ℤ◌, ◌≤ℤ◌, ◌<ℤ◌, nat_abs, IsTrue, MatchOption, Option, Some, None, List, [], ◌∷◌, length, map, get_or, slice_get, slice_index_or, FitsSigned, w16, w64, refl, sym, ap, subst, inl, inr, ◌∙◌, if◌then◌else◌, arith, rules}
 use Rattle.std.proofs.Math.IntN.{*ℤ_comm, *ℤ-one}
 use Rattle.std.specs.Int.{int_max, int_min}
 use Rattle.std.specs.List.{AllAdjacentBelow, Contains}
@@ -21,6 +21,7 @@ use Rattle.score_numbers.specs.Limits.{no_limit, AreLimited}
 use Rattle.score_numbers.specs.Sums.{HasSum, HasSumAt, HasUnlimitedSum, IsUnlimitedSum, HasScaledSum, HasScaledSumAt, HaveNumbers, number_at}
 use Rattle.score_numbers.specs.Greatest.{IsGreatestOf}
 use Rattle.score_numbers.proofs.Greatest.{greatest_same, HasBefore, before_more, before_none}
+use lib.Signed.{lt_z}
 
 -- the least entry that tells a score
 abbrev pub least_entry : ℤ
@@ -44,6 +45,9 @@ short_sum_fits a b (inr l) (inr m) = fits_signed_from_abs w16 (a +ℤ b) (omega 
 abbrev pub IsLargest : ℤ → (ℤ → Type 0) → ℤ → Type 0
 IsLargest least Holds greatest =
     ((greatest <ℤ least) × ((number : ℤ) → Holds number → ⊥)) ⊎ ((least ≤ℤ greatest) × IsGreatestOf Holds (Some greatest))
+
+pub less_is : (a b x y : ℤ) → a ≡ x → b ≡ y → IsTrue (lt_z a b) → x <ℤ y
+less_is a b x y e e' less = grind (arith, ints)
 
 pub max_cases : (a b : ℤ) → ((int_max a b ≡ a) × (b ≤ℤ a)) ⊎ ((int_max a b ≡ b) × (a ≤ℤ b))
 max_cases a b = grind (arith, ints, int_max_is)
