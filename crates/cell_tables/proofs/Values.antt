@@ -64,6 +64,17 @@ module _ {V : Type 0} (spans : Spans V) (rule near far : ℕ) where
       go None e some = absurd cc
       go (Some value) e some = standing_value value e
 
+  pub none_standing : (Stands spans rule near far → ⊥) → value_at spans rule near far ≡ None
+  none_standing apart =
+      elim (cases_Bool (ltb near spans.positions && (leb (block_at spans rule near).first far && ltb far (block_at spans rule near).past))) [
+        | inl there ↦ let all = stands_told.0 there in absurd (apart (record { near_in = all.0; low = all.1.0; high = all.1.1 }))
+        | inr missing ↦ ap (λ b. cond b (slice_get spans.values (place_of spans rule near far)) None) missing
+      ]
+
+  -- the block of a value begins at the value's far end or before
+  pub block_low : (block : Block) → block ≡ block_at spans rule near → IsSome (value_at spans rule near far) → block.first ≤ far
+  block_low block is some = let firsts = ap (λ (b : Block). b.first) is in omega (arith, (stands_where_some some).low, firsts)
+
 -- a value between two that stand stands too
 pub stands_between : {V : Type 0} (spans : Spans V) (rule near first last far : ℕ) → Stands spans rule near first → Stands spans rule near last → first ≤ far → far ≤ last → Stands spans rule near far
 stands_between spans rule near first last far s t l m = record { near_in = s.near_in; low = omega (arith, s.low); high = omega (arith, t.high) }

@@ -1,4 +1,4 @@
-use Rattle.std.proofs.Common.{◌≡◌, ℕ, ◌+◌, ◌-◌, ◌/◌, ◌<◌, ◌≤◌, List, sym, subst, ◌∙◌, arith}
+use Rattle.std.proofs.Common.{◌≡◌, ℕ, ◌+◌, ◌-◌, ◌/◌, ◌<◌, ◌≤◌, List, length, sym, ap, subst, ◌∙◌, arith}
 use Rattle.std.specs.Prelude.{IsSome}
 use Rattle.std.specs.Vec.{with_items}
 use Rattle.std.proofs.lemmas.List.{with_items_is}
@@ -6,9 +6,33 @@ use Rattle.cell_tables.specs.GridFields.{grid_spans}
 use Rattle.cell_tables.specs.Spans.{Spans, Stands, block_at, value_at}
 use Rattle.cell_tables.specs.Bits.{AreSetToo, IsBitOf}
 use Rattle.cell_tables.specs.WordBits.{AreBitsSet, IsBitOfFar}
-use Rattle.cell_tables.proofs.Values.{stands_where_some, stands_between, low_in, with_values}
+use Rattle.cell_tables.proofs.Values.{stands_where_some, stands_between, block_low, index_within, low_in, with_values}
 use Rattle.cell_tables.proofs.SpanBits.{block_bits_written}
 use Rattle.cell_tables.proofs.bits.Grid+u64.set_bits_of.Goals as goal
+
+place_in : (place first last low many len : ℕ) → low ≤ first → place + (last - low) < many → len ≡ many → first ≤ last → place + (first - low) + (last - first) < len
+place_in place first last low many len l within same m = omega arith
+
+pub overflow_sub-start : goal.overflow_sub-start
+overflow_sub-start c =
+    block_low c.args.self.now c.args.rule c.args.near (c.args.first / 64) c.in-Some.block c.in-Some.ensures.1 (c.requires.first c.if-first-past.false)
+
+pub set_words-requires-clause-within : goal.set_words-requires-clause-within
+set_words-requires-clause-within c =
+    let spans : Spans ℕ = grid_spans c.self.inside in
+    let now = c.args.self.now in
+    let rule = c.args.rule in
+    let near = c.args.near in
+    let last : ℕ = (c.args.past - 1) / 64 in
+    let block = c.in-Some.block in
+    let some = c.if-first-past.false in
+    let B : Spans ℕ → Type 0 = λ s. block ≡ block_at s rule near in
+    let L : Spans ℕ → Type 0 = λ s. IsSome (value_at s rule near last) in
+    let is : spans ≡ now = c.self.view_is in
+    let low = block_low now rule near (c.args.first / 64) block c.in-Some.ensures.1 (c.requires.first some) in
+    let stands = stands_where_some spans rule near last (subst L (sym is) (c.requires.last some)) in
+    let within = index_within spans c.self.invariant rule near block (subst B (sym is) c.in-Some.ensures.1) last stands in
+    place_in block.place (c.args.first / 64) last block.first (length spans.values) _ low within (ap (λ (xs : List ℕ). length xs) c.deref_mut.ensures.value) (omega (arith, some))
 
 pub returns-in-Some : goal.returns-in-Some
 returns-in-Some c =
