@@ -10,6 +10,27 @@ use Rattle.score_numbers.proofs.LargestSums.{as_values, from_values, unlimited_s
 use Rattle.score_numbers.proofs.first_sums.first_short.Goals as goal
 use Rattle.score_numbers.proofs.first_sums.first_short.Goals.{In-Some}
 
+pub first_scaled-requires-clause-rising : goal.first_scaled-requires-clause-rising
+first_scaled-requires-clause-rising c = c.requires.rising
+
+pub passed_limited-passed-requires-clause-first : goal.passed_limited-passed-requires-clause-first
+passed_limited-passed-requires-clause-first c = c.requires.first
+
+pub passed_limited-passed-requires-clause-second : goal.passed_limited-passed-requires-clause-second
+passed_limited-passed-requires-clause-second c = c.requires.second
+
+pub passed_limited-passed-requires-clause-limits : goal.passed_limited-passed-requires-clause-limits
+passed_limited-passed-requires-clause-limits c = c.requires.limits.proper
+
+pub first_limited-requires-clause-first : goal.first_limited-requires-clause-first
+first_limited-requires-clause-first c = c.requires.first
+
+pub first_limited-requires-clause-second : goal.first_limited-requires-clause-second
+first_limited-requires-clause-second c = c.requires.second
+
+pub first_limited-requires-clause-limits : goal.first_limited-requires-clause-limits
+first_limited-requires-clause-limits c = c.requires.limits.proper
+
 pub first_scaled-requires-clause-have : goal.first_scaled-requires-clause-have
 first_scaled-requires-clause-have c = as_values (HaveNumbers c.args.positions) c.args.first.now c.args.second.now c.requires.have
 

@@ -11,6 +11,24 @@ use Rattle.score_numbers.proofs.first_sums.first_sum.Goals.{After-wide-mark}
 mark_is : (g : Over) (c : After-wide-mark g) → to_z w64 (of_z w64 c.wide-mark.result) ≡ g.N.Number.width.mark
 mark_is g c = to_z-of_z w64 c.wide-mark.result (search rules) ∙ c.wide-mark.ensures ∙ c.mark.ensures
 
+pub first_scaled-requires-clause-have : goal.first_scaled-requires-clause-have
+first_scaled-requires-clause-have g c = c.requires.have
+
+pub first_scaled-requires-clause-rising : goal.first_scaled-requires-clause-rising
+first_scaled-requires-clause-rising g c = c.requires.rising
+
+pub passed_aligned-passed-requires-clause-first : goal.passed_aligned-passed-requires-clause-first
+passed_aligned-passed-requires-clause-first g c = c.requires.first
+
+pub passed_aligned-passed-requires-clause-second : goal.passed_aligned-passed-requires-clause-second
+passed_aligned-passed-requires-clause-second g c = c.requires.second
+
+pub first_scaled-requires-2-clause-have : goal.first_scaled-requires-2-clause-have
+first_scaled-requires-2-clause-have g c = c.requires.have
+
+pub first_scaled-requires-2-clause-rising : goal.first_scaled-requires-2-clause-rising
+first_scaled-requires-2-clause-rising g c = c.requires.rising
+
 pub first_scaled-requires-clause-low : goal.first_scaled-requires-clause-low
 first_scaled-requires-clause-low g c =
     let at = (goal.at.first_scaled-requires-clause-low g c).After-wide-mark in

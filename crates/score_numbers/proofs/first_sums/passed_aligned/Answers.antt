@@ -1,4 +1,4 @@
-use Rattle.std.proofs.Common.{ℕ, ◌+◌, ◌-◌, ◌<◌, ◌≤◌, ℤ, IfSome, ◌<ℤ◌, length, map, FitsSigned, w64, arith, rules}
+use Rattle.std.proofs.Common.{ℕ, ◌+◌, ◌-◌, ◌<◌, ◌≤◌, ℤ, IfSome, ◌<ℤ◌, length, map, FitsSigned, w64, arith}
 use Rattle.std.specs.List.{between}
 use Rattle.std.proofs.lemmas.Int.{to_z-of_z}
 use Rattle.score_numbers.specs.Sums.{HasSum}

@@ -1,4 +1,4 @@
-use Rattle.std.proofs.Common.{◌≡◌, ◌⊎◌, ◌≤ℤ◌, ℤ, Option, Some, FitsSigned, w64, to_z, of_z, inl, inr, sym, ap, ◌∙◌, arith, rules}
+use Rattle.std.proofs.Common.{◌≡◌, ◌⊎◌, ℤ, Option, Some, FitsSigned, w64, to_z, of_z, inl, inr, sym, ap, ◌∙◌, arith, rules}
 use Rattle.std.specs.Int.{int_max}
 use Rattle.std.proofs.lemmas.Int.{ints, int_max_is, to_z-of_z}
 use Rattle.score_numbers.specs.Greatest.{IsGreatestOf}

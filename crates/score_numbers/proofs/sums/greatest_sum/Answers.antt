@@ -5,6 +5,24 @@ use Rattle.score_numbers.specs.Sums.{AreLowSums}
 use Rattle.score_numbers.proofs.LargestSums.{aligned_positions, plain_greatest}
 use Rattle.score_numbers.proofs.sums.greatest_sum.Goals as goal
 
+pub greatest_scaled-requires-clause-have : goal.greatest_scaled-requires-clause-have
+greatest_scaled-requires-clause-have g c = c.requires.have
+
+pub greatest_aligned-requires-clause-first : goal.greatest_aligned-requires-clause-first
+greatest_aligned-requires-clause-first g c = c.requires.first
+
+pub greatest_aligned-requires-clause-second : goal.greatest_aligned-requires-clause-second
+greatest_aligned-requires-clause-second g c = c.requires.second
+
+pub greatest_scattered-requires-clause-first : goal.greatest_scattered-requires-clause-first
+greatest_scattered-requires-clause-first g c = c.requires.first
+
+pub greatest_scattered-requires-clause-second : goal.greatest_scattered-requires-clause-second
+greatest_scattered-requires-clause-second g c = c.requires.second
+
+pub greatest_scattered-requires-clause-have : goal.greatest_scattered-requires-clause-have
+greatest_scattered-requires-clause-have g c = c.requires.have
+
 pub greatest_scaled-requires-clause-low : goal.greatest_scaled-requires-clause-low
 greatest_scaled-requires-clause-low g c =
     let value = g.N.Number.value in
