@@ -1,8 +1,13 @@
-use Rattle.std.proofs.Common.{◌≡◌, ◌+◌, ◌<◌, ℕ, List, length, drop, get_or, sym, ap, subst, ◌∙◌, arith, length-drop}
+use Rattle.std.proofs.Common.{◌≡◌, ◌+◌, ◌-◌, ◌<◌, ℕ, List, length, take, drop, get_or, sym, ap, subst, ◌∙◌, arith, length-drop}
+use Rattle.std.specs.List.{AllByRecursion}
+use Rattle.std.proofs.lemmas.List.Elements.{All-from_recursion, recursion_from_All, All-take, All-drop}
 use Rattle.std.proofs.lemmas.List.{get_or-drop, get_or_read}
 use Rattle.adp_model.specs.declared.grammar.Arg.{Arg}
 use Rattle.adp_model.specs.declared.grammar.Arg.TheVariants.{Rule}
 use Rattle.adp_model.specs.PosedProblem.{PosedProblem}
+use Rattle.adp_model.specs.WellFormed.{IsKnown}
+use Rattle.split_lines.specs.Laid.{IsFixed}
+use Rattle.split_lines.specs.Lines.{HasLine}
 use Rattle.split_lines.specs.Extents.{IsExtent}
 use Rattle.split_lines.specs.Matching.{HaveLetters}
 use Rattle.split_lines.specs.LinesFields.{IsNumberOf}
@@ -13,6 +18,91 @@ use Rattle.split_lines.proofs.lines.kept_line.Goals as goal
 read_behind : (all : List Arg) (first between at : ℕ) (read : Arg) → at ≡ first + between → at < length all → read ≡ get_or all at read → read ≡ get_or (drop first all) between (Rule 0)
 read_behind all first between at read at_is within is =
     get_or_read all at read within is (Rule 0) ∙ ap (λ n. get_or all n (Rule 0)) at_is ∙ sym (get_or-drop first all between (Rule 0))
+
+-- an argument that is read is known
+known_at : (p q : PosedProblem) → q ≡ p → (all : List Arg) (k : ℕ) (read : Arg) → read ≡ get_or all k read → k < length all → AllByRecursion (IsKnown p.grammar) all → IsKnown q.grammar read
+known_at p q same all k read is l known =
+    subst (λ (r : PosedProblem). IsKnown r.grammar read) (sym same) (subst (IsKnown p.grammar) (sym is) (All-from_recursion (IsKnown p.grammar) all known k read l))
+
+line_within : (all : List Arg) (first between : ℕ) → HasLine (drop first all) between → first + between + 1 < length all
+line_within all first between line = omega (arith, line.several, length-drop first all)
+
+all_in_part : {X : Type 0} (P : X → Type 0) (n m : ℕ) (xs : List X) → AllByRecursion P xs → AllByRecursion P (take n (drop m xs))
+all_in_part P n m xs all = recursion_from_All P (take n (drop m xs)) (All-take P n (drop m xs) (All-drop P m xs (All-from_recursion P xs all)))
+
+pub overflow_add-second : goal.overflow_add-second
+overflow_add-second c = omega (arith, line_within c.args.arguments.now c.in-Some.first c.in-Some.between c.in-Some.ensures, c.requires.few)
+
+pub overflow_add-second-2 : goal.overflow_add-second-2
+overflow_add-second-2 c = omega (arith, line_within c.args.arguments.now c.in-Some.first c.in-Some.between c.in-Some.ensures, c.requires.few)
+
+pub overflow_add-first : goal.overflow_add-first
+overflow_add-first c = omega (arith, line_within c.args.arguments.now c.in-Some.first c.in-Some.between c.in-Some.ensures, c.requires.few)
+
+pub overflow_add-second-3 : goal.overflow_add-second-3
+overflow_add-second-3 c = omega (arith, line_within c.args.arguments.now c.in-Some.first c.in-Some.between c.in-Some.ensures, c.requires.few)
+
+pub slice_bounds-number_of-end : goal.slice_bounds-number_of-end
+slice_bounds-number_of-end c = omega (arith, line_within c.args.arguments.now c.in-Some.first c.in-Some.between c.in-Some.ensures, c.requires.few)
+
+pub slice_bounds-fixed_letters-start : goal.slice_bounds-fixed_letters-start
+slice_bounds-fixed_letters-start c = omega (arith, line_within c.args.arguments.now c.in-Some.first c.in-Some.between c.in-Some.ensures, c.requires.few)
+
+pub overflow_cast-result : goal.overflow_cast-result
+overflow_cast-result c = omega (arith, line_within c.args.arguments.now c.in-Some.first c.in-Some.between c.in-Some.ensures, c.requires.few)
+
+pub overflow_cast-result-2 : goal.overflow_cast-result-2
+overflow_cast-result-2 c = omega (arith, line_within c.args.arguments.now c.in-Some.first c.in-Some.between c.in-Some.ensures, c.requires.few)
+
+pub bounds-arguments-first : goal.bounds-arguments-first
+bounds-arguments-first c = omega (arith, line_within c.args.arguments.now c.in-Some.first c.in-Some.between c.in-Some.ensures, c.requires.few)
+
+pub bounds-arguments-second : goal.bounds-arguments-second
+bounds-arguments-second c = omega (arith, line_within c.args.arguments.now c.in-Some.first c.in-Some.between c.in-Some.ensures, c.requires.few)
+
+pub number_of-requires-clause-fixed : goal.number_of-requires-clause-fixed
+number_of-requires-clause-fixed c = subst (AllByRecursion IsFixed) (sym (middle_taken c.args.arguments.now c.in-Some.first c.in-Some.between)) c.in-Some.ensures.parts.middle_fixed
+
+pub fixed_letters-tail-requires : goal.fixed_letters-tail-requires
+fixed_letters-tail-requires c = subst (AllByRecursion IsFixed) (sym (tail_taken c.args.arguments.now c.in-Some.first c.in-Some.between)) c.in-Some.ensures.parts.tail_fixed
+
+pub extent_of-requires-clause-known : goal.extent_of-requires-clause-known
+extent_of-requires-clause-known c =
+    let within = line_within c.args.arguments.now c.in-Some.first c.in-Some.between c.in-Some.ensures in
+    known_at c.args.tables.now c.problem-2.result.now c.problem-2.ensures c.args.arguments.now c.in-Some.first c.index-arguments-first.result c.index-arguments-first.is (omega (arith, within)) c.requires.known
+
+pub extent_of-requires-clause-open_length : goal.extent_of-requires-clause-open_length
+extent_of-requires-clause-open_length c =
+    let within = line_within c.args.arguments.now c.in-Some.first c.in-Some.between c.in-Some.ensures in
+    let is = read_behind c.args.arguments.now c.in-Some.first 0 c.in-Some.first c.index-arguments-first.result (omega arith) (omega (arith, within)) c.index-arguments-first.is in
+    λ fixed. c.in-Some.ensures.first_open (subst IsFixed is fixed)
+
+pub extent_of-requires-2-clause-known : goal.extent_of-requires-2-clause-known
+extent_of-requires-2-clause-known c =
+    let within = line_within c.args.arguments.now c.in-Some.first c.in-Some.between c.in-Some.ensures in
+    known_at c.args.tables.now c.problem-3.result.now c.problem-3.ensures c.args.arguments.now (c.in-Some.first + c.in-Some.between + 1) c.index-arguments-second.result c.index-arguments-second.is (omega (arith, within)) c.requires.known
+
+pub extent_of-requires-2-clause-open_length : goal.extent_of-requires-2-clause-open_length
+extent_of-requires-2-clause-open_length c =
+    let within = line_within c.args.arguments.now c.in-Some.first c.in-Some.between c.in-Some.ensures in
+    let is = read_behind c.args.arguments.now c.in-Some.first (c.in-Some.between + 1) (c.in-Some.first + c.in-Some.between + 1) c.index-arguments-second.result (omega arith) (omega (arith, within)) c.index-arguments-second.is in
+    λ fixed. c.in-Some.ensures.second_open (subst IsFixed is fixed)
+
+pub returns-clause-middles : goal.returns-clause-middles
+returns-clause-middles c = c.in_ok-middle.ensures.middles
+
+pub returns-clause-kept : goal.returns-clause-kept
+returns-clause-kept c = c.in_ok-middle.ensures.kept
+
+pub number_of-requires-clause-known : goal.number_of-requires-clause-known
+number_of-requires-clause-known c =
+    all_in_part (IsKnown c.args.tables.now.grammar) (c.in-Some.first + c.in-Some.between + 1 - (c.in-Some.first + 1)) (c.in-Some.first + 1) c.args.arguments.now c.requires.known
+
+pub overflow_cast-result-3 : goal.overflow_cast-result-3
+overflow_cast-result-3 c = omega (arith, c.fixed_letters-tail.ensures.short)
+
+pub slice_bounds-number_of-start : goal.slice_bounds-number_of-start
+slice_bounds-number_of-start c = omega (arith, line_within c.args.arguments.now c.in-Some.first c.in-Some.between c.in-Some.ensures, c.requires.few)
 
 pub returns-clause-line : goal.returns-clause-line
 returns-clause-line c =
