@@ -1,3 +1,5 @@
+ghost use Rattle.std.specs.Prelude.{◌<◌};
+
 use adp_io::{
     CleanSink, CleanSource, Failed, JOB_LIMIT, MemSink, MemSource, Sink, Source, StdSink,
     StdSource, read_job, write_whole,
@@ -5,52 +7,80 @@ use adp_io::{
 use std::alloc::{AllocError, Global};
 use std::io;
 use std::io::{ErrorKind, Read, Write};
+use std::process::Abort;
 use std::test::Fail;
 
 // A text of this length.
 fn text(alloc: Global, len: usize) -> Result<Vec<u8>, AllocError> {
-    let mut bytes = Vec::with_capacity(alloc, len)?;
-    for i in 0..len {
-        bytes.push((i % 251) as u8)?;
-    }
-    Ok(bytes)
+    vec![in alloc; b'a'; len]
 }
 
-#[test]
-fn a_job_comes_whole(rt: HostRuntime) -> Result<(), Fail> {
-    let alloc = rt.alloc();
-    // bytes, and the most that one read gives
-    for (len, piece) in [(0, 1), (300, 7), (JOB_LIMIT, 70_000)] {
-        let job = text(alloc, len)?;
-        let mut source = MemSource::new(job.clone()?, piece, Vec::new(alloc));
-        assert!(rt; read_job(alloc, &mut source)? == job, "{len} bytes");
-    }
-
-    let job = text(alloc, 300)?;
-    assert!(rt; read_job(alloc, &mut StdSource::new(job.as_slice()))? == job);
-    assert!(rt; read_job(alloc, &mut CleanSource::new(job.clone()?))? == job);
+fn expect_job<S: Source>(
+    rt: &impl Abort,
+    alloc: Global,
+    source: &mut S,
+    job: &[u8],
+) -> Result<(), Fail> {
+    assert!(rt; read_job(alloc, source)?.as_slice() == job);
     Ok(())
 }
 
+// The most that one read gives is `piece`.
+fn expect_pieces(rt: &impl Abort, alloc: Global, len: usize, piece: usize) -> Result<(), Fail>
+    requires { 0 < piece }
+{
+    let job = text(alloc, len)?;
+    let mut source = MemSource::new(job.clone()?, piece, Vec::new(alloc));
+    expect_job(rt, alloc, &mut source, &job)
+}
+
 #[test]
-fn a_text_is_written_whole(rt: HostRuntime) -> Result<(), Fail> {
+fn a_job_comes_whole_in_pieces(rt: HostRuntime) -> Result<(), Fail> {
+    let alloc = rt.alloc();
+    expect_pieces(&rt, alloc, 0, 1)?;
+    expect_pieces(&rt, alloc, 300, 7)?;
+    expect_pieces(&rt, alloc, JOB_LIMIT, 70_000)
+}
+
+#[test]
+fn a_job_comes_whole_from_std(rt: HostRuntime) -> Result<(), Fail> {
+    let alloc = rt.alloc();
+    let job = text(alloc, 300)?;
+    expect_job(&rt, alloc, &mut StdSource::new(job.as_slice()), &job)
+}
+
+#[test]
+fn a_job_comes_whole_at_once(rt: HostRuntime) -> Result<(), Fail> {
+    let alloc = rt.alloc();
+    let job = text(alloc, 300)?;
+    expect_job(&rt, alloc, &mut CleanSource::new(job.clone()?), &job)
+}
+
+#[test]
+fn a_text_is_written_whole_in_pieces(rt: HostRuntime) -> Result<(), Fail> {
     let alloc = rt.alloc();
     let report = text(alloc, 12)?;
     let mut sink = MemSink::new(alloc, 12, 5, vec![in alloc; 3]?)?;
-    assert_eq!(rt; write_whole(&mut sink, &report), Ok(()));
-    assert_eq!(rt; sink.bytes(), report.as_slice());
-
-    let mut written = Vec::new(alloc);
-    assert_eq!(rt;
-        write_whole(&mut StdSink::new(&mut written), &report),
-        Ok(())
-    );
-    assert!(rt; written == report);
-
-    let mut sink = CleanSink::new();
-    assert_eq!(rt; write_whole(&mut sink, &report), Ok(()));
-    assert_eq!(rt; sink.taken(), 12);
+    assert!(rt; write_whole(&mut sink, &report) == Ok(()));
+    assert!(rt; sink.bytes() == report.as_slice());
     Ok(())
+}
+
+#[test]
+fn a_text_is_written_whole_to_std(rt: HostRuntime) -> Result<(), Fail> {
+    let alloc = rt.alloc();
+    let report = text(alloc, 12)?;
+    let mut written = Vec::new(alloc);
+    assert!(rt; write_whole(&mut StdSink::new(&mut written), &report) == Ok(()));
+    assert!(rt; written == report);
+    Ok(())
+}
+
+#[test]
+fn a_text_is_written_whole_at_once(rt: HostRuntime) {
+    let mut sink = CleanSink::new();
+    assert!(rt; write_whole(&mut sink, b"abcdefghijkl") == Ok(()));
+    assert!(rt; sink.taken() == 12);
 }
 
 // A stream whose first call fails, and which is then at its end and takes all that it is given.
@@ -89,17 +119,19 @@ impl Write for Flaky {
 
 // Each read and write asks once: an error is answered, and nothing is tried again.
 #[test]
-fn an_error_of_std_is_a_fault_at_once(rt: HostRuntime) -> Result<(), Fail> {
+fn an_error_of_a_reader_is_a_fault_at_once(rt: HostRuntime) {
     let mut reader = Flaky { calls: 0 };
     let mut source = StdSource::new(&mut reader);
-    assert_eq!(rt; source.read(&mut [0; 9]), Err(Failed));
-    assert_eq!(rt; source.read(&mut [0; 9]), Ok(0));
-    assert_eq!(rt; reader.calls, 2);
+    assert!(rt; source.read(&mut [0; 9]) == Err(Failed));
+    assert!(rt; source.read(&mut [0; 9]) == Ok(0));
+    assert!(rt; reader.calls == 2);
+}
 
+#[test]
+fn an_error_of_a_writer_is_a_fault_at_once(rt: HostRuntime) {
     let mut writer = Flaky { calls: 0 };
     let mut sink = StdSink::new(&mut writer);
-    assert_eq!(rt; sink.write(b"ab"), Err(Failed));
-    assert_eq!(rt; sink.write(b"ab"), Ok(2));
-    assert_eq!(rt; writer.calls, 2);
-    Ok(())
+    assert!(rt; sink.write(b"ab") == Err(Failed));
+    assert!(rt; sink.write(b"ab") == Ok(2));
+    assert!(rt; writer.calls == 2);
 }
