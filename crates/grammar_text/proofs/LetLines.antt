@@ -1,8 +1,8 @@
 -- What a `let` line says, by its tokens.
-use Rattle.std.proofs.Common.{◌≡◌, ℕ, ◌+◌, ◌*◌, true, false, Option, Some, None, is_some, List, ◌∷◌, length, map, drop, refl, sym, ap, ◌∙◌, drop-drop, arith}
+use Rattle.std.proofs.Common.{◌≡◌, ℕ, ◌+◌, ◌*◌, ◌-◌, ◌<◌, ◌≤◌, true, false, Option, Some, None, is_some, IsSome, List, ◌∷◌, length, map, take, drop, refl, sym, ap, ◌∙◌, drop-drop, length-drop, arith, rules}
 use Rattle.std.specs.Borrow.{Bor}
 use Rattle.std.specs.Option.{option_map}
-use Rattle.std.proofs.lemmas.List.{drop-map}
+use Rattle.std.proofs.lemmas.List.{drop-map, length-map}
 use Rattle.adp_model.specs.LineTokens.{Token, Word, OpenBracket}
 use Rattle.adp_model.specs.TermText.{Part}
 use Rattle.adp_model.specs.TermParts.{parts_of, term_parts}
@@ -10,6 +10,7 @@ use Rattle.adp_model.specs.Declarations as forms
 use Rattle.algebra_terms.specs.declared.lexer.Token as spans
 use Rattle.algebra_terms.specs.declared.symbols.Symbol.{Symbol}
 use Rattle.algebra_terms.specs.Tokens as code
+use Rattle.grammar_text.proofs.ShapeSteps.{rest_of}
 use Rattle.grammar_text.specs.Seen.{tokens_seen, words_seen, let_tokens_seen, parts_of_text}
 
 -- the tokens behind the `=`
@@ -67,3 +68,15 @@ let_read line tokens said sign variables equals bytes front same found place som
         → option_map (λ parts. forms.Let sign (words_seen variables) parts) (term_parts bytes) ≡ Some (forms.Let sign (words_seen variables) (parts_of_text bytes))
     something None e h = let none = rw e at h in cc
     something (Some read) e h = rw e refl
+
+-- the tokens reach beyond the `=`
+pub tokens_room : (line : List ℕ) (tokens : List spans.Token) (said : List Symbol) (n : ℕ)
+    → tokens_seen said ≡ map (code.said line) (drop 1 tokens)
+    → 2 * n < length (take (length said - 2) (drop 2 said))
+    → 3 + 2 * n + 1 ≤ length tokens
+tokens_room line tokens said n same within =
+    omega (arith, simp (length-map, length-drop) at (ap length same), simp (rest_of, length-drop) at within)
+
+pub is_spelled : (parts : Option (List Part)) → is_some parts ≡ true → IsSome parts
+is_spelled None h = cc
+is_spelled (Some parts) h = search rules

@@ -30,6 +30,12 @@ pub items_step : (said : List Symbol) (at used : ℕ) (front items : List Item) 
 items_step said at used front items item all h first seen is =
     rw (is, seen_more item_seen front item, ← drop-drop) (rw first.0 at seen)
 
+pub items_none : (said : List Symbol) (at : ℕ) (front : List Item) (all : Option (List forms.Item))
+    → IsFirstItem (drop at said) None
+    → with_front (map item_seen front) (forms.further_items (tokens_seen (drop at said))) ≡ all
+    → None ≡ all
+items_none said at front all none seen = rw none at seen
+
 pub kinds_step : (said : List Symbol) (at : ℕ) (front kinds : List Kind) (kind : Kind) (all : Option (List Kind))
     → IsFirstKind (drop at said) (Some (kind, next.Another))
     → with_front front (forms.kinds_of (tokens_seen (drop at said))) ≡ all
@@ -38,6 +44,19 @@ pub kinds_step : (said : List Symbol) (at : ℕ) (front kinds : List Kind) (kind
 kinds_step said at front kinds kind all first seen is =
     rw (is, front_more front kind, ← drop-drop) (rw first.0 at seen)
 
+pub kinds_end : (said : List Symbol) (at : ℕ) (front kinds : List Kind) (kind : Kind) (all : Option (List Kind))
+    → IsFirstKind (drop at said) (Some (kind, next.End))
+    → with_front front (forms.kinds_of (tokens_seen (drop at said))) ≡ all
+    → kinds ≡ front ++ kind ∷ []
+    → Some kinds ≡ all
+kinds_end said at front kinds kind all first seen is = rw is (rw first.0 at seen)
+
+pub kinds_none : (said : List Symbol) (at : ℕ) (front : List Kind) (all : Option (List Kind))
+    → IsFirstKind (drop at said) None
+    → with_front front (forms.kinds_of (tokens_seen (drop at said))) ≡ all
+    → None ≡ all
+kinds_none said at front all none seen = rw none at seen
+
 pub variables_step : (said : List Symbol) (at : ℕ) (front variables : List (Bor (List ℕ))) (variable : Bor (List ℕ)) (all : Option forms.LetTokens)
     → IsFirstVariable (drop at said) (Some (variable, next.Another))
     → with_variables (words_seen front) (forms.let_tokens (tokens_seen (drop at said))) ≡ all
@@ -45,6 +64,12 @@ pub variables_step : (said : List Symbol) (at : ℕ) (front variables : List (Bo
     → with_variables (words_seen variables) (forms.let_tokens (tokens_seen (drop (at + 2) said))) ≡ all
 variables_step said at front variables variable all first seen is =
     rw (is, variables_more front variable, ← drop-drop) (rw first.0 at seen)
+
+pub variables_unended : (said : List Symbol) (at : ℕ) (front : List (Bor (List ℕ))) (all : Option forms.LetTokens)
+    → IsFirstVariable (drop at said) None
+    → with_variables (words_seen front) (forms.let_tokens (tokens_seen (drop at said))) ≡ all
+    → None ≡ all
+variables_unended said at front all none seen = rw none at seen
 
 pub variables_end : (said : List Symbol) (at : ℕ) (front variables : List (Bor (List ℕ))) (variable : Bor (List ℕ)) (all : Option forms.LetTokens)
     → IsFirstVariable (drop at said) (Some (variable, next.End))

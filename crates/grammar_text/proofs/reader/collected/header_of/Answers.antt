@@ -1,3 +1,4 @@
+use Rattle.std.proofs.lemmas.Grind.{common_steps}
 use Rattle.std.proofs.Common.{◌∷◌, arith, sym, ◌∙◌}
 use Rattle.adp_model.specs.Declarations as forms
 use Rattle.grammar_text.specs.Collecting.{header_seen}
@@ -19,3 +20,9 @@ loop-line-preserved c = record {
       (seen_goes_on (header_seen c.loop-line.header) (forms.Skipped ∷ heading_from c.args.lines.now 0) (line_seen c.in_ok-found.found) c.args.lines.now c.loop-line.line-index _ (omega arith)
       c.in_ok-found.ensures (sym c.in_ok-push_line.ensures.last ∙ c.if-branch.false) c.loop-line.invariant.seen);
 }
+
+pub loop-line-init : goal.loop-line-init
+loop-line-init c = grind (arith, common_steps)
+
+pub returns-clause-seen : goal.returns-clause-seen
+returns-clause-seen c = grind (arith, common_steps)

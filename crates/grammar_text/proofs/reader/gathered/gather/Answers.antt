@@ -20,3 +20,9 @@ pub returns-clause-parts : goal.returns-clause-parts
 returns-clause-parts c =
     parts_within c.in_ok-header.header.sorts.items c.in_ok-header.header.declared.items c.in_ok-lines.lines.items c.behind_first.result.now
     c.in_ok-header.ensures.says c.in_ok-header.ensures.seen (c.behind_first.ensures ∙ ap (λ (these : List (Bor (List ℕ))). drop 1 these) c.deref.ensures.value) c.in_ok-lines.ensures.short
+
+pub returns-clause-says : goal.returns-clause-says
+returns-clause-says c = c.in_ok-header.ensures.says
+
+pub returns-clause-few : goal.returns-clause-few
+returns-clause-few c = c.in_ok-lines.ensures.few

@@ -1,3 +1,4 @@
+use Rattle.std.proofs.lemmas.Grind.{common_steps}
 use Rattle.std.proofs.Common.{◌≡◌, Some, None, [], ◌∷◌, ◌++◌, map, take, sym, ◌∙◌, ap, arith, length-append}
 use Rattle.std.specs.List.{cons_option}
 use Rattle.std.specs.Option.{option_copied}
@@ -34,3 +35,12 @@ loop-declaration-preserved c =
             few = rw w.names-is (omega (arith, few));
           }
     ]
+
+pub loop-declaration-init : goal.loop-declaration-init
+loop-declaration-init c = grind (arith, common_steps)
+
+pub returns-clause-names : goal.returns-clause-names
+returns-clause-names c = grind (arith, common_steps)
+
+pub returns-clause-few : goal.returns-clause-few
+returns-clause-few c = grind (arith, common_steps)

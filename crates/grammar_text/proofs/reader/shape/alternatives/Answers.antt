@@ -1,5 +1,7 @@
+use Rattle.std.proofs.Common.{arith}
 use Rattle.std.proofs.Common.{map, refl}
 use Rattle.grammar_text.specs.Seen.{alternative_seen}
+use Rattle.grammar_text.proofs.Fronts.{front_none}
 use Rattle.grammar_text.proofs.ShapeSteps.{rest_of, one_within, alternatives_end, alternatives_step, alternatives_unended, alternatives_without}
 use Rattle.grammar_text.proofs.reader.shape.alternatives.Goals as goal
 
@@ -32,3 +34,18 @@ returns-in-None c =
     let those = rw (rest_of, c.in-Some-2.is) at c.in_ok-arguments.ensures in
     let none = rw rest_of at c.in-None.ensures in
     alternatives_unended c.args.said.now c.loop-sign.at c.in-Some-2.used c.in-Some.sign c.in-Some-2.arguments.items (map alternative_seen c.loop-sign.alternatives.items) _ first those c.loop-sign.invariant.seen none
+
+pub offset_bounds-said-at : goal.offset_bounds-said-at
+offset_bounds-said-at c = omega arith
+
+pub slice_bounds-first_sign-count : goal.slice_bounds-first_sign-count
+slice_bounds-first_sign-count c = omega arith
+
+pub slice_bounds-first_sign-start : goal.slice_bounds-first_sign-start
+slice_bounds-first_sign-start c = omega arith
+
+pub slice_bounds-first_sign-end : goal.slice_bounds-first_sign-end
+slice_bounds-first_sign-end c = omega arith
+
+pub loop-sign-init : goal.loop-sign-init
+loop-sign-init c = record { within = omega arith; seen = rw c.new-alternatives.ensures.items (front_none _); }
