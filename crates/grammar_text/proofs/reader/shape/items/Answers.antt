@@ -29,7 +29,7 @@ overflow_add-at c =
     omega (arith, place_within c.args.said.now c.loop-at.at c.in-Some.used c.loop-at.invariant.within first.2)
 
 pub loop-at-init : goal.loop-at-init
-loop-at-init c = record { within = omega arith; seen = rw c.new-items.ensures.items (front_none _); }
+loop-at-init c = record { within = omega arith; seen = rw c.new-items.ensures.items (front_none _) }
 
 pub returns-in_default : goal.returns-in_default
 returns-in_default c =

@@ -44,4 +44,4 @@ returns c =
     kinds_none c.args.said.now c.loop-kind.at c.loop-kind.kinds.items _ none c.loop-kind.invariant.seen
 
 pub loop-kind-init : goal.loop-kind-init
-loop-kind-init c = record { within = omega arith; seen = rw c.new-kinds.ensures.items (front_none _); }
+loop-kind-init c = record { within = omega arith; seen = rw c.new-kinds.ensures.items (front_none _) }

@@ -37,7 +37,7 @@ overflow_add-at c =
     omega (arith, place_within c.args.said.now c.loop-variable.at 2 c.loop-variable.invariant.within first.1)
 
 pub loop-variable-init : goal.loop-variable-init
-loop-variable-init c = record { within = omega arith; seen = rw c.new-variables.ensures.items (variables_none _); place = rw c.new-variables.ensures.items refl; }
+loop-variable-init c = record { within = omega arith; seen = rw c.new-variables.ensures.items (variables_none _); place = rw c.new-variables.ensures.items refl }
 
 pub returns-clause-variables : goal.returns-clause-variables
 returns-clause-variables c =
