@@ -1,15 +1,17 @@
-use Rattle.std.proofs.Common.{◌≡◌, ◌<◌, ◌≤◌, ◌+◌, ℕ, ℤ, ◌+ℤ◌, ◌-ℤ◌, Some, List, [], ◌∷◌, length, get_or, take, map, FitsSigned, w64, to_z, of_z, nat_abs, sym, ap, subst, ◌∙◌, arith, rules}
+use Rattle.std.proofs.Common.{◌≡◌, ◌<◌, ◌≤◌, ◌+◌, ℕ, ℤ, ◌+ℤ◌, ◌-ℤ◌, pos, Some, List, [], ◌∷◌, length, get_or, take, map, FitsSigned, w64, to_z, of_z, nat_abs, sym, ap, subst, ◌∙◌, arith, rules}
 use Rattle.std.proofs.lemmas.Int.{ints, to_z-of_z}
 use Rattle.adp_model.specs.declared.grammar.Arg.{Arg}
 use Rattle.adp_model.specs.declared.grammar.Goal.{Goal}
 use Rattle.adp_model.specs.declared.grammar.Linear.{Linear}
 use Rattle.adp_model.specs.declared.cell.Answer.TheVariants.{Best}
-use Rattle.adp_model.specs.PosedProblem.{PosedProblem}
+use Rattle.adp_model.specs.PosedProblem.{PosedProblem, IsSpan}
+use Rattle.adp_model.specs.declared.cell.Cell.{Cell}
 use Rattle.adp_model.specs.ProblemFields.{greatest_score, IsAdmissible}
 use Rattle.adp_model.specs.Parts.{algebra_of, alternatives_of, arguments_of, term_of}
 use Rattle.adp_model.specs.Bellman.{HasBestScore, Bellman}
 use Rattle.score_numbers.specs.Greatest.{IsGreatestOf}
 use Rattle.score_numbers.specs.Turned.{turned}
+use Rattle.cell_answers.specs.CellBest.{IsCellBest}
 use Rattle.cell_answers.specs.LaidBy.{AreFirstEnds}
 use Rattle.cell_answers.specs.Totals.{HasTotal}
 use Rattle.cell_answers.proofs.Alternatives.{TokensKeepBound, alternative_laid, score_low}
@@ -39,9 +41,55 @@ some c alternative in_range = c.alternatives_fit.ensures.arguments c.args.lines.
 few : (c : After-turned_factors-factors) (alternative : ℕ) → length (arguments_of c.args.lines.now.grammar c.args.cell.rule alternative) ≤ 4
 few c alternative = c.arguments_are_few_and_known.ensures.few c.args.lines.now.grammar (admissible c).checked.well_formed c.args.cell.rule alternative
 
+-- the best alternative is one of the rule's
+chosen : (p now : PosedProblem) (cell : Cell) (score : ℤ) (alternative : ℕ) → now ≡ p → IsAdmissible now → ((q : PosedProblem) → IsAdmissible q → Bellman q) → IsSpan p.word cell.from cell.to → IsCellBest p cell score alternative
+    → alternative < length (alternatives_of p.grammar cell.rule)
+chosen p now cell score alternative same admissible law in_word best =
+    let A : PosedProblem → Type 0 = IsAdmissible in
+    ((law p (subst A same admissible)).only cell (Best score (record { alt = alternative; cuts = best.0 })) in_word best.1).1.viable.in_range
+
+chosen_now : (p now : PosedProblem) (cell : Cell) (score : ℤ) (alternative : ℕ) → now ≡ p → IsAdmissible now → ((q : PosedProblem) → IsAdmissible q → Bellman q) → IsSpan p.word cell.from cell.to → IsCellBest p cell score alternative
+    → alternative < length (alternatives_of now.grammar cell.rule)
+chosen_now p now cell score alternative same admissible law in_word best =
+    subst (λ q. alternative < length (alternatives_of q.grammar cell.rule)) (sym same) (chosen p now cell score alternative same admissible law in_word best)
+
+pub arguments-arguments-requires : goal.arguments-arguments-requires
+arguments-arguments-requires c =
+    chosen_now c.args.lines.now c.problem-problem.result.now c.args.cell c.args.best.score c.args.best.alt c.problem-problem.ensures c.admissible.ensures c.bellman.ensures.admissible c.requires.in_word c.requires.best
+
+pub term-term-requires : goal.term-term-requires
+term-term-requires c =
+    chosen_now c.args.lines.now c.problem-problem.result.now c.args.cell c.args.best.score c.args.best.alt c.problem-problem.ensures c.admissible.ensures c.bellman.ensures.admissible c.requires.in_word c.requires.best
+
+few_read : (read factors : List ℤ) (all these : List Arg) → read ≡ factors → length factors ≡ length these → all ≡ these → length all ≤ 4 → length read ≤ 4
+few_read read factors all these read_is each all_are few = omega (arith, ap length read_is, each, ap length all_are, few)
+
+pub turned_factors-factors-requires-clause-few : goal.turned_factors-factors-requires-clause-few
+turned_factors-factors-requires-clause-few c =
+    few_read c.as_slice.result.now c.term-term.result.now.factors c.arguments-arguments.result.now (arguments_of c.problem-problem.result.now.grammar c.args.cell.rule c.args.best.alt) c.as_slice.ensures c.term-term.ensures.factors c.arguments-arguments.ensures.arguments c.arguments-arguments.ensures.few
+
+abbrev AreLowFactors : List ℤ → Type 0
+AreLowFactors factors = (k : ℕ) → k < length factors → nat_abs (get_or factors k (pos 0)) ≤ greatest_score
+
+pub turned_factors-factors-requires-clause-low : goal.turned_factors-factors-requires-clause-low
+turned_factors-factors-requires-clause-low c =
+    let p = c.problem-problem.result.now in
+    let in_range = chosen_now c.args.lines.now p c.args.cell c.args.best.score c.args.best.alt c.problem-problem.ensures c.admissible.ensures c.bellman.ensures.admissible c.requires.in_word c.requires.best in
+    subst AreLowFactors (sym (c.as_slice.ensures ∙ ap (λ (term : Linear). term.factors) c.term-term.ensures.term))
+    (c.terms_fit_their_alternatives.ensures.low_factors p.grammar c.admissible.ensures.checked.well_formed p.algebra c.args.cell.rule c.args.best.alt c.admissible.ensures.checked.algebra_known in_range)
+
 in_range : (c : After-turned_factors-factors) → c.args.best.alt < length (alternatives_of c.args.lines.now.grammar c.args.cell.rule)
 in_range c =
-    ((bellman c).only c.args.cell (Best c.args.best.score (record { alt = c.args.best.alt; cuts = c.requires.best.0 })) c.requires.in_word c.requires.best.1).1.viable.in_range
+    chosen c.args.lines.now c.problem-problem.result.now c.args.cell c.args.best.score c.args.best.alt c.problem-problem.ensures c.admissible.ensures c.bellman.ensures.admissible c.requires.in_word c.requires.best
+
+pub line-line-requires : goal.line-line-requires
+line-line-requires c = in_range (goal.at.line-line-requires c).After-turned_factors-factors
+
+pub first_ends-requires-clause-same_problem : goal.first_ends-requires-clause-same_problem
+first_ends-requires-clause-same_problem c = c.requires.same_problem
+
+pub first_ends-requires-clause-span : goal.first_ends-requires-clause-span
+first_ends-requires-clause-span c = c.requires.in_word
 
 -- the parts of the alternative, of the problem that lines tell of
 abbrev the_term : After-turned_factors-factors → Linear

@@ -241,3 +241,12 @@ returns-clause-others c = elim c.match-self.branch [
       let was : (other : Cell) → HasEntry c.args.self.now other → HasEntry old other = λ other has. subst (λ packed. HasEntry (table_of goal packed) other) w.in-Whole.is (subst (λ table. HasEntry table other) (sym c.self.view_is) has) in
       λ other has. subst (λ (inside : Inside). HasEntry (scores_table inside) other) (sym w.self-inside-is) (has_still old new cell c.args.score entry (2 ^ 63 - 1) w.put-in-Whole.ensures.problem row column w.unwrap_or.ensures right within low other (was other has))
 ]
+
+pub put-requires : goal.put-requires
+put-requires c = ?
+
+pub put-requires-in-Whole : goal.put-requires-in-Whole
+put-requires-in-Whole c = ?
+
+pub returns-clause-problem : goal.returns-clause-problem
+returns-clause-problem c = ?
