@@ -1,10 +1,11 @@
-use Rattle.std.proofs.Common.{◌≡◌, ◌<◌, ◌^◌, ◌-◌, ℤ, MatchOption, Option, FitsSigned, w16, w32, w64, rules, refl, sym, ap, subst, ◌∙◌, arith}
+use Rattle.std.proofs.Common.{◌≡◌, ◌<◌, ◌^◌, ◌-◌, ℤ, MatchOption, Option, length, FitsSigned, w16, w32, w64, rules, refl, sym, ap, subst, ◌∙◌, arith}
 use Rattle.std.proofs.lemmas.Int.{to_z-of_z}
 use Rattle.adp_model.specs.declared.cell.Cell.{Cell}
 use Rattle.adp_model.specs.declared.cell.Answer.TheVariants.{NoCandidate}
 use Rattle.adp_model.specs.PosedProblem.{PosedProblem}
 use Rattle.adp_model.specs.Answers.{IsAnswer}
 use Rattle.adp_model.specs.Bellman.{HasBestScore}
+use Rattle.adp_model.specs.Cells.{IsCounted}
 use Rattle.cell_answers.specs.declared.scores.Packed.{Packed}
 use Rattle.cell_answers.specs.declared.scores.Packed.TheVariants.{Short, Medium, Long, Whole}
 use Rattle.cell_answers.specs.declared.scores.Scores.TheInside.{Inside}
@@ -18,11 +19,20 @@ use Rattle.cell_answers.proofs.PackedScores.{right_within, has_now, has_still, w
 use Rattle.cell_answers.proofs.scores.Scores.keep.Goals as goal
 use Rattle.cell_answers.proofs.scores.Scores.keep.Goals.{in-Short, in-Medium, in-Long, in-Whole}
 
+-- the problem of the scores is that of the table within
+problem_is : (inside : Inside) (packed : Packed) (now : Table ℤ) → scores_table inside ≡ now → inside.packed ≡ packed → now.problem ≡ (table_of inside.goal packed).problem
+problem_is inside packed now view is = ap (λ (t : Table ℤ). t.problem) (sym view) ∙ ap (λ p. (table_of inside.goal p).problem) is
+
+counted_within : (inside : Inside) (packed : Packed) (now : Table ℤ) (cell : Cell) → scores_table inside ≡ now → inside.packed ≡ packed → IsCounted now.problem.grammar (length now.problem.word) cell
+    → IsCounted (table_of inside.goal packed).problem.grammar (length (table_of inside.goal packed).problem.word) cell
+counted_within inside packed now cell view is counted =
+    subst (λ (p : PosedProblem). IsCounted p.grammar (length p.word) cell) (problem_is inside packed now view is) counted
+
 -- what is right of the scores is right of the table within
 within_right : (inside : Inside) (packed : Packed) (now table : Table ℤ) (cell : Cell) (score : Option ℤ) → scores_table inside ≡ now → inside.packed ≡ packed → table_of inside.goal packed ≡ table → MatchOption score (IsAnswer now.problem cell NoCandidate) (HasBestScore now.problem cell)
     → MatchOption score (IsAnswer table.problem cell NoCandidate) (HasBestScore table.problem cell)
 within_right inside packed now table cell score view is told right =
-    let same : now.problem ≡ table.problem = ap (λ (t : Table ℤ). t.problem) (sym view) ∙ ap (λ p. (table_of inside.goal p).problem) is ∙ ap (λ (t : Table ℤ). t.problem) told in
+    let same : now.problem ≡ table.problem = problem_is inside packed now view is ∙ ap (λ (t : Table ℤ). t.problem) told in
     subst (λ (p : PosedProblem). MatchOption score (IsAnswer p cell NoCandidate) (HasBestScore p cell)) same right
 
 pub short_number-requires : goal.short_number-requires
@@ -45,6 +55,29 @@ long_number-requires c =
     let of_width : IsOfWidth long table = subst IsPacked c.in-Long.is c.self.invariant in
     let right = within_right c.self.inside (Long table) c.args.self.now (told_table long c.self.inside.goal table) c.args.cell c.args.score c.self.view_is c.in-Long.is refl c.requires.right in
     right_within table.problem c.args.cell long.limit c.args.score of_width.within right
+
+pub put-requires : goal.put-requires
+put-requires c = counted_within c.self.inside (Short c.in-Short.table) c.args.self.now c.args.cell c.self.view_is c.in-Short.is c.requires.counted
+
+pub put-requires-in-Medium : goal.put-requires-in-Medium
+put-requires-in-Medium c = counted_within c.self.inside (Medium c.in-Medium.table) c.args.self.now c.args.cell c.self.view_is c.in-Medium.is c.requires.counted
+
+pub put-requires-in-Long : goal.put-requires-in-Long
+put-requires-in-Long c = counted_within c.self.inside (Long c.in-Long.table) c.args.self.now c.args.cell c.self.view_is c.in-Long.is c.requires.counted
+
+pub put-requires-in-Whole : goal.put-requires-in-Whole
+put-requires-in-Whole c = counted_within c.self.inside (Whole c.in-Whole.table) c.args.self.now c.args.cell c.self.view_is c.in-Whole.is c.requires.counted
+
+pub returns-clause-problem : goal.returns-clause-problem
+returns-clause-problem c =
+    let now = c.args.self.now in
+    let P : Inside → PosedProblem = λ inside. (scores_table inside).problem in
+    elim c.match-self.branch [
+      | in-Short w ↦ ap P w.self-inside-is ∙ w.put.ensures.problem ∙ sym (problem_is c.self.inside (Short w.in-Short.table) now c.self.view_is w.in-Short.is)
+      | in-Medium w ↦ ap P w.self-inside-is ∙ w.put-in-Medium.ensures.problem ∙ sym (problem_is c.self.inside (Medium w.in-Medium.table) now c.self.view_is w.in-Medium.is)
+      | in-Long w ↦ ap P w.self-inside-is ∙ w.put-in-Long.ensures.problem ∙ sym (problem_is c.self.inside (Long w.in-Long.table) now c.self.view_is w.in-Long.is)
+      | in-Whole w ↦ ap P w.self-inside-is ∙ w.put-in-Whole.ensures.problem ∙ sym (problem_is c.self.inside (Whole w.in-Whole.table) now c.self.view_is w.in-Whole.is)
+    ]
 
 pub invariant_of-self : goal.invariant_of-self
 invariant_of-self c = elim c.match-self.branch [
@@ -241,12 +274,3 @@ returns-clause-others c = elim c.match-self.branch [
       let was : (other : Cell) → HasEntry c.args.self.now other → HasEntry old other = λ other has. subst (λ packed. HasEntry (table_of goal packed) other) w.in-Whole.is (subst (λ table. HasEntry table other) (sym c.self.view_is) has) in
       λ other has. subst (λ (inside : Inside). HasEntry (scores_table inside) other) (sym w.self-inside-is) (has_still old new cell c.args.score entry (2 ^ 63 - 1) w.put-in-Whole.ensures.problem row column w.unwrap_or.ensures right within low other (was other has))
 ]
-
-pub put-requires : goal.put-requires
-put-requires c = ?
-
-pub put-requires-in-Whole : goal.put-requires-in-Whole
-put-requires-in-Whole c = ?
-
-pub returns-clause-problem : goal.returns-clause-problem
-returns-clause-problem c = ?
