@@ -17,6 +17,7 @@ pub mod Lists
 pub mod OneEnds
 pub mod OpenedLines
 pub mod PackedScores
+pub mod Reading
 pub mod ScaledTotals
 pub mod Scoring
 pub mod Soundness

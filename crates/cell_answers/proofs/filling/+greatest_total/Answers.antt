@@ -10,11 +10,12 @@ use Rattle.adp_model.specs.FirstSplit.{IsValue}
 use Rattle.adp_model.specs.Bellman.{HasBestScore}
 use Rattle.viable_splits.specs.Placing.{on_span, ArePositions, Cover}
 use Rattle.cell_answers.specs.Entries.{HasEntry}
-use Rattle.cell_answers.specs.Totals.{HasTotal}
+use Rattle.cell_answers.specs.Totals.{AreLow, AreWeighted, HasTotal}
 use Rattle.score_numbers.specs.Greatest.{IsGreatestOf}
 use Rattle.cell_answers.proofs.FirstEnds.{AreLaid, AreSound, first_low, rest_laid, found_more, unvalued_more, untotalled_more, none_first, all_found}
 use Rattle.split_lines.specs.Ends.{IsEndTold}
 use Rattle.cell_answers.proofs.OneEnds.{none_ends, one_ends, total_nowhere, none_from, greatest_from, fixed_value, empty_without}
+use Rattle.cell_answers.proofs.Reading.{product_fits, sum_fits, sum_read}
 use Rattle.cell_answers.proofs.Soundness.{parts_fit, sound_by}
 use Rattle.cell_answers.proofs.filling.+greatest_total.Goals as goal
 use Rattle.cell_answers.proofs.filling.+greatest_total.Goals.{After-answer_is_unique, After-ends_of_first-positions, After-token_value, In_ok-end}
@@ -97,9 +98,7 @@ overflow_mul-factor t c =
     let value = c.in-Some-argument_value.value in
     let rest = c.in-Some-greatest_total.rest in
     let it = fitting t begun end end_fits value (λ entry. c.in-Some-argument_value.ensures entry) rest c.in-Some-greatest_total.ensures.0 in
-    let fits_factor : FitsSigned w64 factor = search rules in
-    let fits_value : FitsSigned w64 value = search rules in
-    simp to_z-of_z it.0
+    product_fits factor value (search rules) (search rules) it.0
 
 pub overflow_add-factor : goal.overflow_add-factor
 overflow_add-factor t c =
@@ -111,11 +110,7 @@ overflow_add-factor t c =
     let value = c.in-Some-argument_value.value in
     let rest = c.in-Some-greatest_total.rest in
     let it = fitting t begun end end_fits value (λ entry. c.in-Some-argument_value.ensures entry) rest c.in-Some-greatest_total.ensures.0 in
-    let fits_factor : FitsSigned w64 factor = search rules in
-    let fits_value : FitsSigned w64 value = search rules in
-    let fits_product : FitsSigned w64 (factor *ℤ value) = it.0 in
-    let fits_rest : FitsSigned w64 rest = it.1 in
-    simp to_z-of_z it.2
+    sum_fits factor value (search rules) (search rules) it.0 rest it.1 it.2
 
 pub loop-end-preserved : goal.loop-end-preserved
 loop-end-preserved t c =
@@ -127,12 +122,8 @@ loop-end-preserved t c =
     let value = c.in-Some-argument_value.value in
     let rest = c.in-Some-greatest_total.rest in
     let it = fitting t begun end end_fits value (λ entry. c.in-Some-argument_value.ensures entry) rest c.in-Some-greatest_total.ensures.0 in
-    let fits_factor : FitsSigned w64 factor = search rules in
-    let fits_value : FitsSigned w64 value = search rules in
-    let fits_product : FitsSigned w64 (factor *ℤ value) = it.0 in
-    let fits_rest : FitsSigned w64 rest = it.1 in
-    let fits_sum : FitsSigned w64 ((factor *ℤ value) +ℤ rest) = it.2 in
-    let either : IsGreatestOf (λ number. (c.loop-end.greatest ≡ Some number) ⊎ (Some ((factor *ℤ value) +ℤ rest) ≡ Some number)) c.greater-greatest.result = simp to_z-of_z at c.greater-greatest.ensures in
+    let either : IsGreatestOf (λ number. (c.loop-end.greatest ≡ Some number) ⊎ (Some ((factor *ℤ value) +ℤ rest) ≡ Some number)) c.greater-greatest.result =
+    subst (λ total. IsGreatestOf (λ number. (c.loop-end.greatest ≡ Some number) ⊎ (Some total ≡ Some number)) c.greater-greatest.result) (sum_read factor value (search rules) (search rules) it.0 rest it.1 it.2) c.greater-greatest.ensures in
     found_more c.args.known.now.lines.now c.args.known.now.scores.now c.in-Some-Some.argument.now c.in-Some-Some.others.now factor c.in-Some-Some.factors.now c.args.from c.args.to (laid t begun) end end_fits (sound t begun) value rest (λ entry. c.in-Some-argument_value.ensures entry) c.in-Some-greatest_total.ensures c.loop-end.greatest c.greater-greatest.result c.loop-end.invariant either
 
 pub loop-end-preserved-in_default-argument_value : goal.loop-end-preserved-in_default-argument_value
@@ -242,9 +233,7 @@ overflow_mul-result t c =
     let value = c.token_value.result in
     let rest = c.in_ok-rest.rest in
     let it = fitting t begun c.in_ok-end.end (end_there t at).1 value (λ entry. value_is t behind) rest (rest_is t behind).0 in
-    let fits_factor : FitsSigned w64 factor = search rules in
-    let fits_value : FitsSigned w64 value = search rules in
-    simp to_z-of_z it.0
+    product_fits factor value (search rules) (search rules) it.0
 
 pub overflow_add-result : goal.overflow_add-result
 overflow_add-result t c =
@@ -255,11 +244,7 @@ overflow_add-result t c =
     let value = c.token_value.result in
     let rest = c.in_ok-rest.rest in
     let it = fitting t begun c.in_ok-end.end (end_there t at).1 value (λ entry. value_is t behind) rest (rest_is t behind).0 in
-    let fits_factor : FitsSigned w64 factor = search rules in
-    let fits_value : FitsSigned w64 value = search rules in
-    let fits_product : FitsSigned w64 (factor *ℤ value) = it.0 in
-    let fits_rest : FitsSigned w64 rest = it.1 in
-    simp to_z-of_z it.2
+    sum_fits factor value (search rules) (search rules) it.0 rest it.1 it.2
 
 pub returns-then-is_fixed : goal.returns-then-is_fixed
 returns-then-is_fixed t c =
@@ -270,13 +255,10 @@ returns-then-is_fixed t c =
     let value = c.token_value.result in
     let rest = c.in_ok-rest.rest in
     let it = fitting t begun c.in_ok-end.end (end_there t at).1 value (λ entry. value_is t behind) rest (rest_is t behind).0 in
-    let fits_factor : FitsSigned w64 factor = search rules in
-    let fits_value : FitsSigned w64 value = search rules in
-    let fits_product : FitsSigned w64 (factor *ℤ value) = it.0 in
-    let fits_rest : FitsSigned w64 rest = it.1 in
-    let fits_sum : FitsSigned w64 ((factor *ℤ value) +ℤ rest) = it.2 in
     let found = greatest_from c.args.known.now.lines.now c.in-Some-Some.argument.now c.in-Some-Some.others.now c.args.from c.args.to c.in_ok-end.end (end_there t at).1 (only_end t at) (HasBestScore c.args.known.now.lines.now) factor c.in-Some-Some.factors.now (sound t begun).one value rest (value_is t behind) (rest_is t behind) in
-    simp to_z-of_z (of_all t begun (Some ((factor *ℤ value) +ℤ rest)) found)
+    let p = c.args.known.now.lines.now in
+    subst (λ total. IsGreatestOf (HasTotal p (HasBestScore p) c.args.arguments.now c.args.factors.now c.args.from c.args.to) (Some total)) (sym (sum_read factor value (search rules) (search rules) it.0 rest it.1 it.2))
+    (of_all t begun (Some ((factor *ℤ value) +ℤ rest)) found)
 
 -- ---- the last argument
 
@@ -298,8 +280,9 @@ laid_alone t c none =
 pub last_total-requires-clause-weighted : goal.last_total-requires-clause-weighted
 last_total-requires-clause-weighted t c =
     let it = laid_alone t (goal.at.last_total-requires-clause-weighted t c).After-answer_is_unique (search rules) in
-    let fits_factor : FitsSigned w64 c.in-Some-Some.factor.now = search rules in
-    simp to_z-of_z it.weighted
+    let p = c.args.known.now.lines.now in
+    let argument = c.in-Some-Some.argument.now in
+    subst (λ factor. AreWeighted p (argument ∷ []) (factor ∷ [])) (sym (to_z-of_z w64 c.in-Some-Some.factor.now (search rules))) it.weighted
 
 pub last_total-requires-clause-scored : goal.last_total-requires-clause-scored
 last_total-requires-clause-scored t c = (laid_alone t (goal.at.last_total-requires-clause-scored t c).After-answer_is_unique (search rules)).scored
@@ -307,8 +290,9 @@ last_total-requires-clause-scored t c = (laid_alone t (goal.at.last_total-requir
 pub last_total-requires-clause-low : goal.last_total-requires-clause-low
 last_total-requires-clause-low t c =
     let it = laid_alone t (goal.at.last_total-requires-clause-low t c).After-answer_is_unique (search rules) in
-    let fits_factor : FitsSigned w64 c.in-Some-Some.factor.now = search rules in
-    simp to_z-of_z it.low
+    let p = c.args.known.now.lines.now in
+    let argument = c.in-Some-Some.argument.now in
+    subst (λ factor. AreLow p (argument ∷ []) (factor ∷ []) c.args.from c.args.to) (sym (to_z-of_z w64 c.in-Some-Some.factor.now (search rules))) it.low
 
 pub returns-then-is_empty : goal.returns-then-is_empty
 returns-then-is_empty t c =
@@ -317,8 +301,49 @@ returns-then-is_empty t c =
     let p = c.args.known.now.lines.now in
     let argument = c.in-Some-Some.argument.now in
     let factor = c.in-Some-Some.factor.now in
-    let fits_factor : FitsSigned w64 factor = search rules in
-    let found : IsGreatestOf (HasTotal p (HasBestScore p) (argument ∷ []) (factor ∷ []) c.args.from c.args.to) c.last_total.result = simp to_z-of_z at c.last_total.ensures in
+    let found = subst (λ factor. IsGreatestOf (HasTotal p (HasBestScore p) (argument ∷ []) (factor ∷ []) c.args.from c.args.to) c.last_total.result) (to_z-of_z w64 factor (search rules)) c.last_total.ensures in
     of_all t begun c.last_total.result
     (subst (λ others. IsGreatestOf (HasTotal p (HasBestScore p) (argument ∷ others) (factor ∷ c.in-Some-Some.factors.now) c.args.from c.args.to) c.last_total.result) (sym it.0)
     (subst (λ factors. IsGreatestOf (HasTotal p (HasBestScore p) (argument ∷ []) (factor ∷ factors) c.args.from c.args.to) c.last_total.result) (sym it.1) found))
+
+pub greatest_along-requires-clause-same_problem : goal.greatest_along-requires-clause-same_problem
+greatest_along-requires-clause-same_problem t c = c.requires.same_problem
+
+pub greatest_along-requires-clause-weighted : goal.greatest_along-requires-clause-weighted
+greatest_along-requires-clause-weighted t c = c.requires.weighted
+
+pub greatest_along-requires-clause-span : goal.greatest_along-requires-clause-span
+greatest_along-requires-clause-span t c = c.requires.span
+
+pub greatest_along-requires-clause-scored : goal.greatest_along-requires-clause-scored
+greatest_along-requires-clause-scored t c = c.requires.scored
+
+pub greatest_along-requires-clause-low : goal.greatest_along-requires-clause-low
+greatest_along-requires-clause-low t c = c.requires.low
+
+pub last_total-requires-clause-same_problem : goal.last_total-requires-clause-same_problem
+last_total-requires-clause-same_problem t c = c.requires.same_problem
+
+pub last_total-requires-clause-span : goal.last_total-requires-clause-span
+last_total-requires-clause-span t c = c.requires.span
+
+pub argument_value-requires-clause-same_problem : goal.argument_value-requires-clause-same_problem
+argument_value-requires-clause-same_problem t c = c.requires.same_problem
+
+pub ends_of_first-positions-requires-clause-span : goal.ends_of_first-positions-requires-clause-span
+ends_of_first-positions-requires-clause-span t c = c.requires.span
+
+pub token_end-requires-clause-span : goal.token_end-requires-clause-span
+token_end-requires-clause-span t c = c.requires.span
+
+pub returns-in-Some : goal.returns-in-Some
+returns-in-Some t c = c.greatest_along.ensures
+
+pub argument_value-requires-clause-known : goal.argument_value-requires-clause-known
+argument_value-requires-clause-known t c = (laid t (goal.at.argument_value-requires-clause-known t c).After-answer_is_unique).weighted.known.0
+
+pub token_end-requires-clause-known : goal.token_end-requires-clause-known
+token_end-requires-clause-known t c = (laid t (goal.at.token_end-requires-clause-known t c).After-answer_is_unique).weighted.known.0
+
+pub token_value-requires-clause-known : goal.token_value-requires-clause-known
+token_value-requires-clause-known t c = (laid t (goal.at.token_value-requires-clause-known t c).After-answer_is_unique).weighted.known.0
