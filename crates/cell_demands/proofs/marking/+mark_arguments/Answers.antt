@@ -259,3 +259,50 @@ returns-then-is_empty t c =
       laid = subst (λ xs. IsTrue c.mark_last.result ↔ Cover p xs c.args.from c.args.to) (sym one) c.mark_last.ensures.laid;
       marked = subst (λ xs. AreMarkedFrom c.args.begin c.args.marks.now c.mark_last.new.marks (Demands p xs c.args.from c.args.to)) (sym one) c.mark_last.ensures.marked;
     }
+
+pub mark_last-requires-clause-same_problem : goal.mark_last-requires-clause-same_problem
+mark_last-requires-clause-same_problem t c = c.requires.same_problem
+
+pub mark_last-requires-clause-span : goal.mark_last-requires-clause-span
+mark_last-requires-clause-span t c = c.requires.span
+
+pub mark_line-requires-clause-begin : goal.mark_line-requires-clause-begin
+mark_line-requires-clause-begin t c = c.requires.begin
+
+pub mark_line-requires-clause-counted : goal.mark_line-requires-clause-counted
+mark_line-requires-clause-counted t c = c.requires.counted
+
+pub mark_line-requires-clause-known : goal.mark_line-requires-clause-known
+mark_line-requires-clause-known t c = c.requires.known
+
+pub mark_line-requires-clause-same_problem : goal.mark_line-requires-clause-same_problem
+mark_line-requires-clause-same_problem t c = c.requires.same_problem
+
+pub mark_line-requires-clause-span : goal.mark_line-requires-clause-span
+mark_line-requires-clause-span t c = c.requires.span
+
+pub ends_of_first-ends-requires-clause-few : goal.ends_of_first-ends-requires-clause-few
+ends_of_first-ends-requires-clause-few t c = c.requires.few
+
+pub ends_of_first-ends-requires-clause-known : goal.ends_of_first-ends-requires-clause-known
+ends_of_first-ends-requires-clause-known t c = c.requires.known
+
+pub ends_of_first-ends-requires-clause-span : goal.ends_of_first-ends-requires-clause-span
+ends_of_first-ends-requires-clause-span t c = c.requires.span
+
+pub token_end-requires-clause-span : goal.token_end-requires-clause-span
+token_end-requires-clause-span t c = c.requires.span
+
+pub returns-in-Some-line_here-clause-laid : goal.returns-in-Some-line_here-clause-laid
+returns-in-Some-line_here-clause-laid t c = c.mark_line.ensures.laid
+
+pub returns-in-Some-line_here-clause-marked : goal.returns-in-Some-line_here-clause-marked
+returns-in-Some-line_here-clause-marked t c = c.mark_line.ensures.marked
+
+pub mark_last-requires-clause-known : goal.mark_last-requires-clause-known
+mark_last-requires-clause-known t c =
+    (subst (λ (arguments : List Arg). AllByRecursion (IsKnown c.args.lines.now.grammar) arguments) c.in-Some.ensures.cases.0 c.requires.known).0
+
+pub token_end-requires-clause-known : goal.token_end-requires-clause-known
+token_end-requires-clause-known t c =
+    (subst (λ (arguments : List Arg). AllByRecursion (IsKnown c.args.lines.now.grammar) arguments) c.in-Some.ensures.cases.0 c.requires.known).0
