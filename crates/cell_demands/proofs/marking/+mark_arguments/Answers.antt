@@ -12,7 +12,7 @@ use Rattle.viable_splits.specs.Placing.{Cover}
 use Rattle.split_lines.specs.Laid.{Demands, IsCellOf}
 use Rattle.split_lines.specs.Lines.{IsLine}
 use Rattle.cell_tables.specs.Marks.{CellMarks, AreMarkedFrom}
-use Rattle.cell_demands.proofs.MarkSteps.{marked_in_rows}
+use Rattle.cell_demands.proofs.MarkSteps.{marked_in_rows, none_marked}
 use Rattle.cell_demands.proofs.LineDemands.{CoversBelow, DemandsBelow, marked_none, marked_some, covers_none, all_covered, all_marked}
 use Rattle.split_lines.specs.Ends.{IsEndTold}
 use Rattle.cell_demands.proofs.OneEnds.{none_ends, one_ends, cover_nowhere, cover_from, marked_nowhere, marked_behind, empty_without}
@@ -306,3 +306,17 @@ mark_last-requires-clause-known t c =
 pub token_end-requires-clause-known : goal.token_end-requires-clause-known
 token_end-requires-clause-known t c =
     (subst (λ (arguments : List Arg). AllByRecursion (IsKnown c.args.lines.now.grammar) arguments) c.in-Some.ensures.cases.0 c.requires.known).0
+
+pub loop-end-init : goal.loop-end-init
+loop-end-init t c =
+    let low = c.ends_of_first-ends.result.start in
+    record {
+      laid = (λ yes. absurd (false≢true yes), λ (end, l, m, fits, rest). absurd (omega (arith, l, m)));
+      marked = none_marked c.args.begin c.args.marks.now (DemandsBelow c.args.lines.now c.in-Some.argument.now c.in-Some.others.now c.args.from c.args.to low low) (λ cell (end, l, m, fits, rest). absurd (omega (arith, l, m)));
+    }
+
+pub returns-in_default-clause-marked : goal.returns-in_default-clause-marked
+returns-in_default-clause-marked t c =
+    let p = c.args.lines.now in
+    subst (λ xs. AreMarkedFrom c.args.begin c.args.marks.now c.args.marks.now (Demands p xs c.args.from c.args.to)) (sym (empty_without c.args.arguments.now c.in_default.ensures.cases))
+    (none_marked c.args.begin c.args.marks.now (Demands p [] c.args.from c.args.to) (λ cell demands. demands))

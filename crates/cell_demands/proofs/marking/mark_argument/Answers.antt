@@ -1,9 +1,10 @@
-use Rattle.std.proofs.Common.{◌≡◌, ◌⊎◌, ℕ, refl, sym, subst, inl, inr, ◌∙◌}
+use Rattle.std.proofs.Common.{◌≡◌, ℕ, refl, sym, subst, inl, inr, ◌∙◌}
 use Rattle.adp_model.specs.declared.grammar.Arg.{Arg}
 use Rattle.adp_model.specs.declared.grammar.Arg.TheVariants.{Rule}
 use Rattle.adp_model.specs.declared.cell.Cell.{Cell}
 use Rattle.split_lines.specs.Laid.{IsCellOf}
 use Rattle.cell_tables.specs.Marks.{CellMarks, AreMarkedToo}
+use Rattle.cell_demands.proofs.MarkSteps.{too_none}
 use Rattle.cell_demands.proofs.marking.mark_argument.Goals as goal
 
 pub mark-requires : goal.mark-requires
@@ -38,3 +39,8 @@ returns-in-Rule-clause-marked c =
 pub returns-in-Rule-clause-in_row : goal.returns-in-Rule-clause-in_row
 returns-in-Rule-clause-in_row c = λ cell it.
     c.mark.ensures.in_row cell (one_cell c.args.argument.now c.in-Rule.rule c.args.from c.args.to c.in-Rule.is cell it)
+
+pub returns-in_default : goal.returns-in_default
+returns-in_default c =
+    let none : (cell : Cell) → IsCellOf c.args.argument.now c.args.from c.args.to cell → ⊥ = λ cell it. c.in_default.not-Rule cell.rule it.rule in
+    record { marked = too_none c.args.marks.now (IsCellOf c.args.argument.now c.args.from c.args.to) none; in_row = λ cell it. absurd (none cell it) }
