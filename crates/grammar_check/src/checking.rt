@@ -1,7 +1,7 @@
 ghost use Rattle.std.specs.Prelude.{◌≡◌, ℕ, ◌<◌, IfOk, IsTrue, MatchOption, length};
 ghost use Rattle.adp_model.specs.GrammarFaults.{IsNamed, IsFirstFaulty, HasMonotoneTerm, HasOtherTerm};
 ghost use Rattle.adp_model.specs.WellFormed.{is_well_formed};
-ghost use Rattle.grammar_check.specs.CheckAnswers.{IsFirstFalse, IsFaultOf, MatchCheck};
+ghost use Rattle.grammar_check.specs.CheckAnswers.{IsFirstFalse, IsFirstUnproductive, IsRefusal, MatchFaultless, MatchFindings, MatchCheck};
 
 use crate::checked::Checked;
 use crate::error::CheckError;
@@ -10,7 +10,7 @@ use adp_model::laws::well_formed::{numbers_fit_together, terms_fit_their_signs};
 use adp_model::{Grammar, GrammarFault, Sequence, Text};
 use algebra_terms::monotone;
 use std::alloc::{AllocError, Global};
-use yield_sizes::{anchors, first_loop, productive, ranks, sizes};
+use yield_sizes::{Anchors, Sizes, anchors, first_loop, productive, ranks, sizes};
 
 /// The number of the algebra with this name.
 fn algebra_named(grammar: &Grammar, name: &Text) -> Option<u32>
@@ -60,12 +60,66 @@ fn first_other_term(grammar: &Grammar, algebra: u32) -> Option<usize>
     None
 }
 
-/// A fault that carries a copy of the name.
-fn fault(alloc: Global, kind: u8, name: &Text) -> Result<GrammarFault, AllocError>
-    ensures { IfOk result (IsFaultOf kind name.now) }
+/// A refusal that carries a copy of the name.
+fn refusal(alloc: Global, kind: u8, name: &Text) -> CheckError
+    ensures { IsRefusal kind name.now result }
 {
-    let name = Text::new(Vec::from_slice(alloc, name.bytes())?);
-    Ok(GrammarFault { kind, name })
+    match Vec::from_slice(alloc, name.bytes()) {
+        Err(_) => CheckError::Memory,
+        Ok(bytes) => CheckError::Fault(GrammarFault {
+            kind,
+            name: Text::new(bytes),
+        }),
+    }
+}
+
+/// The first rule that is not productive.
+fn first_unproductive(alloc: Global, grammar: &Grammar) -> Result<Option<usize>, AllocError>
+    requires { IsTrue (is_well_formed grammar.now) }
+    ensures { IfOk result (IsFirstUnproductive grammar.now) }
+{
+    let flags = productive(alloc, grammar)?;
+    Ok(first_false(&flags))
+}
+
+/// The number of the algebra of this name and the sizes of the rules, where the grammar has no fault under it.
+fn faultless(alloc: Global, grammar: &Grammar, algebra: &Text) -> Result<(u32, Sizes), CheckError>
+    requires { IsTrue (is_well_formed grammar.now) }
+    ensures { MatchFaultless grammar.now algebra.now result }
+{
+    numbers_fit_together();
+    let Some(number) = algebra_named(grammar, algebra) else {
+        return Err(refusal(alloc, 1, algebra));
+    };
+    if let Some(rule) = first_unproductive(alloc, grammar)? {
+        let name = &grammar.rules.as_slice()[rule].name;
+        return Err(refusal(alloc, 2, name));
+    }
+    let sizes = sizes(alloc, grammar)?;
+    if let Some(rule) = first_loop(alloc, grammar, &sizes)? {
+        let name = &grammar.rules.as_slice()[rule as usize].name;
+        return Err(refusal(alloc, 3, name));
+    }
+    if let Some(sign) = first_other_term(grammar, number) {
+        let name = &grammar.signs.as_slice()[sign].name;
+        return Err(refusal(alloc, 4, name));
+    }
+    Ok((number, sizes))
+}
+
+/// What a checked grammar keeps: the number of the algebra, sizes, ranks and anchors.
+fn findings(
+    alloc: Global,
+    grammar: &Grammar,
+    algebra: &Text,
+) -> Result<(u32, Sizes, Sequence<u32>, Anchors), CheckError>
+    requires { IsTrue (is_well_formed grammar.now) }
+    ensures { MatchFindings grammar.now algebra.now result }
+{
+    let (number, sizes) = faultless(alloc, grammar, algebra)?;
+    let ranks = Sequence::new(ranks(alloc, grammar, &sizes)?);
+    let anchors = anchors(alloc, grammar, &sizes)?;
+    Ok((number, sizes, ranks, anchors))
 }
 
 /// Checks a grammar under its algebra of this name. A refusal is the first that holds: no algebra has the name; a rule
@@ -75,27 +129,8 @@ pub fn check(alloc: Global, grammar: Grammar, algebra: &Text) -> Result<Checked,
     requires { IsTrue (is_well_formed grammar) }
     ensures { MatchCheck grammar algebra.now result }
 {
-    numbers_fit_together();
     monotone_terms_keep_order();
-    let Some(number) = algebra_named(&grammar, algebra) else {
-        return Err(CheckError::Fault(fault(alloc, 1, algebra)?));
-    };
-    let flags = productive(alloc, &grammar)?;
-    if let Some(rule) = first_false(&flags) {
-        let name = &grammar.rules.as_slice()[rule].name;
-        return Err(CheckError::Fault(fault(alloc, 2, name)?));
-    }
-    let sizes = sizes(alloc, &grammar)?;
-    if let Some(rule) = first_loop(alloc, &grammar, &sizes)? {
-        let name = &grammar.rules.as_slice()[rule as usize].name;
-        return Err(CheckError::Fault(fault(alloc, 3, name)?));
-    }
-    if let Some(sign) = first_other_term(&grammar, number) {
-        let name = &grammar.signs.as_slice()[sign].name;
-        return Err(CheckError::Fault(fault(alloc, 4, name)?));
-    }
-    let ranks = Sequence::new(ranks(alloc, &grammar, &sizes)?);
-    let anchors = anchors(alloc, &grammar, &sizes)?;
+    let (number, sizes, ranks, anchors) = findings(alloc, &grammar, algebra)?;
     Ok(Checked {
         grammar,
         algebra: number,
