@@ -1,5 +1,5 @@
 -- The plan of a rule with one alternative more, and the plans of a grammar.
-use Rattle.std.proofs.Common.{◌≡◌, ◌≢◌, ℕ, zero, suc, ◌+◌, ◌-◌, ◌*◌, ◌^◌, ◌<◌, ◌≤◌, min, max, Bool, true, false, ◌&&◌, nat_le, ◌⊎◌, inl, inr, List, [], ◌∷◌, ◌++◌, length, map, slice_index, slice_index_or, slice_set, refl, sym, ap, ap₂, subst, ◌∙◌, arith}
+use Rattle.std.proofs.Common.{◌≡◌, ◌≢◌, ℕ, zero, suc, ◌+◌, ◌-◌, ◌*◌, ◌^◌, ◌<◌, ◌≤◌, min, max, Bool, true, false, ◌&&◌, nat_le, ◌⊎◌, inl, inr, List, [], ◌∷◌, ◌++◌, length, map, slice_index_or, slice_set, refl, sym, ap, ap₂, subst, ◌∙◌, arith}
 use Rattle.std.specs.Prelude.{if◌then◌else◌}
 use Rattle.std.specs.List.{All}
 use Rattle.std.proofs.lemmas.List.{map-append, map-set, get_or-map, get_or_append_left, get_or_push, get_or_default, length-map, length_push, length-set, get_or-set_other, get_or-set_same}
@@ -7,7 +7,6 @@ use Rattle.adp_model.specs.LimitFaults.{told}
 use Rattle.adp_model.specs.declared.grammar.Rule as rules
 use Rattle.adp_model.specs.declared.grammar.Grammar.{Grammar}
 use Rattle.grammar_check.specs.declared.part.Part.{Part}
-use Rattle.grammar_check.specs.declared.part.Worth.{Worth}
 use Rattle.grammar_check.specs.declared.part.Worth.TheVariants.{OfLetters}
 use Rattle.grammar_check.specs.declared.alternative.Alternative.{Alternative}
 use Rattle.grammar_check.specs.declared.rule_plan.RulePlan.{RulePlan}
@@ -18,8 +17,7 @@ use Rattle.grammar_check.specs.RuleValues.{rule_value, kept_of, plan_of, kept_va
 use Rattle.grammar_check.specs.GrammarPlans.{Lengths, entry_in, grammar_plan}
 use Rattle.grammar_check.specs.Fills.{IsRuleReadable, rules_plan, plan_at, parts_at, kept_at, kept_entry, IsPlanned, IsKept, NamesLesser, IsRanked, IsKeptRanked}
 use Rattle.grammar_check.specs.TokenNumbers.{greatest_of, letters_worth, token_number, alternative_tokens, tokens_number}
-use Rattle.grammar_check.specs.KeptPlans.{KeepsParts, SameParts, AddsKept, KeepsPlan, Keeps, KeepsAll, rule_tokens}
-use Rattle.grammar_check.proofs.CutNumbers.{told-max}
+use Rattle.grammar_check.specs.KeptPlans.{KeepsParts, SameParts, AddsKept, KeepsPlan, KeepsAll, rule_tokens}
 use Rattle.grammar_check.proofs.Kept.{less_or_not, kept_value-is, kept_value-max, lows-open, open_found}
 use Rattle.grammar_check.proofs.Sweeps.{low_at}
 use Rattle.grammar_check.proofs.ScoreNumbers.{of_above}

@@ -1,6 +1,6 @@
 -- The plans of a checked grammar: bounds are their values, and what they need of rules of the same length has a lesser
 -- rank.
-use Rattle.std.proofs.Common.{◌≡◌, ℕ, ◌+◌, ◌<◌, ◌≤◌, Option, Some, None, List, length, slice_index_or, subst, arith, ◌↔◌}
+use Rattle.std.proofs.Common.{ℕ, ◌+◌, ◌<◌, ◌≤◌, Option, Some, None, List, length, slice_index_or, subst, arith, ◌↔◌}
 use Rattle.std.specs.List.{All, AllByRecursion, Contains}
 use Rattle.adp_model.specs.declared.grammar.Arg.{Arg}
 use Rattle.adp_model.specs.declared.grammar.Arg.TheVariants.{Rule, Literal, Letter, Run}

@@ -1,6 +1,5 @@
 -- What the checks of a grammar answer.
 use Rattle.std.specs.Prelude.{◌≡◌, ℕ, ◌<◌, Bool, true, false, Option, Some, None, Result, Ok, Err, List, length, slice_index_or}
-use Rattle.adp_model.specs.declared.fault.GrammarFault.{GrammarFault}
 use Rattle.adp_model.specs.declared.grammar.Grammar.{Grammar}
 use Rattle.adp_model.specs.Lengths.{IsProductive}
 use Rattle.adp_model.specs.GrammarFaults.{IsFirstFaulty, IsUnproductive, IsFaultless, IsGrammarFault}

@@ -1,5 +1,4 @@
 use Rattle.std.proofs.Common.{◌≡◌, ℕ, ◌+◌, [], length, map, slice_index_or, ap, sym, subst, ◌∙◌, arith}
-use Rattle.std.specs.List.{All}
 use Rattle.std.proofs.lemmas.List.{get_or-map, length_push}
 use Rattle.std.proofs.lemmas.List.Elements.{All-push}
 use Rattle.adp_model.specs.declared.grammar.Rule as rules
@@ -36,3 +35,12 @@ loop-rule-preserved c =
           (subst (λ p. Keeps p new) (sym (ap (λ n. plan_at (grammar_plan c.args.grammar.now c.args.measure lengths) n) c.loop-rule.invariant.each ∙ here)) c.in_ok-rule_plan.ensures.plan);
       columns = All-push (IsRuleWide (c.args.most + 1)) old new c.loop-rule.invariant.columns c.in_ok-rule_plan.ensures.columns;
     })
+
+pub returns-clause-plan : goal.returns-clause-plan
+returns-clause-plan c = record {
+  each = omega (arith, c.loop-rule.invariant.each, c.loop-rule.auto, c.loop-rule-test.false, ap length c.as_slice-rule-items.ensures);
+  keeps = c.loop-rule.invariant.keeps;
+}
+
+pub returns-clause-columns : goal.returns-clause-columns
+returns-clause-columns c = c.loop-rule.invariant.columns

@@ -1,5 +1,5 @@
-use Rattle.std.proofs.Common.{◌≡◌, ℕ, ◌+◌, ◌≤◌, List, [], ◌∷◌, ◌++◌, length, map, take, slice_index_or, ap, ap₂, sym, subst, ◌∙◌, arith}
-use Rattle.std.proofs.lemmas.List.{take_more, map-append}
+use Rattle.std.proofs.Common.{◌≡◌, ℕ, ◌+◌, ◌≤◌, List, [], ◌∷◌, ◌++◌, length, map, take, slice_index_or, ap, sym, subst, ◌∙◌, arith}
+use Rattle.std.proofs.lemmas.List.{take_all, take_more, map-append}
 use Rattle.adp_model.specs.declared.grammar.Alt.{Alt}
 use Rattle.grammar_check.specs.declared.part.Part.{Part}
 use Rattle.grammar_check.specs.GrammarPlans.{parts_in, entry_in, lengths_of}
@@ -33,3 +33,14 @@ loop-alternative-preserved c =
           (c.in_ok-add.ensures.keeps (map (entry_in c.args.grammar.now c.args.measure lengths) (take c.loop-alternative.alternative-index c.args.alternatives.now)) c.loop-alternative.invariant.plan);
       columns = c.in_ok-add.ensures.columns c.loop-alternative.invariant.columns;
     }
+
+pub loop-alternative-init : goal.loop-alternative-init
+loop-alternative-init c = record { plan = c.new-plan.ensures.keeps; columns = c.new-plan.ensures.columns (c.args.most + 1) }
+
+pub returns-clause-plan : goal.returns-clause-plan
+returns-clause-plan c =
+    subst (λ as'. Keeps (map (entry_in c.args.grammar.now c.args.measure (lengths_of c.args.sizes.now c.args.most)) as') c.loop-alternative.plan)
+    (take_all c.loop-alternative.alternative-index c.args.alternatives.now c.loop-alternative-test.false) c.loop-alternative.invariant.plan
+
+pub returns-clause-columns : goal.returns-clause-columns
+returns-clause-columns c = c.loop-alternative.invariant.columns

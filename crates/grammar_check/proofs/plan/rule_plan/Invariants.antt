@@ -1,4 +1,4 @@
-use Rattle.std.proofs.Common.{◌≡◌, ◌+◌, map, take}
+use Rattle.std.proofs.Common.{◌+◌, map, take}
 use Rattle.grammar_check.specs.Fills.{IsRuleWide}
 use Rattle.grammar_check.specs.GrammarPlans.{entry_in, lengths_of}
 use Rattle.grammar_check.specs.KeptPlans.{Keeps}

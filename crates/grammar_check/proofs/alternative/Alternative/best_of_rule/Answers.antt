@@ -1,10 +1,30 @@
-use Rattle.std.proofs.Common.{◌≡◌, ◌+◌, ◌-◌, ◌<◌, ◌≤◌, length, drop, slice_index, refl, ◌∙◌, sym, subst, arith}
+use Rattle.std.proofs.Common.{◌≡◌, ℕ, ◌+◌, ◌-◌, ◌<◌, ◌≤◌, List, length, drop, slice_index, slice_index_or, refl, ◌∙◌, sym, ap, subst, arith}
 use Rattle.std.proofs.lemmas.List.{get_or_read}
 use Rattle.adp_model.specs.LimitFaults.{told}
 use Rattle.grammar_check.specs.declared.part.Worth.TheVariants.{OfLetters}
+use Rattle.grammar_check.specs.declared.part.Part.{Part}
 use Rattle.grammar_check.specs.Plans.{worth_of, spread, part_at}
 use Rattle.grammar_check.proofs.Spreads.{added_by, best_step, best_done}
 use Rattle.grammar_check.proofs.alternative.Alternative.best_of_rule.Goals as goal
+
+low_is : (parts : List Part) (place : ℕ) (part : Part) → place < length parts → part ≡ slice_index_or parts place part → part.low ≡ (part_at parts place).low
+low_is parts place part inside is = ap (λ p. p.low) (get_or_read parts place part inside is (record { worth = OfLetters 0 0; low = 0; room = 0 }))
+
+pub overflow_add-part : goal.overflow_add-part
+overflow_add-part c =
+    let lows = low_is c.args.self.now.parts.items c.args.place c.index-part.result.now (omega (arith, c.args.self.now.parts.ok.0, c.requires.place)) c.index-part.ensures in
+    omega (arith, lows, c.loop-more-test.true, c.min-last.ensures, c.requires.within)
+
+pub bounds-own-part : goal.bounds-own-part
+bounds-own-part c =
+    let lows = low_is c.args.self.now.parts.items c.args.place c.index-part.result.now (omega (arith, c.args.self.now.parts.ok.0, c.requires.place)) c.index-part.ensures in
+    omega (arith, lows, c.loop-more-test.true, c.min-last.ensures, c.requires.within)
+
+pub row-others-requires : goal.row-others-requires
+row-others-requires c = omega (arith, c.requires.place)
+
+pub bounds-others-spare : goal.bounds-others-spare
+bounds-others-spare c = omega (arith, c.row-others.ensures.width, c.requires.column)
 
 pub loop-more-preserved : goal.loop-more-preserved
 loop-more-preserved c = record {

@@ -1,10 +1,11 @@
-use Rattle.std.proofs.Common.{◌≡◌, ℕ, ◌+◌, ◌-◌, ◌^◌, min, List, [], ◌∷◌, ◌++◌, length, Result, Ok, Err, OnOk, sym, ap, ap₂, subst, ◌∙◌, arith}
+use Rattle.std.proofs.Common.{◌≡◌, ℕ, ◌+◌, ◌-◌, ◌^◌, min, List, length, Result, Ok, Err, OnOk, sym, ap, subst, ◌∙◌, arith}
+use Rattle.std.specs.List.{All}
 use Rattle.adp_model.specs.LimitFaults.{told}
 use Rattle.grammar_check.specs.declared.part.Part.{Part}
 use Rattle.grammar_check.specs.Plans.{open_parts, fixed_length, fixed_worth}
-use Rattle.grammar_check.specs.RuleValues.{plan_of}
+use Rattle.grammar_check.specs.RuleValues.{IsWide, plan_of}
 use Rattle.grammar_check.specs.TokenNumbers.{greatest_of, token_number}
-use Rattle.grammar_check.specs.KeptPlans.{AddsKept, Keeps}
+use Rattle.grammar_check.specs.KeptPlans.{AddsKept}
 use Rattle.grammar_check.proofs.Kept.{length-open}
 use Rattle.grammar_check.proofs.KeptPlanSteps.{keeps_more}
 use Rattle.grammar_check.proofs.rule_plan.RulePlan.add.Goals as goal
@@ -36,3 +37,9 @@ returns-clause-keeps c =
     (λ i. (summed c.cut_sum-constant.result c.args.constant c.fixed_worth.result (fixed_worth parts) c.cut_sum-constant.ensures c.fixed_worth.ensures i, c.fixed_length.ensures i, c.in_ok-open.ensures i)) adds))
     (λ len. ap (λ v. greatest_of (token_number len) v.items) c.add_kept.ensures.tokens ∙ c.in_ok-add_tokens.ensures.tokens len))
     c.add_kept.ensures.kept
+
+pub returns-clause-columns : goal.returns-clause-columns
+returns-clause-columns c =
+    on_ok c.add_kept.result
+    (λ more wide. more (subst (λ v. All (IsWide (c.args.most + 1)) v.items) (sym c.add_tokens.ensures.alternatives) wide))
+    c.add_kept.ensures.columns
