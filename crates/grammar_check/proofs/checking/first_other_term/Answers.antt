@@ -1,6 +1,6 @@
 use Rattle.std.proofs.Common.{◌≡◌, ℕ, ◌<◌, List, length, slice_index_or, pos, [], true, false, refl, sym, ap, subst, ◌∙◌, arith}
 use Rattle.std.proofs.lemmas.List.{get_or_read}
-use borrow.Author.Count.{below_more}
+use borrow.Author.Count.{below_none, below_more}
 use Rattle.adp_model.specs.declared.grammar.Algebra.{Algebra}
 use Rattle.adp_model.specs.declared.grammar.Goal.TheVariants.{Least}
 use Rattle.adp_model.specs.declared.grammar.Grammar.{Grammar}
@@ -26,6 +26,9 @@ both_read grammar algebra sign terms term signs found kinds each inside terms_ar
 
 alike : {term term' : Linear} {kinds kinds' : List Kind} → term ≡ term' → kinds ≡ kinds' → IsMonotone term kinds → IsMonotone term' kinds'
 alike {term' = term'} {kinds = kinds} terms_same kinds_same h = subst (IsMonotone term') kinds_same (subst (λ t. IsMonotone t kinds) terms_same h)
+
+pub loop-sign-init : goal.loop-sign-init
+loop-sign-init c = below_none (HasMonotoneTerm c.args.grammar.now c.args.algebra)
 
 pub bounds-terms-sign : goal.bounds-terms-sign
 bounds-terms-sign c =
