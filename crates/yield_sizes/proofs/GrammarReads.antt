@@ -1,9 +1,10 @@
 -- What the code's reads of a grammar and its comparisons of lengths are.
-use Rattle.std.proofs.Common.{◌≡◌, ℕ, ◌<◌, true, false, Option, Some, None, List, [], length, get_or, refl, sym, ap, ◌∙◌}
+use Rattle.std.proofs.Common.{◌≡◌, ℕ, ◌<◌, true, false, Option, Some, None, List, [], Vec, Global, length, get_or, refl, sym, ap, ◌∙◌}
 use Rattle.std.specs.Prelude.{◌==◌, is_some}
 use Rattle.std.specs.Option.{option_eq}
+use Rattle.std.specs.Vec.{with_items}
 use Rattle.std.proofs.lemmas.Bool.{eqb-true, eq-eqb, false≢true}
-use Rattle.std.proofs.lemmas.List.{get_or_default}
+use Rattle.std.proofs.lemmas.List.{get_or_default, with_items_is}
 use Rattle.adp_model.specs.declared.grammar.Rule as rules
 use Rattle.adp_model.specs.declared.grammar.Grammar.{Grammar}
 use Rattle.adp_model.specs.Parts.{alternatives_of}
@@ -37,3 +38,7 @@ some_is (Some n) e = (n, refl)
 pub not_none : (a : Option ℕ) → is_some a ≡ true → a ≡ None → ⊥
 not_none None e same = false≢true e
 not_none (Some n) e same = cc
+
+-- a vector whose items were written as a slice
+pub written_items : (known : Vec (Option ℕ) Global) (old new : List (Option ℕ)) → length new ≡ length old → old ≡ known.items → (with_items known new).items ≡ new
+written_items known old new long value = with_items_is known new (long ∙ ap length value ∙ sym known.ok.0)

@@ -16,7 +16,7 @@ use Rattle.adp_model.specs.Sizes.{greatest_kept, Names, Reaches, AtOnce, Through
 use Rattle.yield_sizes.specs.GrammarSizes.{AreAllProductive}
 use Rattle.yield_sizes.specs.KnownLengths.{added, greater, argument_greatest, arguments_greatest, rule_greatest, AreGreatestLengths, AreAllKnown, unknown_left}
 use Rattle.yield_sizes.proofs.Searching.{contains_here, contains_later}
-use Rattle.yield_sizes.proofs.LeastLengths.{InOrder, AllInOrder, in_order_later, CanHave, first_has, some_same, unknown}
+use Rattle.yield_sizes.proofs.LeastLengths.{InOrder, AllInOrder, in_order_later, CanHave, first_has, some_same, unknown, none_at}
 
 -- the number is the greatest of which it holds
 abbrev pub IsMost : (ℕ → Type 0) → ℕ → Type 0
@@ -363,6 +363,12 @@ greatest_found grammar known named lengths all rule l = go (get_or known rule No
     go (Some size) e = lengths.have rule size e
 
 -- ---- a round over the rules
+
+pub nothing_greatest : (grammar : Grammar) (count : ℕ) → count ≡ length grammar.rules → AreGreatestLengths grammar (replicate count unknown)
+nothing_greatest grammar count long = record {
+  each = length-replicate count unknown ∙ long;
+  have = λ rule size e. let nothing = none_at count rule in absurd (cc);
+}
 
 -- a round from the old lengths, past the first rules
 pub record IsExtension (grammar : Grammar) (old known : List (Option ℕ)) (count : ℕ) (found : Bool) : Type 0 where
