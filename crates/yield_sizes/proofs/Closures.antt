@@ -1,8 +1,8 @@
 -- The closure of a relation: rule by rule, the steps through that rule are joined.
-use Rattle.std.proofs.Common.{◌≡◌, ℕ, ◌+◌, ◌<◌, ◌≤◌, ◌⊎◌, inl, inr, Bool, false, ◌&&◌, ◌||◌, List, [], length, get_or, sym, ap, subst, ◌∙◌, arith}
+use Rattle.std.proofs.Common.{◌≡◌, ℕ, ◌+◌, ◌<◌, ◌≤◌, ◌⊎◌, inl, inr, Bool, false, ◌&&◌, ◌||◌, List, [], ◌∷◌, ◌++◌, length, get_or, map, take, sym, ap, subst, ◌∙◌, arith}
 use Rattle.std.specs.List.{zip}
 use Rattle.std.proofs.lemmas.Bool.{cases_eq, cases_lt, false≢true, and_parts, and_from, or_cases, or_left, or_right}
-use Rattle.std.proofs.lemmas.List.{get_or_past, get_or-map, length-map}
+use Rattle.std.proofs.lemmas.List.{get_or_default, get_or_past, get_or-map, length-map, map_more, take_all}
 use Rattle.std.proofs.lemmas.Slice.Zip.{get_or-zip, length-zip}
 use Rattle.yield_sizes.specs.Relations.{IsRelated, IsSquare, IsTableOf, Leads, AtOnce, Onward, row_through, rows_through}
 
@@ -134,3 +134,17 @@ closing_ends size old rows count closing whole = record {
         let later = all between to onward in
         let within = related_within size rows closing.square between to later in
         closing.joined from between to (omega (arith, within.0)) (closing.kept from between related) later
+
+-- ---- the rows of a step, one by one
+
+pub rows_more : (f : List Bool → List Bool) (rows : List (List Bool)) (i : ℕ) (new : List (List Bool)) (item row longer : List Bool) → new ≡ map f (take i rows) → i < length rows → item ≡ get_or rows i item → row ≡ item → longer ≡ f row → new ++ longer ∷ [] ≡ map f (take (i + 1) rows)
+rows_more f rows i new item row longer so_far l is read made =
+    ap (λ (it : List (List Bool)). it ++ longer ∷ []) so_far
+    ∙ ap (λ (it : List Bool). map f (take i rows) ++ it ∷ []) (made ∙ ap f (read ∙ is))
+    ∙ sym (map_more f rows i item l)
+
+pub rows_whole : (rows : List (List Bool)) (between i : ℕ) (new : List (List Bool)) (beyond item : List Bool) → between < length rows → beyond ≡ item → item ≡ get_or rows between item → new ≡ map (λ row. row_through row beyond between) (take i rows) → length rows ≤ i → new ≡ rows_through rows between
+rows_whole rows between i new beyond item inside read is so_far whole =
+    so_far
+    ∙ ap (map (λ row. row_through row beyond between)) (take_all i rows whole)
+    ∙ ap (λ (it : List Bool). map (λ row. row_through row it between) rows) (read ∙ is ∙ get_or_default rows between item [] inside)
