@@ -1,5 +1,5 @@
 -- The sweep that fills in the scores of the demanded cells, cell by cell, start by start, end by end and block by block.
-use Rattle.std.proofs.Common.{◌≡◌, ◌↔◌, ◌⊎◌, ℕ, ◌+◌, ◌<◌, ◌≤◌, ℤ, List, length, sym, ap, subst, inl, inr, ⊎_elim, ◌∙◌, arith}
+use Rattle.std.proofs.Common.{◌≡◌, ◌↔◌, ◌⊎◌, ℕ, ◌+◌, ◌-◌, ◌*◌, ◌/◌, ◌<◌, ◌≤◌, ℤ, List, length, sym, ap, subst, inl, inr, ⊎_elim, ◌∙◌, arith}
 use Rattle.std.specs.Prelude.{slice_index}
 use Rattle.std.proofs.lemmas.Bool.{cases_lt}
 use Rattle.std.proofs.lemmas.List.{get_or_read}
@@ -181,3 +181,18 @@ first_filled p first past cell counted (inl behind) = behind
 first_filled p first past cell counted (inr (low, high)) = absurd (omega (arith, counted.in_order))
 
 -- ---- the whole sweep
+
+-- no demanded cell begins behind the word
+pub none_from : (p : PosedProblem) (counted : (cell : Cell) → IsDemanded p cell → Counted p cell) (table : Table ℤ) (past : ℕ) → table.problem ≡ p → length p.word < past → AreFilled p table (IsFromStart past)
+none_from p counted table past problem behind = record {
+  problem = problem;
+  entries = λ cell demanded late. let is = counted cell demanded in absurd (omega (arith, is.in_order, is.in_word));
+}
+
+-- the first block of starts is the last one filled
+pub all_from : (p : PosedProblem) (table : Table ℤ) (block : ℕ) → block ≤ 0 → AreFilled p table (IsFromStart (block * 16)) → (cell : Cell) → IsDemanded p cell → HasEntry table cell
+all_from p table block none filled cell demanded = filled.entries cell demanded (omega arith)
+
+-- a block of a word, which has at most so many letters, ends within 16 bits
+pub block_end_fits : (len block : ℕ) → len ≤ 32767 → block ≤ len / 16 + 1 → (block - 1) * 16 + 16 < 65536
+block_end_fits len block few within = omega arith

@@ -1,9 +1,10 @@
 -- Rules by rising ranks: a cell demands, on its own span, only cells of rules that stand before its own.
-use Rattle.std.proofs.Common.{◌≡◌, ℕ, ◌<◌, List, length, ap, subst, inl, inr, arith}
+use Rattle.std.proofs.Common.{◌≡◌, ℕ, ◌+◌, ◌<◌, List, [], ◌∷◌, ◌++◌, length, sym, ap, subst, ◌∙◌, inl, inr, arith}
 use Rattle.std.specs.Prelude.{slice_index}
 use Rattle.std.specs.List.{Contains}
 use Rattle.std.specs.List.Sorted.{IsPermutation, IsNonDecreasingBy}
 use Rattle.std.proofs.lemmas.Bool.{cases_lt}
+use Rattle.std.proofs.lemmas.List.{get_or_append_left, get_or_push}
 use Rattle.std.proofs.lemmas.List.Elements.{Contains-get_or}
 use Rattle.std.proofs.lemmas.List.Sorted.{Contains-permutation}
 use Rattle.adp_model.specs.declared.cell.Cell.{Cell}
@@ -30,3 +31,14 @@ ranked_rules p ranks numbers rules count each as_many are permuted below sorted 
             ])
       ];
 }
+
+-- one more of the numbers
+pub number_pushed : (old new : List ℕ) (count : ℕ) → new ≡ old ++ count ∷ [] → length old ≡ count → ((number : ℕ) → number < count → slice_index old number ≡ number) → (number : ℕ) → number < count + 1 → slice_index new number ≡ number
+number_pushed old new count pushed long are number l =
+    ap (λ (it : List ℕ). slice_index it number) pushed
+    ∙ elim (cases_lt number count) [
+      | inl before ↦ get_or_append_left old (count ∷ []) 0 number (omega arith) ∙ are number before
+      | inr past ↦
+          let last : number ≡ count = omega arith in
+          get_or_push old count 0 number (long ∙ sym last) ∙ sym last
+    ]

@@ -1,11 +1,39 @@
-use Rattle.std.proofs.Common.{◌↔◌, sym, subst}
+use Rattle.std.proofs.Common.{◌↔◌, sym, subst, ◌∙◌}
 use Rattle.adp_model.specs.declared.cell.Cell.{Cell}
 use Rattle.adp_model.specs.PosedProblem.{PosedProblem}
-use Rattle.adp_model.specs.Demand.{IsDemanded}
+use Rattle.adp_model.specs.Demand.{IsDemanded, IsDemandedCount}
 use Rattle.cell_tables.specs.Marks.{IsMarkedInRow}
 use Rattle.seq_reference.proofs.solving.solve.Goals as goal
+
+pub demanded_marks-requires : goal.demanded_marks-requires
+demanded_marks-requires c = c.in_ok-layout.ensures ∙ sym c.in_ok-lines.ensures
+
+pub filled_scores-requires-clause-same_problem : goal.filled_scores-requires-clause-same_problem
+filled_scores-requires-clause-same_problem c = c.in_ok-marks.ensures.problem
+
+pub filled_scores-requires-clause-same_layout : goal.filled_scores-requires-clause-same_layout
+filled_scores-requires-clause-same_layout c = c.in_ok-layout.ensures ∙ sym c.in_ok-lines.ensures
+
+pub filled_scores-requires-clause-marked : goal.filled_scores-requires-clause-marked
+filled_scores-requires-clause-marked c = c.in_ok-marks.ensures.rows
 
 pub count-cells-requires : goal.count-cells-requires
 count-cells-requires c =
     let R : PosedProblem → Type 0 = λ p. (cell : Cell) → IsMarkedInRow c.in_ok-marks.marks cell ↔ IsDemanded p cell in
     subst R (sym c.in_ok-marks.ensures.problem) c.in_ok-marks.ensures.rows
+
+pub new-requires-3-clause-same_problem : goal.new-requires-3-clause-same_problem
+new-requires-3-clause-same_problem c = c.in_ok-scores.ensures.problem
+
+pub new-requires-3-clause-marked : goal.new-requires-3-clause-marked
+new-requires-3-clause-marked c = c.in_ok-marks.ensures.rows
+
+pub new-requires-3-clause-scored : goal.new-requires-3-clause-scored
+new-requires-3-clause-scored c = c.in_ok-scores.ensures.scored
+
+pub new-requires-3-clause-counted : goal.new-requires-3-clause-counted
+new-requires-3-clause-counted c =
+    subst (λ (p : PosedProblem). IsDemandedCount p c.count-cells.result) c.in_ok-marks.ensures.problem c.count-cells.ensures
+
+pub returns : goal.returns
+returns c = c.new-3.ensures ∙ c.in_ok-lines.ensures

@@ -1,8 +1,6 @@
 use Rattle.std.proofs.Common.{sym, subst, ◌∙◌}
-use Rattle.adp_model.specs.declared.cell.Cell.{Cell}
 use Rattle.adp_model.specs.PosedProblem.{PosedProblem}
-use Rattle.adp_model.specs.Demand.{Child, IsDemanded, IsDemandedChild}
-use Rattle.cell_answers.specs.Entries.{HasEntry}
+use Rattle.adp_model.specs.Demand.{Child, IsDemanded}
 use Rattle.seq_reference.proofs.solved.SolvedAnswers.answer.Goals as goal
 
 pub cell_answer-requires-clause-scored : goal.cell_answer-requires-clause-scored
