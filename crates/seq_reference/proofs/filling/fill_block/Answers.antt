@@ -54,3 +54,6 @@ pub returns : goal.returns
 returns c =
     let before = (goal.at.returns c).After-demanded_cells_are_counted in
     filled_block c.args.lines.now (counted before) c.args.marks.now c.requires.marked c.args.rules.now c.requires.ranked c.loop-to.scores c.args.first c.args.past c.loop-to.least c.loop-to.invariant (c.in_default.ensures.none refl)
+
+pub loop-to-preserved : goal.loop-to-preserved
+loop-to-preserved c = c.fill_end.ensures
