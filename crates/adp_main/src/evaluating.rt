@@ -7,13 +7,13 @@ ghost use Rattle.evaluators.specs.Runs.{IsFinished};
 ghost use Rattle.adp_main.specs.Commands.{asked_command, mode_of};
 ghost use Rattle.adp_main.specs.Writing.{HasRun, IsReportOfRun};
 
+use crate::reporting::answered_report;
 use crate::words::{Command, Mode};
 use adp_model::Problem;
 use evaluators::{Finished, Gate, run_schedule, run_workers};
-use report::{Outcome, push_wins, word_report};
+use report::push_wins;
 use std::alloc::{AllocError, Global};
 use std::thread::Threads;
-use traceback::preorder;
 
 impl Mode {
     /// Whether words are answered by evaluators, and not by one sweep.
@@ -73,13 +73,15 @@ pub(crate) fn evaluated_report(
     ensures { IfOk result (λ report. IsReportOfRun (asked_command command.now).mode number problem.now finished.now
         report.items) }
 {
-    let nodes = preorder(alloc, problem, &finished.closed)?;
-    let outcome = Outcome {
-        answer: finished.answer,
-        nodes,
-        cells: finished.closed.len(),
-    };
-    let report = word_report(alloc, number, problem, &outcome)?;
+    let closed = &finished.closed;
+    let report = answered_report(
+        alloc,
+        number,
+        problem,
+        closed,
+        finished.answer,
+        closed.len(),
+    )?;
     match command.mode {
         Mode::Wins | Mode::Replay => with_wins(report, &finished.wins),
         Mode::Best | Mode::Serial | Mode::Big => Ok(report),

@@ -8,6 +8,7 @@ mod checking;
 mod evaluating;
 mod fault;
 mod limits;
+mod reporting;
 mod schedule;
 mod status;
 mod sweeping;

@@ -2,11 +2,10 @@
 ghost use Rattle.std.specs.Prelude.{◌≡◌, IfOk};
 ghost use Rattle.adp_model.specs.Report.{IsReport};
 
+use crate::reporting::answered_report;
 use adp_model::{Problem, axiom_answer};
-use report::{Outcome, word_report};
 use seq_reference::solve;
 use std::alloc::{AllocError, Global};
-use traceback::preorder;
 
 /// The report of a word.
 pub(crate) fn swept_report(
@@ -17,11 +16,6 @@ pub(crate) fn swept_report(
     ensures { IfOk result (λ report. IsReport number problem.now report.items) }
 {
     let solved = solve(alloc, problem)?;
-    let nodes = preorder(alloc, problem, &solved)?;
-    let outcome = Outcome {
-        answer: axiom_answer(problem, &solved),
-        nodes,
-        cells: solved.cells(),
-    };
-    word_report(alloc, number, problem, &outcome)
+    let answer = axiom_answer(problem, &solved);
+    answered_report(alloc, number, problem, &solved, answer, solved.cells())
 }
