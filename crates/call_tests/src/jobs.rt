@@ -1,9 +1,10 @@
 ghost use Rattle.std.specs.Prelude.{◌≤◌, length};
+ghost use Rattle.adp_model.specs.Printable.{IsPrintable};
 ghost use Rattle.adp_model.specs.Verdict.{greatest_length};
 
-use adp_model::Job;
+use adp_model::{Job, Text};
 use grammar_text::{TextError, read_text};
-use std::alloc::Global;
+use std::alloc::{AllocError, Global};
 
 /// Pairs of `p` and `q` and of `r` and `s`, as many as can be.
 pub(crate) const PAIRS: &str = "adp 1\n\
@@ -204,4 +205,11 @@ pub(crate) fn job(alloc: Global, text: &str) -> Result<Job, TextError>
     requires { length text.now ≤ greatest_length }
 {
     read_text(alloc, text.as_bytes())
+}
+
+/// The text of these letters.
+pub(crate) fn text(alloc: Global, letters: &[u8]) -> Result<Text, AllocError>
+    requires { IsPrintable letters.now }
+{
+    Ok(Text::new(Vec::from_slice(alloc, letters)?))
 }

@@ -1,16 +1,10 @@
 ghost use Rattle.std.specs.Prelude.{◌≤◌, ◌^◌, length};
-ghost use Rattle.adp_model.specs.Printable.{IsPrintable};
 
-use adp_model::Text;
+use crate::jobs::text;
 use algebra_terms::{TermError, Token, TokenKind, is_term, line_tokens, read_term};
-use std::alloc::{AllocError, Global};
+use std::alloc::Global;
+use std::process::Abort;
 use std::test::Fail;
-
-fn text(alloc: Global, bytes: &[u8]) -> Result<Text, AllocError>
-    requires { IsPrintable bytes.now }
-{
-    Ok(Text::new(Vec::from_slice(alloc, bytes)?))
-}
 
 // The constant and the first two factors, where the variables are `x`, `y` and `x` again, whose factor is 0.
 fn spelled(alloc: Global, spelling: &str) -> Result<(i64, i64, i64), TermError>
@@ -27,27 +21,40 @@ fn spelled(alloc: Global, spelling: &str) -> Result<(i64, i64, i64), TermError>
     }
 }
 
+fn expect_term(rt: &impl Abort, alloc: Global, spelling: &str, constant: i64, x: i64, y: i64)
+    requires { length spelling.now ≤ 2 ^ 31 }
+{
+    assert!(rt; spelled(alloc, spelling) == Ok((constant, x, y)));
+}
+
+fn expect_fault(rt: &impl Abort, alloc: Global, spelling: &str, fault: TermError)
+    requires { length spelling.now ≤ 2 ^ 31 }
+{
+    assert!(rt; spelled(alloc, spelling) == Err(fault));
+}
+
 const GREATEST: i64 = 4_611_686_018_427_387_903;
 
 #[test]
 fn spellings(rt: HostRuntime) {
-    let spellings = [
-        ("  -  007  ", Ok((-7, 0, 0))),
-        (" 3 * x ", Ok((0, 3, 0))),
-        ("2*x+3*x-y", Ok((0, 5, -1))),
-        ("-4611686018427387903*x-x+x", Ok((0, -GREATEST, 0))),
-        ("", Err(TermError::Shape)),
-        ("+1", Err(TermError::Shape)),
-        ("1 + ..", Err(TermError::Shape)),
-        ("x + \"y", Err(TermError::Shape)),
-        ("_x + 9y + z", Err(TermError::Name)),
-        ("9x*y + z", Err(TermError::Number)),
-        ("4611686018427387903*z+z", Err(TermError::Number)),
-        ("1 + 2*x + X", Err(TermError::Unknown)),
-    ];
-    for (spelling, want) in spellings {
-        assert_eq!(rt; spelled(rt.alloc(), spelling), want, "{spelling:?}");
-    }
+    let alloc = rt.alloc();
+    expect_term(&rt, alloc, "  -  007  ", -7, 0, 0);
+    expect_term(&rt, alloc, " 3 * x ", 0, 3, 0);
+    expect_term(&rt, alloc, "2*x+3*x-y", 0, 5, -1);
+    expect_term(&rt, alloc, "-4611686018427387903*x-x+x", 0, -GREATEST, 0);
+}
+
+#[test]
+fn faulty_spellings(rt: HostRuntime) {
+    let alloc = rt.alloc();
+    expect_fault(&rt, alloc, "", TermError::Shape);
+    expect_fault(&rt, alloc, "+1", TermError::Shape);
+    expect_fault(&rt, alloc, "1 + ..", TermError::Shape);
+    expect_fault(&rt, alloc, "x + \"y", TermError::Shape);
+    expect_fault(&rt, alloc, "_x + 9y + z", TermError::Name);
+    expect_fault(&rt, alloc, "9x*y + z", TermError::Number);
+    expect_fault(&rt, alloc, "4611686018427387903*z+z", TermError::Number);
+    expect_fault(&rt, alloc, "1 + 2*x + X", TermError::Unknown);
 }
 
 #[test]

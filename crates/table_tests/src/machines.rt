@@ -2,10 +2,9 @@ ghost use Rattle.std.specs.Prelude.{◌≡◌, ◌<◌};
 ghost use Rattle.adp_model.specs.Machines.{IsMachine};
 ghost use Rattle.cell_core.specs.MachineViews.{IsNotedIn};
 
-use crate::pairs::{checked_pairs, one_pair};
-use adp_model::{Memo, Problem, Steps, Text};
+use crate::pairs::{Look, look_at_pairs};
+use adp_model::{Memo, Problem, Steps};
 use cell_core::{Machine, PlainMemo, Turn};
-use grammar_check::{Checked, admit};
 use random_orders::Orders;
 use std::alloc::{AllocError, Global};
 use std::marker::Brand;
@@ -77,30 +76,23 @@ fn expect_one_pair<'a>(
     let (memo, mut pass) = PlainMemo::new(alloc, problem)?;
     let (turn, wins, moves) = ending(alloc, problem, &memo, &mut pass, seed)?;
     assert!(rt; turn == Turn::Ended(Some(1)));
-    assert_eq!(rt; wins, 4);
-    assert_eq!(rt; moves, 8);
+    assert!(rt; wins == 4 && moves == 8);
     Ok(())
 }
 
-fn expect_pairs(
-    rt: &impl Abort,
-    alloc: Global,
-    checked: &Checked,
-    word: &Text,
-) -> Result<(), Fail> {
-    match admit(alloc, checked, word) {
-        Ok(problem) => {
-            for seed in 0..5 {
-                expect_one_pair(rt, alloc, &problem, seed)?;
-            }
-            Ok(())
+#[derive(Drop)]
+struct OneMachine {}
+
+impl Look for OneMachine {
+    fn look<R: Abort>(&self, rt: &R, alloc: Global, problem: &Problem<'_>) -> Result<(), Fail> {
+        for seed in 0..5 {
+            expect_one_pair(rt, alloc, &*problem, seed)?;
         }
-        Err(_) => Err(Fail::new("refused")),
+        Ok(())
     }
 }
 
 #[test]
 fn one_machine_over_a_plain_memo(rt: HostRuntime) -> Result<(), Fail> {
-    let alloc = rt.alloc();
-    expect_pairs(&rt, alloc, &checked_pairs(alloc)?, &one_pair(alloc)?)
+    look_at_pairs(&rt, rt.alloc(), b"pq", &OneMachine {})
 }

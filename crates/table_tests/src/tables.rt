@@ -2,10 +2,9 @@ ghost use Rattle.std.specs.Prelude.{◌≡◌, ◌<◌, IfOk};
 ghost use Rattle.memo_words.specs.Passes.{IsPassOf, plan_of, problem_of, view_of};
 ghost use Rattle.table_tests.specs.AtWork.{IsAtWork};
 
-use crate::pairs::{checked_pairs, one_pair};
-use adp_model::{Answer, Answers, Cell, Choice, Problem, Steps, Text};
+use crate::pairs::{Look, look_at_pairs};
+use adp_model::{Answer, Answers, Cell, Choice, Problem, Steps};
 use cell_core::{Machine, Turn};
-use grammar_check::{Checked, admit};
 use memo_table::{Closed, Pass, Table};
 use random_orders::Orders;
 use std::alloc::{AllocError, Global};
@@ -150,11 +149,38 @@ fn expect_standing<L: Ledger>(
     ensures second { IsAtWork table.now second.new.machine second.new.pass }
 {
     by_turns(table, first, second, steps, count);
-    assert_eq!(rt; [standing(first), standing(second)], want);
+    assert!(rt; [standing(first), standing(second)] == want);
 }
 
 // The key word is loaded and exchanged and the record word loaded; then a record is reserved, its two words are stored
 // and it is named.
+fn expect_seven_steps_of_one<L: Ledger>(
+    rt: &impl Abort,
+    table: &Table,
+    only: &mut Evaluator<'_>,
+    steps: &mut Steps<L>,
+)
+    requires { IsAtWork table.now only.old.machine only.old.pass }
+    ensures { IsAtWork table.now only.new.machine only.new.pass }
+{
+    alone(table, only, steps, 6);
+    assert!(rt; !only.machine.ended());
+    alone(table, only, steps, 1);
+    assert!(rt; only.machine.ended());
+    assert!(rt; only.machine.moves() == 7);
+    assert!(rt; standing(only) == (1, None));
+}
+
+fn expect_words(
+    rt: &impl Abort,
+    alloc: Global,
+    closed: &Closed,
+    words: &[u64],
+) -> Result<(), AllocError> {
+    assert!(rt; all_words(alloc, closed)?.as_slice() == words);
+    Ok(())
+}
+
 fn expect_seven_steps_counted<L: Ledger>(
     rt: &impl Abort,
     alloc: Global,
@@ -167,18 +193,15 @@ fn expect_seven_steps_counted<L: Ledger>(
     let (table, pass) = Table::new(alloc, problem, 1)?;
     let mut only = Evaluator::new(alloc, &table, problem, pass, 0, true)?;
     let mut steps = Steps::<L>::open(blank);
-    alone(&table, &mut only, &mut steps, 6);
-    assert!(rt; !only.machine.ended());
-    alone(&table, &mut only, &mut steps, 1);
-    assert!(rt; only.machine.ended());
-    assert_eq!(rt; only.machine.moves(), 7);
-    assert_eq!(rt; standing(&only), (1, None));
+    expect_seven_steps_of_one(rt, &table, &mut only, &mut steps);
     let closed = close_one(table, only)?;
-    let words = [1, 0, 1, 0, 1, 4_611_686_018_427_387_905, 0, 2, 0];
-    assert!(rt; all_words(alloc, &closed)?.as_slice() == words.as_slice());
-    assert_eq!(rt; closed.len(), 1);
+    assert!(rt; closed.len() == 1);
+    expect_words(rt, alloc, &closed, &WORDS_OF_ONE)?;
     Ok(())
 }
+
+// The words of the table of the empty word for one.
+const WORDS_OF_ONE: [u64; 9] = [1, 0, 1, 0, 1, 4_611_686_018_427_387_905, 0, 2, 0];
 
 // The words of the table of `pq` for two, when both took turns from the first step on.
 const WORDS_OF_BOTH: [u64; 49] = [
@@ -233,6 +256,68 @@ const WORDS_OF_BOTH: [u64; 49] = [
     0,
 ];
 
+// Two by turns, from their first step on: which of their exchanges are lost, and what they keep in hand.
+fn expect_lost_exchanges_by_turns<L: Ledger>(
+    rt: &impl Abort,
+    table: &Table,
+    first: &mut Evaluator<'_>,
+    second: &mut Evaluator<'_>,
+    steps: &mut Steps<L>,
+)
+    requires first { IsAtWork table.now first.old.machine first.old.pass }
+    requires second { IsAtWork table.now second.old.machine second.old.pass }
+    ensures first { IsAtWork table.now first.new.machine first.new.pass }
+    ensures second { IsAtWork table.now second.new.machine second.new.pass }
+{
+    // both found no key; the second one's exchange is lost, and it finds the key of its own cell
+    by_turns(table, first, second, steps, 2);
+    assert!(rt; first.machine.loads_record_word(table));
+    assert!(rt; second.machine.loads_record_word(table));
+    // its exchange of a record word is lost, and its record stays in hand
+    let want = [(1, None), (0, Some(1))];
+    expect_standing(rt, table, first, second, steps, 11, want);
+    // it puts that record for another cell, and reserves no other one
+    let want = [(1, Some(2)), (1, None)];
+    expect_standing(rt, table, first, second, steps, 3, want);
+    // now the first one's exchange of that record word is lost
+    let want = [(1, Some(2)), (1, None)];
+    expect_standing(rt, table, first, second, steps, 1, want);
+    let want = [(2, None), (1, Some(3))];
+    expect_standing(rt, table, first, second, steps, 6, want);
+    // both end, the second one first
+    let want = [(2, Some(4)), (2, None)];
+    expect_standing(rt, table, first, second, steps, 8, want);
+}
+
+/// Two at work over one table.
+#[derive(Drop)]
+struct Both<'a> {
+    first: Evaluator<'a>,
+    second: Evaluator<'a>,
+}
+
+/// Two fresh ones, the second with the half of the pass that is split off.
+fn two_of<'a>(
+    alloc: Global,
+    table: &Table,
+    problem: &'a Problem<'a>,
+    pass: Pass,
+    skips: bool,
+) -> Result<Both<'a>, AllocError>
+    requires problem { problem_of table.now ≡ problem.now }
+    requires own { IsPassOf table.now pass }
+    requires weight { (view_of pass).weight ≡ 1 }
+    requires spare { (view_of pass).spare ≡ 1 }
+    ensures { IfOk result (λ both. IsAtWork table.now both.first.machine both.first.pass
+        × IsAtWork table.now both.second.machine both.second.pass) }
+{
+    let mut pass = pass;
+    let other = table.split(&mut pass);
+    let first = Evaluator::new(alloc, table, problem, pass, 0, skips)?;
+    let second = Evaluator::new(alloc, table, problem, other, 1, skips)?;
+    Ok(Both { first, second })
+}
+
 fn expect_lost_exchanges_counted<L: Ledger>(
     rt: &impl Abort,
     alloc: Global,
@@ -244,33 +329,20 @@ fn expect_lost_exchanges_counted<L: Ledger>(
     requires name { blank.name ≡ L.name }
     requires parts { (blank.parts ≡ L.parts) × (0 < blank.parts) }
 {
-    let (table, mut pass) = Table::new(alloc, problem, 2)?;
-    let other = table.split(&mut pass);
-    let mut first = Evaluator::new(alloc, &table, problem, pass, 0, skips)?;
-    let mut second = Evaluator::new(alloc, &table, problem, other, 1, skips)?;
+    let (table, pass) = Table::new(alloc, problem, 2)?;
+    let Both {
+        mut first,
+        mut second,
+    } = two_of(alloc, &table, problem, pass, skips)?;
     let mut steps = Steps::<L>::open(blank);
-    // both found no key; the second one's exchange is lost, and it finds the key of its own cell
-    by_turns(&table, &mut first, &mut second, &mut steps, 2);
-    assert!(rt; first.machine.loads_record_word(&table));
-    assert!(rt; second.machine.loads_record_word(&table));
-    // its exchange of a record word is lost, and its record stays in hand
-    let want = [(1, None), (0, Some(1))];
-    expect_standing(rt, &table, &mut first, &mut second, &mut steps, 11, want);
-    // it puts that record for another cell, and reserves no other one
-    let want = [(1, Some(2)), (1, None)];
-    expect_standing(rt, &table, &mut first, &mut second, &mut steps, 3, want);
-    // now the first one's exchange of that record word is lost
-    let want = [(1, Some(2)), (1, None)];
-    expect_standing(rt, &table, &mut first, &mut second, &mut steps, 1, want);
-    let want = [(2, None), (1, Some(3))];
-    expect_standing(rt, &table, &mut first, &mut second, &mut steps, 6, want);
-    // both end, the second one first
-    let want = [(2, Some(4)), (2, None)];
-    expect_standing(rt, &table, &mut first, &mut second, &mut steps, 8, want);
-    assert_eq!(rt; [first.machine.moves(), second.machine.moves()], moves);
-    let closed = close_both(table, first, second)?;
-    assert!(rt; all_words(alloc, &closed)?.as_slice() == WORDS_OF_BOTH.as_slice());
-    expect_answers(rt, &closed);
+    expect_lost_exchanges_by_turns(rt, &table, &mut first, &mut second, &mut steps);
+    assert!(rt; [first.machine.moves(), second.machine.moves()] == moves);
+    expect_words_of_both(rt, alloc, &close_both(table, first, second)?)
+}
+
+fn expect_words_of_both(rt: &impl Abort, alloc: Global, closed: &Closed) -> Result<(), Fail> {
+    expect_words(rt, alloc, closed, &WORDS_OF_BOTH)?;
+    expect_answers(rt, closed);
     Ok(())
 }
 
@@ -290,49 +362,61 @@ fn expect_lost_exchanges(
 
 // The cells of the letters from `from` to `to`, each with its score, its alternative and its cuts.
 fn expect_answers(rt: &impl Abort, closed: &Closed) {
-    assert_eq!(rt; closed.len(), 4);
-    for (from, to, score, alt, cuts) in [
-        (0, 2, 1, 2, [1, 1, 2]),
-        (1, 1, 0, 0, [1, 1, 1]),
-        (1, 2, 0, 1, [2, 2, 2]),
-        (2, 2, 0, 0, [2, 2, 2]),
-    ] {
-        let choice = Choice { alt, cuts };
-        let answer = Some(Answer::Best { score, choice });
-        assert_eq!(rt; closed.answer(Cell { rule: 0, from, to }), answer);
-    }
-    for (rule, from, to) in [(0, 0, 0), (0, 0, 1), (0, 2, 1), (1, 0, 2), (0, 0, 4001)] {
-        assert_eq!(rt; closed.answer(Cell { rule, from, to }), None);
-    }
+    assert!(rt; closed.len() == 4);
+    expect_answer(rt, closed, (0, 2), 1, 2, [1, 1, 2]);
+    expect_answer(rt, closed, (1, 1), 0, 0, [1, 1, 1]);
+    expect_answer(rt, closed, (1, 2), 0, 1, [2, 2, 2]);
+    expect_answer(rt, closed, (2, 2), 0, 0, [2, 2, 2]);
+    expect_no_answer(rt, closed, 0, 0, 0);
+    expect_no_answer(rt, closed, 0, 0, 1);
+    expect_no_answer(rt, closed, 0, 2, 1);
+    expect_no_answer(rt, closed, 1, 0, 2);
+    expect_no_answer(rt, closed, 0, 0, 4001);
 }
 
-fn expect_tables(
+fn expect_answer(
     rt: &impl Abort,
-    alloc: Global,
-    checked: &Checked,
-    word: &Text,
-) -> Result<(), Fail> {
-    match admit(alloc, checked, word) {
-        Ok(problem) => {
-            if word.bytes().is_empty() {
-                return expect_seven_steps(rt, alloc, &problem);
-            }
-            expect_lost_exchanges(rt, alloc, &problem, true, [27, 26])?;
-            expect_lost_exchanges(rt, alloc, &problem, false, [31, 30])
-        }
-        Err(_) => Err(Fail::new("refused")),
+    closed: &Closed,
+    span: (u16, u16),
+    score: i64,
+    alt: u8,
+    cuts: [u16; 3],
+) {
+    let (from, to) = span;
+    let choice = Choice { alt, cuts };
+    let answer = Some(Answer::Best { score, choice });
+    assert!(rt; closed.answer(Cell { rule: 0, from, to }) == answer);
+}
+
+fn expect_no_answer(rt: &impl Abort, closed: &Closed, rule: u32, from: u16, to: u16) {
+    assert!(rt; closed.answer(Cell { rule, from, to }) == None);
+}
+
+#[derive(Drop)]
+struct SevenSteps {}
+
+impl Look for SevenSteps {
+    fn look<R: Abort>(&self, rt: &R, alloc: Global, problem: &Problem<'_>) -> Result<(), Fail> {
+        expect_seven_steps(rt, alloc, problem)
     }
 }
 
 #[test]
 fn the_empty_word_takes_seven_steps(rt: HostRuntime) -> Result<(), Fail> {
-    let alloc = rt.alloc();
-    let empty = Text::new(Vec::new(alloc));
-    expect_tables(&rt, alloc, &checked_pairs(alloc)?, &empty)
+    look_at_pairs(&rt, rt.alloc(), b"", &SevenSteps {})
+}
+
+#[derive(Drop)]
+struct LostExchanges {}
+
+impl Look for LostExchanges {
+    fn look<R: Abort>(&self, rt: &R, alloc: Global, problem: &Problem<'_>) -> Result<(), Fail> {
+        expect_lost_exchanges(rt, alloc, problem, true, [27, 26])?;
+        expect_lost_exchanges(rt, alloc, problem, false, [31, 30])
+    }
 }
 
 #[test]
 fn two_passes_lose_exchanges_by_turns(rt: HostRuntime) -> Result<(), Fail> {
-    let alloc = rt.alloc();
-    expect_tables(&rt, alloc, &checked_pairs(alloc)?, &one_pair(alloc)?)
+    look_at_pairs(&rt, rt.alloc(), b"pq", &LostExchanges {})
 }
