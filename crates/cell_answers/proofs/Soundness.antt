@@ -1,5 +1,5 @@
 -- What the laws on bounds of scores and on answers tell of best scores, and that low numbers fit.
-use Rattle.std.proofs.Common.{◌≡◌, ℕ, ◌-◌, ◌≤◌, ℤ, ◌+ℤ◌, ◌*ℤ◌, IsTrue, Option, List, ◌∷◌, length, nat_abs, FitsSigned, w64, to_z, of_z, sym, ap, subst, ◌∙◌, arith}
+use Rattle.std.proofs.Common.{◌≡◌, ℕ, ◌≤◌, ℤ, ◌+ℤ◌, ◌*ℤ◌, IsTrue, List, ◌∷◌, nat_abs, FitsSigned, w64, to_z, of_z, sym, ap, subst, ◌∙◌, arith}
 use Rattle.std.proofs.lemmas.Int.{to_z-of_z, fits_signed_from_abs}
 use Rattle.adp_model.specs.declared.cell.Answer.{Answer}
 use Rattle.adp_model.specs.declared.cell.Cell.{Cell}

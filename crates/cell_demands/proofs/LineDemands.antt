@@ -1,9 +1,9 @@
 -- What arguments demand: with the first of them on a span, along a line, and by alternatives.
-use Rattle.std.proofs.Common.{◌≡◌, ◌⊎◌, ◌↔◌, ℕ, zero, suc, ◌+◌, ◌-◌, ◌<◌, ◌≤◌, Bool, true, false, not, IsTrue, Option, Some, None, List, [], ◌∷◌, ◌++◌, length, get_or, drop, if◌then◌else◌, refl, sym, ap, subst, ◌∙◌, inl, inr, ⊎_elim, arith}
-use Rattle.std.specs.Prelude.{◌==◌, IfSome}
+use Rattle.std.proofs.Common.{◌≡◌, ◌⊎◌, ◌↔◌, ℕ, ◌+◌, ◌<◌, ◌≤◌, Bool, true, false, not, IsTrue, List, [], ◌∷◌, ◌++◌, length, get_or, refl, sym, subst, inl, inr, ⊎_elim, arith}
+use Rattle.std.specs.Prelude.{◌==◌}
 use Rattle.std.specs.List.{AllByRecursion, Contains}
 use Rattle.std.specs.declared.ops.Range.{Range}
-use Rattle.std.proofs.lemmas.Bool.{cases_Bool, cases_lt, eqb-true}
+use Rattle.std.proofs.lemmas.Bool.{cases_lt, eqb-true}
 use Rattle.std.proofs.lemmas.List.{get_or_read}
 use Rattle.adp_model.specs.declared.grammar.Arg.{Arg}
 use Rattle.adp_model.specs.declared.grammar.Arg.TheVariants.{Rule, Literal, Letter, Run}
@@ -14,8 +14,7 @@ use Rattle.adp_model.specs.Splits.{Placed, FitsSpan, place, ends_by}
 use Rattle.adp_model.specs.Demand.{IsDemandedChild}
 use Rattle.viable_splits.specs.Placing.{on_span, Cover, ArePositions}
 use Rattle.split_lines.specs.Laid.{IsCellOf, Demands, IsFixed, LineParts, AreBoundaries}
-use Rattle.split_lines.specs.declared.lines.Line.{Line}
-use Rattle.split_lines.specs.Lines.{HasLine, IsLine, parts_by}
+use Rattle.split_lines.specs.Lines.{HasLine, parts_by}
 use Rattle.cell_tables.specs.Marks.{CellMarks, AreMarkedFrom}
 use Rattle.cell_demands.proofs.Splitting.{child_of_demands, demands_of_child}
 use Rattle.cell_demands.proofs.MarkSteps.{marked_like, marked_more}

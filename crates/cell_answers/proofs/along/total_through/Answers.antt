@@ -1,5 +1,4 @@
 use Rattle.std.proofs.Common.{◌≡◌, ◌+◌, ◌<◌, ℤ, ◌+ℤ◌, ◌*ℤ◌, Some, FitsSigned, w64, sym, subst, arith, rules}
-use Rattle.adp_model.specs.ProblemFields.{greatest_score}
 use Rattle.adp_model.specs.Bellman.{HasBestScore}
 use Rattle.adp_model.specs.FirstSplit.{IsValue}
 use Rattle.viable_splits.specs.Placing.{on_span}

@@ -1,4 +1,4 @@
-use Rattle.std.proofs.Common.{◌≡◌, ℕ, ◌<◌, ℤ, get_or, FitsSigned, w64, to_z, of_z, sym, ap, subst, ◌∙◌, arith, inl, inr, rules, below_more}
+use Rattle.std.proofs.Common.{ℕ, ◌<◌, ℤ, get_or, FitsSigned, w64, to_z, of_z, sym, ap, subst, ◌∙◌, arith, inl, inr, rules, below_more}
 use Rattle.std.proofs.lemmas.Bool.{cases_lt}
 use Rattle.std.proofs.lemmas.List.{get_or_default}
 use Rattle.std.proofs.lemmas.List.Elements.{Contains-get_or}
