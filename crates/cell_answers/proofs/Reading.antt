@@ -24,13 +24,3 @@ module _ (a x : ℤ) (fits_a : FitsSigned w64 a) (fits_x : FitsSigned w64 x) (fi
 
     pub sum_read : Read (Read (Read a *ℤ Read x) +ℤ Read b) ≡ ((a *ℤ x) +ℤ b)
     sum_read = ap Read terms_read ∙ to_z-of_z w64 ((a *ℤ x) +ℤ b) fits_sum
-
-    module _ (c y : ℤ) (fits_c : FitsSigned w64 c) (fits_y : FitsSigned w64 y) (fits_other : FitsSigned w64 (c *ℤ y)) (fits_all : FitsSigned w64 (((a *ℤ x) +ℤ b) +ℤ (c *ℤ y))) where
-      all_read : (Read (Read (Read a *ℤ Read x) +ℤ Read b) +ℤ Read (Read c *ℤ Read y)) ≡ (((a *ℤ x) +ℤ b) +ℤ (c *ℤ y))
-      all_read = λ i. sum_read i +ℤ (ap Read (λ j. to_z-of_z w64 c fits_c j *ℤ to_z-of_z w64 y fits_y j) ∙ to_z-of_z w64 (c *ℤ y) fits_other) i
-
-      pub both_fit : FitsSigned w64 (Read (Read (Read a *ℤ Read x) +ℤ Read b) +ℤ Read (Read c *ℤ Read y))
-      both_fit = subst (FitsSigned w64) (sym all_read) fits_all
-
-      pub both_read : Read (Read (Read (Read a *ℤ Read x) +ℤ Read b) +ℤ Read (Read c *ℤ Read y)) ≡ (((a *ℤ x) +ℤ b) +ℤ (c *ℤ y))
-      both_read = ap Read all_read ∙ to_z-of_z w64 (((a *ℤ x) +ℤ b) +ℤ (c *ℤ y)) fits_all

@@ -1,4 +1,5 @@
-use Rattle.std.proofs.Common.{◌≡◌, ◌+◌, ◌<◌, ℤ, ◌+ℤ◌, ◌*ℤ◌, Some, FitsSigned, w64, sym, subst, arith, rules}
+use Rattle.std.proofs.Common.{◌≡◌, ◌+◌, ◌<◌, ℤ, ◌+ℤ◌, ◌*ℤ◌, Some, FitsSigned, w64, to_z, of_z, sym, ap, subst, ◌∙◌, arith, rules}
+use Rattle.std.proofs.lemmas.Int.{to_z-of_z}
 use Rattle.adp_model.specs.Bellman.{HasBestScore}
 use Rattle.adp_model.specs.FirstSplit.{IsValue}
 use Rattle.viable_splits.specs.Placing.{on_span}
@@ -7,7 +8,6 @@ use Rattle.cell_answers.specs.Totals.{HasTotal}
 use Rattle.score_numbers.specs.Greatest.{IsGreatestOf}
 use Rattle.cell_answers.proofs.FirstEnds.{AreSound}
 use Rattle.cell_answers.proofs.FrontPositions.{first_fits, middle_weighted, middle_low, second_known, second_fits, first_token_low, second_token_low, through_parts_low, greatest_here, one_here, sums_low}
-use Rattle.cell_answers.proofs.Reading.{product_fits, sum_fits, both_fit, both_read}
 use Rattle.cell_answers.proofs.Soundness.{fits_below, sound_by}
 use Rattle.cell_answers.proofs.along.total_through.Goals as goal
 use Rattle.cell_answers.proofs.along.total_through.Goals.{After-answer_is_unique}
@@ -62,6 +62,9 @@ pub between_total-between-requires-clause-low : goal.between_total-between-requi
 between_total-between-requires-clause-low c =
     middle_low c.args.lines.now c.args.line.now c.requires.opened _ c.requires.stands
 
+abbrev Read : ℤ → ℤ
+Read number = to_z w64 (of_z w64 number)
+
 -- the numbers that are added up fit, and their sums
 parts : (c : After-answer_is_unique) → (first between second : ℤ)
     → IsValue c.args.lines.now (HasBestScore c.args.lines.now) (on_span c.args.line.now.arguments.first.now c.args.line.now.from c.args.position) first
@@ -80,32 +83,62 @@ pub overflow_mul-result : goal.overflow_mul-result
 overflow_mul-result c =
     let at = (goal.at.overflow_mul-result c).After-answer_is_unique in
     let it = parts at c.in-Some.first c.between_total-between.result c.in-Some-value_among.second c.in-Some.ensures c.between_total-between.ensures c.in-Some-value_among.ensures in
-    product_fits c.args.line.now.arguments.first_factor c.in-Some.first (search rules) (search rules) it.0
+    let fits_factor : FitsSigned w64 c.args.line.now.arguments.first_factor = search rules in
+    let fits_value : FitsSigned w64 c.in-Some.first = search rules in
+    simp to_z-of_z it.0
 
 pub overflow_add-result : goal.overflow_add-result
 overflow_add-result c =
     let at = (goal.at.overflow_add-result c).After-answer_is_unique in
     let it = parts at c.in-Some.first c.between_total-between.result c.in-Some-value_among.second c.in-Some.ensures c.between_total-between.ensures c.in-Some-value_among.ensures in
-    sum_fits c.args.line.now.arguments.first_factor c.in-Some.first (search rules) (search rules) it.0 c.between_total-between.result (search rules) it.1
+    let fits_factor : FitsSigned w64 c.args.line.now.arguments.first_factor = search rules in
+    let fits_value : FitsSigned w64 c.in-Some.first = search rules in
+    let fits_between : FitsSigned w64 c.between_total-between.result = search rules in
+    let fits_product : FitsSigned w64 (c.args.line.now.arguments.first_factor *ℤ c.in-Some.first) = it.0 in
+    simp to_z-of_z it.1
 
 pub overflow_mul-result-2 : goal.overflow_mul-result-2
 overflow_mul-result-2 c =
     let at = (goal.at.overflow_mul-result-2 c).After-answer_is_unique in
     let it = parts at c.in-Some.first c.between_total-between.result c.in-Some-value_among.second c.in-Some.ensures c.between_total-between.ensures c.in-Some-value_among.ensures in
-    product_fits c.args.line.now.arguments.second_factor c.in-Some-value_among.second (search rules) (search rules) it.2
+    let fits_second_factor : FitsSigned w64 c.args.line.now.arguments.second_factor = search rules in
+    let fits_second_value : FitsSigned w64 c.in-Some-value_among.second = search rules in
+    simp to_z-of_z it.2
 
 pub overflow_add-result-2 : goal.overflow_add-result-2
 overflow_add-result-2 c =
     let at = (goal.at.overflow_add-result-2 c).After-answer_is_unique in
     let it = parts at c.in-Some.first c.between_total-between.result c.in-Some-value_among.second c.in-Some.ensures c.between_total-between.ensures c.in-Some-value_among.ensures in
-    both_fit c.args.line.now.arguments.first_factor c.in-Some.first (search rules) (search rules) it.0 c.between_total-between.result (search rules) it.1 c.args.line.now.arguments.second_factor c.in-Some-value_among.second (search rules) (search rules) it.2 it.3
+    let fits_factor : FitsSigned w64 c.args.line.now.arguments.first_factor = search rules in
+    let fits_value : FitsSigned w64 c.in-Some.first = search rules in
+    let fits_second_factor : FitsSigned w64 c.args.line.now.arguments.second_factor = search rules in
+    let fits_second_value : FitsSigned w64 c.in-Some-value_among.second = search rules in
+    let fits_between : FitsSigned w64 c.between_total-between.result = search rules in
+    let fits_first : FitsSigned w64 (c.args.line.now.arguments.first_factor *ℤ c.in-Some.first) = it.0 in
+    let fits_sum : FitsSigned w64 ((c.args.line.now.arguments.first_factor *ℤ c.in-Some.first) +ℤ c.between_total-between.result) = it.1 in
+    let fits_second : FitsSigned w64 (c.args.line.now.arguments.second_factor *ℤ c.in-Some-value_among.second) = it.2 in
+    simp to_z-of_z it.3
+
+-- the sum, as its bits are read
+read_sum : (a x b c y : ℤ) → FitsSigned w64 a → FitsSigned w64 x → FitsSigned w64 b → FitsSigned w64 c → FitsSigned w64 y → FitsSigned w64 (a *ℤ x) × FitsSigned w64 ((a *ℤ x) +ℤ b) × FitsSigned w64 (c *ℤ y) × FitsSigned w64 (((a *ℤ x) +ℤ b) +ℤ (c *ℤ y))
+    → Read (Read (Read (Read a *ℤ Read x) +ℤ Read b) +ℤ Read (Read c *ℤ Read y)) ≡ (((a *ℤ x) +ℤ b) +ℤ (c *ℤ y))
+read_sum a x b c y fits_a fits_x fits_b fits_c fits_y (fits_first, fits_sum, fits_second, fits_total) =
+    ap (λ n. Read (Read (Read (n *ℤ Read x) +ℤ Read b) +ℤ Read (Read c *ℤ Read y))) (to_z-of_z w64 a fits_a)
+    ∙ ap (λ n. Read (Read (Read (a *ℤ n) +ℤ Read b) +ℤ Read (Read c *ℤ Read y))) (to_z-of_z w64 x fits_x)
+    ∙ ap (λ n. Read (Read (n +ℤ Read b) +ℤ Read (Read c *ℤ Read y))) (to_z-of_z w64 (a *ℤ x) fits_first)
+    ∙ ap (λ n. Read (Read ((a *ℤ x) +ℤ n) +ℤ Read (Read c *ℤ Read y))) (to_z-of_z w64 b fits_b)
+    ∙ ap (λ n. Read (n +ℤ Read (Read c *ℤ Read y))) (to_z-of_z w64 ((a *ℤ x) +ℤ b) fits_sum)
+    ∙ ap (λ n. Read (((a *ℤ x) +ℤ b) +ℤ Read (n *ℤ Read y))) (to_z-of_z w64 c fits_c)
+    ∙ ap (λ n. Read (((a *ℤ x) +ℤ b) +ℤ Read (c *ℤ n))) (to_z-of_z w64 y fits_y)
+    ∙ ap (λ n. Read (((a *ℤ x) +ℤ b) +ℤ n)) (to_z-of_z w64 (c *ℤ y) fits_second)
+    ∙ to_z-of_z w64 (((a *ℤ x) +ℤ b) +ℤ (c *ℤ y)) fits_total
 
 pub returns-clause-greatest : goal.returns-clause-greatest
 returns-clause-greatest c =
     let at = (goal.at.returns-clause-greatest c).After-answer_is_unique in
     let it = parts at c.in-Some.first c.between_total-between.result c.in-Some-value_among.second c.in-Some.ensures c.between_total-between.ensures c.in-Some-value_among.ensures in
     let T : ℤ → Type 0 = λ total. IsGreatestOf (HasLineTotal c.args.lines.now c.args.line.now c.args.position) (Some total) in
-    subst T (sym (both_read c.args.line.now.arguments.first_factor c.in-Some.first (search rules) (search rules) it.0 c.between_total-between.result (search rules) it.1 c.args.line.now.arguments.second_factor c.in-Some-value_among.second (search rules) (search rules) it.2 it.3))
+    subst T (sym (read_sum c.args.line.now.arguments.first_factor c.in-Some.first c.between_total-between.result c.args.line.now.arguments.second_factor c.in-Some-value_among.second (search rules) (search rules) (search rules) (search rules) (search rules) it))
     (greatest_here c.args.lines.now c.args.line.now c.requires.opened c.args.position c.requires.stands (sound at)
     c.in-Some.first c.between_total-between.result c.in-Some-value_among.second c.in-Some.ensures c.between_total-between.ensures c.in-Some-value_among.ensures)
 
@@ -114,6 +147,6 @@ returns-clause-only c =
     let at = (goal.at.returns-clause-only c).After-answer_is_unique in
     let it = parts at c.in-Some.first c.between_total-between.result c.in-Some-value_among.second c.in-Some.ensures c.between_total-between.ensures c.in-Some-value_among.ensures in
     let T : ℤ → Type 0 = λ total. (other : ℤ) → HasLineTotal c.args.lines.now c.args.line.now c.args.position other → other ≡ total in
-    subst T (sym (both_read c.args.line.now.arguments.first_factor c.in-Some.first (search rules) (search rules) it.0 c.between_total-between.result (search rules) it.1 c.args.line.now.arguments.second_factor c.in-Some-value_among.second (search rules) (search rules) it.2 it.3))
+    subst T (sym (read_sum c.args.line.now.arguments.first_factor c.in-Some.first c.between_total-between.result c.args.line.now.arguments.second_factor c.in-Some-value_among.second (search rules) (search rules) (search rules) (search rules) (search rules) it))
     (one_here c.args.lines.now c.args.line.now c.requires.opened c.args.position c.requires.stands (sound at)
     c.in-Some.first c.between_total-between.result c.in-Some-value_among.second c.in-Some.ensures c.between_total-between.ensures c.in-Some-value_among.ensures)
