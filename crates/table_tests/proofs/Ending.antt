@@ -1,5 +1,5 @@
 -- A machine at work over a table, from step to step and at its end.
-use Rattle.std.proofs.Common.{◌≡◌, ℕ, ◌⊎◌, inl, inr, ⊎_elim, true, List, [], ◌∷◌, get_or, Contains, sym, ap, ◌∙◌, subst}
+use Rattle.std.proofs.Common.{◌≡◌, inl, inr, ⊎_elim, true, Contains, sym, subst}
 use Rattle.std.proofs.lemmas.List.Elements.{Contains-append_left}
 use Rattle.adp_model.specs.declared.cell.Cell.{Cell}
 use Rattle.adp_model.specs.PosedProblem.{PosedProblem, axiom_cell}
@@ -12,15 +12,11 @@ use Rattle.memo_words.specs.Passes.{view_of, problem_of}
 use Rattle.memo_table.specs.declared.probe.Probe.{Probe}
 use Rattle.memo_table.specs.Meanings.{table_meaning, knows}
 use Rattle.cell_core.specs.MachineViews.{MachineView}
-use Rattle.table_tests.specs.AtWork.{IsAtWork}
+use Rattle.table_tests.specs.AtWork.{IsAtWork, IsWhole}
 
 none_from : (p : PosedProblem) → (IsDemanded p (axiom_cell p) → ⊥) → (cell : Cell) → IsDemanded p cell → ⊥
 none_from p none cell (Axiom within) = none (Axiom within)
 none_from p none cell (Child parent child demanded reached) = none_from p none parent demanded
-
--- the pass knows the axiom's cell, or no cell is demanded
-abbrev pub IsWhole : PosedProblem → Pass → Type 0
-IsWhole p pass = knows pass (axiom_cell p) ⊎ ((cell : Cell) → IsDemanded p cell → ⊥)
 
 pub whole_at_end : (words : Words) (machine : MachineView Probe) (pass : Pass) → IsAtWork words machine pass
     → machine.machine.ended ≡ true → IsWhole (problem_of words) pass

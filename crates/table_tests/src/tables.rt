@@ -1,6 +1,6 @@
 ghost use Rattle.std.specs.Prelude.{◌≡◌, ◌<◌, IfOk};
 ghost use Rattle.memo_words.specs.Passes.{IsPassOf, plan_of, problem_of, view_of};
-ghost use Rattle.table_tests.specs.AtWork.{IsAtWork};
+ghost use Rattle.table_tests.specs.AtWork.{IsAtWork, IsLeft, IsWhole};
 
 use crate::pairs::{Look, look_at_pairs};
 use adp_model::{Answer, Answers, Cell, Choice, Problem, Steps};
@@ -83,29 +83,48 @@ fn alone<L: Ledger>(table: &Table, only: &mut Evaluator<'_>, steps: &mut Steps<L
     alone(table, only, steps, count - 1);
 }
 
-/// Closes the table, once the machine on its only seat has ended.
-fn close_one(table: Table, only: Evaluator<'_>) -> Result<Closed, Fail>
-    requires work { IsAtWork table only.machine only.pass }
-    requires seats { (plan_of table).seats ≡ 1 }
+/// The pass of one at work, whose machine is let go.
+fn pass_of(table: &Table, one: Evaluator<'_>) -> Pass
+    requires { IsAtWork table.now one.machine one.pass }
+    ensures left { IsLeft table.now result }
+    ensures same { result ≡ one.entry.pass }
 {
-    if only.machine.ended() {
-        return Ok(table.close(only.pass));
-    }
-    Err(Fail::new("the machine goes on"))
+    let _ = table;
+    let Evaluator { machine: _, pass } = one;
+    pass
 }
 
-/// Joins the passes of both and closes the table, once the first machine has ended.
-fn close_both(table: Table, first: Evaluator<'_>, second: Evaluator<'_>) -> Result<Closed, Fail>
-    requires first { IsAtWork table first.machine first.pass }
-    requires second { IsAtWork table second.machine second.pass }
+/// The same, where the machine has to have ended.
+fn ended_pass(rt: &impl Abort, table: &Table, one: Evaluator<'_>) -> Pass
+    requires { IsAtWork table.now one.machine one.pass }
+    ensures left { IsLeft table.now result }
+    ensures whole { IsWhole (problem_of table.now) result }
+{
+    if one.machine.ended() {
+        return pass_of(table, one);
+    }
+    panic!(rt; "the machine goes on")
+}
+
+/// Closes the table of one seat.
+fn close_one(table: Table, only: Pass) -> Closed
+    requires left { IsLeft table only }
+    requires whole { IsWhole (problem_of table) only }
+    requires seats { (plan_of table).seats ≡ 1 }
+{
+    table.close(only)
+}
+
+/// Joins the passes of both and closes the table of two seats.
+fn close_both(table: Table, first: Pass, second: Pass) -> Closed
+    requires first { IsLeft table first }
+    requires second { IsLeft table second }
+    requires whole { IsWhole (problem_of table) first }
     requires seats { (plan_of table).seats ≡ 2 }
 {
-    if first.machine.ended() {
-        let mut pass = first.pass;
-        table.join(&mut pass, second.pass);
-        return Ok(table.close(pass));
-    }
-    Err(Fail::new("the machine goes on"))
+    let mut pass = first;
+    table.join(&mut pass, second);
+    table.close(pass)
 }
 
 /// All words: the counter, the key words, the record words, the score words and the choice words.
@@ -194,7 +213,8 @@ fn expect_seven_steps_counted<L: Ledger>(
     let mut only = Evaluator::new(alloc, &table, problem, pass, 0, true)?;
     let mut steps = Steps::<L>::open(blank);
     expect_seven_steps_of_one(rt, &table, &mut only, &mut steps);
-    let closed = close_one(table, only)?;
+    let only = ended_pass(rt, &table, only);
+    let closed = close_one(table, only);
     assert!(rt; closed.len() == 1);
     expect_words(rt, alloc, &closed, &WORDS_OF_ONE)?;
     Ok(())
@@ -337,7 +357,9 @@ fn expect_lost_exchanges_counted<L: Ledger>(
     let mut steps = Steps::<L>::open(blank);
     expect_lost_exchanges_by_turns(rt, &table, &mut first, &mut second, &mut steps);
     assert!(rt; [first.machine.moves(), second.machine.moves()] == moves);
-    expect_words_of_both(rt, alloc, &close_both(table, first, second)?)
+    let first = ended_pass(rt, &table, first);
+    let second = pass_of(&table, second);
+    expect_words_of_both(rt, alloc, &close_both(table, first, second))
 }
 
 fn expect_words_of_both(rt: &impl Abort, alloc: Global, closed: &Closed) -> Result<(), Fail> {
