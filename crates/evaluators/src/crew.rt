@@ -1,6 +1,6 @@
 //! The workers of a problem: made, run, and brought together again.
 
-ghost use Rattle.std.specs.Prelude.{◌≡◌, ◌<◌, ◌≤◌, ℕ, IfOk, All, map, true, vec_len, slice_index_or};
+ghost use Rattle.std.specs.Prelude.{◌≡◌, ◌<◌, ◌≤◌, ℕ, [], ◌∷◌, ◌++◌, IfOk, All, map, true, vec_len, slice_index_or};
 ghost use Rattle.std.specs.Arc.{arc_value};
 ghost use Rattle.adp_model.specs.Machines.{IsMachine};
 ghost use Rattle.adp_model.specs.ProblemFields.{IsAdmissible};
@@ -8,12 +8,12 @@ ghost use Rattle.cell_core.specs.MachineViews.{IsFresh, IsNotedIn};
 ghost use Rattle.memo_table.specs.Meanings.{table_meaning};
 ghost use Rattle.memo_words.specs.declared.pass.Pass.{Pass as AnyPass};
 ghost use Rattle.memo_words.specs.Passes.{IsPassOf, view_of, problem_of, plan_of};
-ghost use Rattle.memo_words.specs.Views.{first_view};
+ghost use Rattle.memo_words.specs.Views.{first_view, joined};
 ghost use Rattle.evaluators.specs.Posts.{posts_of};
 ghost use Rattle.evaluators.specs.Driving.{HasStepsOfFresh};
 ghost use Rattle.evaluators.specs.Working.{IsReady, IsAtWork, first_orders, post_of};
 ghost use Rattle.evaluators.specs.Joined.{IsJoined};
-ghost use Rattle.evaluators.specs.Runs.{IsFinished, HaveAllEnded, HasFirstEnded};
+ghost use Rattle.evaluators.specs.Runs.{IsFinished, HaveAllEnded, HasFirstEnded, wins_of};
 ghost use Rattle.evaluators.specs.Playing.{HasKeptEntries};
 
 use crate::finished::Finished;
@@ -141,34 +141,74 @@ pub(crate) fn join_all<'a, G: Gate>(
     let Some(last) = workers.pop() else {
         unreachable!()
     };
+    let mut left = left_by(alloc, last)?;
+    while let Some(gated) = workers.pop() {
+        take_in(table, &mut left, gated)?;
+    }
+    left.wins.reverse();
+    left.machines.reverse();
+    Ok(left)
+}
+
+/// What one worker leaves.
+fn left_by<'a, G: Gate>(
+    alloc: Global,
+    gated: GatedWorker<'_, TableWorker<'a>, G>,
+) -> Result<Leavings<'a>, AllocError>
+    ensures pass { IfOk result (λ left. left.pass ≡ gated.entry.worker.pass) }
+    ensures machines { IfOk result (λ left. left.machines.items ≡ gated.entry.worker.machine ∷ []) }
+    ensures wins { IfOk result (λ left. left.wins.items ≡ wins_of gated.entry.worker.machine ∷ []) }
+{
     let Worker {
         machine,
-        mut pass,
+        pass,
         number: _,
         seed: _,
-    } = last.worker;
-    let mut wins = Vec::new(alloc);
-    let mut machines = Vec::new(alloc);
-    wins.push(machine.wins())?;
-    machines.push(machine)?;
-    while let Some(gated) = workers.pop() {
-        let Worker {
-            machine,
-            pass: other,
-            number: _,
-            seed: _,
-        } = gated.worker;
-        table.join(&mut pass, other);
-        wins.push(machine.wins())?;
-        machines.push(machine)?;
-    }
-    wins.reverse();
-    machines.reverse();
-    Ok(Leavings {
+    } = gated.worker;
+    let mut left = Leavings {
         pass,
-        machines,
-        wins,
-    })
+        machines: Vec::new(alloc),
+        wins: Vec::new(alloc),
+    };
+    keep(&mut left, machine)?;
+    Ok(left)
+}
+
+/// One more worker is joined to those before.
+fn take_in<'a, G: Gate>(
+    table: &Table,
+    left: &mut Leavings<'a>,
+    gated: GatedWorker<'_, TableWorker<'a>, G>,
+) -> Result<(), AllocError>
+    requires into { IsPassOf table.now left.old.pass }
+    requires other { IsPassOf table.now gated.worker.pass }
+    ensures own { IsPassOf table.now left.new.pass }
+    ensures view { view_of left.new.pass ≡ joined (view_of left.old.pass) (view_of gated.entry.worker.pass) }
+    ensures machines { IfOk result (λ _. left.new.machines.items
+        ≡ left.old.machines.items ++ gated.entry.worker.machine ∷ []) }
+    ensures wins { IfOk result (λ _. left.new.wins.items
+        ≡ left.old.wins.items ++ wins_of gated.entry.worker.machine ∷ []) }
+{
+    let Worker {
+        machine,
+        pass,
+        number: _,
+        seed: _,
+    } = gated.worker;
+    table.join(&mut left.pass, pass);
+    keep(left, machine)
+}
+
+/// One more machine is kept, and what it won.
+fn keep<'a>(left: &mut Leavings<'a>, machine: Machine<'a, Table>) -> Result<(), AllocError>
+    ensures pass { left.new.pass ≡ left.old.pass }
+    ensures machines { IfOk result (λ _. left.new.machines.items ≡ left.old.machines.items ++ machine.entry ∷ []) }
+    ensures wins { IfOk result (λ _. left.new.wins.items ≡ left.old.wins.items ++ wins_of machine.entry ∷ []) }
+{
+    let wins = machine.wins();
+    left.machines.push(machine)?;
+    left.wins.push(wins)?;
+    Ok(())
 }
 
 /// Closes the table, from which the answers are read then.
