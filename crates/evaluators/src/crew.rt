@@ -50,12 +50,44 @@ pub fn run_workers<'a, R: Threads + Sync, G: Gate>(
     ensures machines { IfOk result (λ finished. vec_len finished.machines ≡ workers) }
     ensures ended { IfOk result HaveAllEnded }
 {
-    let prepared = Arc::new(alloc, Prepared::new(alloc, problem)?)?;
     let (table, pass) = Table::new(alloc, problem, workers)?;
-    let mut crew = team(alloc, &table, &prepared, gate, pass, workers, seed)?;
+    let mut crew = team_for(alloc, &table, problem, gate, pass, workers, seed)?;
     run_all(rt, &table, crew.as_mut_slice());
     let left = join_all(alloc, &table, seed, workers, crew)?;
     Ok(finish(table, problem, seed, left))
+}
+
+/// The problem is prepared for a team that works on it.
+fn team_for<'a, 'g, G: Gate>(
+    alloc: Global,
+    table: &Table,
+    problem: &'a Problem<'a>,
+    gate: &'g G,
+    pass: Pass,
+    count: u32,
+    seed: u64,
+) -> Result<Vec<GatedWorker<'g, TableWorker<'a>, G>>, AllocError>
+    requires same { problem_of table.now ≡ problem.now }
+    requires own { IsPassOf table.now pass }
+    requires first { view_of pass ≡ first_view (plan_of table.now) }
+    requires seats { (plan_of table.now).seats ≡ count }
+    requires some { 1 ≤ count }
+    ensures ready { IfOk result (λ team. All (λ gated. IsReady table.now gated.worker) team.items) }
+    ensures posts { IfOk result (λ team. map (λ gated. post_of gated.worker) team.items
+        ≡ posts_of problem.now seed count) }
+{
+    let prepared = prepare(alloc, problem)?;
+    team(alloc, table, &prepared, gate, pass, count, seed)
+}
+
+/// The prepared problem, shared by all workers.
+fn prepare<'a>(alloc: Global, problem: &'a Problem<'a>) -> Result<Arc<Prepared<'a>, Global>, AllocError>
+    ensures problem { IfOk result (λ prepared. arc_value prepared ≡ problem.now) }
+    ensures admissible { IsAdmissible problem.now }
+{
+    problem.admissible();
+    let prepared = Prepared::new(alloc, problem)?;
+    Ok(Arc::new(alloc, prepared)?)
 }
 
 /// As many workers as the table has seats, each with a machine and a pass of its own.

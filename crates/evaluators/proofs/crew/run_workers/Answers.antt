@@ -1,5 +1,4 @@
-use Rattle.std.proofs.Common.{◌≡◌, true, map, All, sym, ap, ◌∙◌, subst, rules}
-use Rattle.std.specs.Arc.{arc_value}
+use Rattle.std.proofs.Common.{◌≡◌, true, map, All, sym, ap, ◌∙◌, subst}
 use Rattle.memo_words.specs.Passes.{problem_of}
 use Rattle.evaluators.specs.Posts.{posts_of}
 use Rattle.evaluators.specs.Runs.{HasFirstEnded, ended_of}
@@ -12,7 +11,7 @@ use Rattle.evaluators.proofs.crew.run_workers.Goals as goal
 pub join_all-requires-clause-posts : goal.join_all-requires-clause-posts
 join_all-requires-clause-posts g c κs lives =
     let crew = c.in_ok-crew.crew in
-    let same : arc_value c.in_ok-prepared.prepared ≡ problem_of c.in_ok-table.table = search rules in
+    let same = sym (c.in_ok-table.ensures {u = tt}).problem in
     map_written_back (λ (gated : GatedWorker TableWorker _). post_of gated.worker) crew.items c.run_all.new.workers
     crew.len crew.ok.0
     (c.run_all.ensures.posts
@@ -30,7 +29,7 @@ join_all-requires-clause-first g c κs lives =
     subst HasFirstEnded (sym machines)
     (first_of_ended (λ (gated : GatedWorker TableWorker _). gated.worker) c.in_ok-table.table left
     (problem_of c.in_ok-table.table) c.args.seed c.args.workers c.run_all.ensures.done
-    (posts ∙ (c.in_ok-crew.ensures {u = tt}).posts ∙ ap (λ p. posts_of p c.args.seed c.args.workers) (search rules))
+    (posts ∙ (c.in_ok-crew.ensures {u = tt}).posts ∙ ap (λ p. posts_of p c.args.seed c.args.workers) (sym (c.in_ok-table.ensures {u = tt}).problem))
     c.requires.0)
 
 pub returns-clause-ended : goal.returns-clause-ended
