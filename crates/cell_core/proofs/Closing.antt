@@ -32,6 +32,17 @@ with_wins work wins = record {
   score = work.score;
 }
 
+-- where the work goes on there is a frame
+pub on_with_a_top : {Probe : Type 0} (work work' : Work Probe) (score : Option ℤ) → IsClosed work work' score → work'.ended ≡ false
+    → work'.top ≢ None
+on_with_a_top {Probe} work work' score closed e f = go closed.next
+  where
+    go : ((next : Frame Probe) × (work'.top ≡ Some next) × (reverse work.below.items ≡ next ∷ reverse work'.below.items) × (work'.ended ≡ work.ended))
+        ⊎ ((work'.top ≡ None) × (reverse work.below.items ≡ []) × (work'.ended ≡ true) × (work'.score ≡ score))
+        → ⊥
+    go (inl next) = none-some next.0 (sym f ∙ next.1)
+    go (inr end) = false≢true (sym e ∙ end.2)
+
 module _ {Pass Probe : Type 0} (memo : Meaning Pass Probe) (p : PosedProblem) (high : Heights p) (Noted : Cell → Type 0) (pass pass' : Pass)
     (on : (probe : Probe) → memo.stage probe ≢ Publishing → memo.follows probe pass → memo.follows probe pass')
     (stay : StayKnown (memo.known pass) (memo.known pass'))
@@ -49,14 +60,8 @@ module _ {Pass Probe : Type 0} (memo : Meaning Pass Probe) (p : PosedProblem) (h
   room : HasRoom p work'
   room = record {
     room = let r = sound.has_room.room in let c = closed.capacity in omega arith;
-    nothing_below = λ e f. go closed.next e f;
+    nothing_below = λ e f. absurd (on_with_a_top (with_wins work wins) work' score closed e f);
   }
-    where
-      go : ((next : Frame Probe) × (work'.top ≡ Some next) × (reverse work.below.items ≡ next ∷ reverse work'.below.items) × (work'.ended ≡ work.ended))
-          ⊎ ((work'.top ≡ None) × (reverse work.below.items ≡ []) × (work'.ended ≡ true) × (work'.score ≡ score))
-          → work'.ended ≡ false → work'.top ≡ None → work'.below.items ≡ []
-      go (inl next) e f = absurd (none-some next.0 (sym f ∙ next.1))
-      go (inr end) e f = absurd (false≢true (sym e ∙ end.2))
 
   at_next : (next : Frame Probe) → work'.top ≡ Some next → work'.ended ≡ work.ended → IsAt work' None (next ∷ reverse work'.below.items) None
   at_next next is going = record {

@@ -1,14 +1,18 @@
 -- The machine invariant, and what holds of a machine's work.
-use Rattle.std.proofs.Common.{◌≡◌, ℕ, true, Some, None, sym, ◌∙◌}
+use Rattle.std.proofs.Common.{◌≡◌, ◌<◌, ◌≤◌, ℕ, Bool, true, Option, Some, None, List, sym, subst, ◌∙◌, arith}
 use Rattle.std.proofs.lemmas.Bool.{false≢true}
+use Rattle.adp_model.specs.declared.cell.Answer.{Answer}
 use Rattle.adp_model.specs.declared.cell.Cell.{Cell}
+use Rattle.adp_model.specs.declared.visit.Frame.{Frame}
+use Rattle.adp_model.specs.declared.visit.Hand.{Hand}
 use Rattle.adp_model.specs.PosedProblem.{PosedProblem}
+use Rattle.adp_model.specs.SplitArguments.{SplitArgument}
 use Rattle.adp_model.specs.Memos.{Meaning}
 use Rattle.adp_model.specs.Machines.{IsUnderWay, IsMachine}
 use Rattle.cell_tables.specs.Noted.{Notes, IsNoted}
 use Rattle.cell_core.specs.declared.work.Work.{Work}
-use Rattle.cell_core.specs.Working.{all_frames, HasRoom, IsSound}
-use Rattle.cell_core.specs.MachineViews.{state_of, IsNotedIn}
+use Rattle.cell_core.specs.Working.{all_frames, HasRoom, IsSound, work_left}
+use Rattle.cell_core.specs.MachineViews.{state_of, IsNotedIn, loads_at, looked_for, LoadsAsTold}
 
 -- the work with another number of steps
 abbrev pub with_moves : {Probe : Type 0} → Work Probe → ℕ → Work Probe
@@ -23,6 +27,25 @@ with_moves work moves = record {
   ended = work.ended;
   score = work.score;
 }
+
+-- the work with this in hand and this on top
+abbrev pub with_parts : {Probe : Type 0} → Work Probe → Option (Hand Probe) → Option (Frame Probe) → Work Probe
+with_parts work hand top = record {
+  hand = hand;
+  top = top;
+  below = work.below;
+  ready = work.ready;
+  opened = work.opened;
+  wins = work.wins;
+  moves = work.moves;
+  ended = work.ended;
+  score = work.score;
+}
+
+-- what is left falls by a step, and does not rise by what is sought then
+pub falls_then : (after between before at_first : ℕ) → after ≤ between → between < before → before ≤ at_first
+    → after < at_first
+falls_then after between before at_first sought made begun = omega arith
 
 module _ {Pass Probe : Type 0} (memo : Meaning Pass Probe) (p : PosedProblem) (pass : Pass) where
   pub sound_from : (notes : Notes) (work : Work Probe) → HasRoom p work
@@ -60,6 +83,32 @@ module _ {Pass Probe : Type 0} (memo : Meaning Pass Probe) (p : PosedProblem) (p
     few_opened = sound.few_opened;
     few_wins = sound.few_wins;
   }
+
+  -- the parts are those of the work
+  pub sound_by_parts : (Noted : Cell → Type 0) (work : Work Probe) (hand : Option (Hand Probe)) (top : Option (Frame Probe))
+      → work.hand ≡ hand → work.top ≡ top → IsSound memo p Noted work pass
+      → IsSound memo p Noted (with_parts work hand top) pass
+  sound_by_parts Noted work hand top in_hand on_top sound =
+      subst (λ top. IsSound memo p Noted (with_parts work hand top) pass) on_top
+      (subst (λ hand. IsSound memo p Noted (with_parts work hand work.top) pass) in_hand sound)
+
+  pub left_by_parts : (m : ℕ) (arguments : List SplitArgument) (work : Work Probe) (hand : Option (Hand Probe)) (top : Option (Frame Probe))
+      → work.hand ≡ hand → work.top ≡ top
+      → work_left memo p m arguments (with_parts work hand top) pass ≤ work_left memo p m arguments work pass
+  left_by_parts m arguments work hand top in_hand on_top =
+      subst (λ top. work_left memo p m arguments (with_parts work hand top) pass ≤ work_left memo p m arguments work pass) on_top
+      (subst
+      (λ hand. work_left memo p m arguments (with_parts work hand work.top) pass ≤ work_left memo p m arguments work pass)
+      in_hand (omega arith))
+
+  pub loads_by_parts : (fresh ended ended' : Bool) (hand hand' : Option (Hand Probe)) (ready ready' : Option Answer)
+      → ended ≡ ended' → hand ≡ hand' → ready ≡ ready'
+      → LoadsAsTold memo pass (looked_for p hand' ready') (loads_at memo fresh ended' hand' ready')
+      → LoadsAsTold memo pass (looked_for p hand ready) (loads_at memo fresh ended hand ready)
+  loads_by_parts fresh ended ended' hand hand' ready ready' at_end in_hand answered told =
+      subst (λ e. LoadsAsTold memo pass (looked_for p hand ready) (loads_at memo fresh e hand ready)) (sym at_end)
+      (subst (λ h. LoadsAsTold memo pass (looked_for p h ready) (loads_at memo fresh ended' h ready)) (sym in_hand)
+      (subst (λ r. LoadsAsTold memo pass (looked_for p hand' r) (loads_at memo fresh ended' hand' r)) (sym answered) told))
 
 -- there is room as before
 pub room_moved : {Probe : Type 0} (p : PosedProblem) (work : Work Probe) (moves : ℕ) → HasRoom p work → HasRoom p (with_moves work moves)

@@ -1,13 +1,15 @@
 use Rattle.std.proofs.Common.{◌≡◌, ◌↔◌, ℕ, true, inl, inr, ◌∷◌, refl, sym, subst, ap, ◌∙◌, arith}
 use Rattle.std.specs.Prelude.{reverse}
+use Rattle.std.proofs.lemmas.Bool.{false≢true}
+use Rattle.std.proofs.lemmas.Option.{none-some}
 use Rattle.adp_model.specs.declared.cell.Cell.{Cell}
-use Rattle.adp_model.specs.Demand.{IsDemandedCount}
+use Rattle.adp_model.specs.Demand.{IsDemanded, IsDemandedCount}
 use Rattle.adp_model.specs.Memos.{IsScoreOf, AddsAtMost, IsAdded, IsOnRecordWord}
 use Rattle.cell_core.specs.Working.{frames_of, with_hand}
 use Rattle.cell_core.proofs.Heights.{heights}
 use Rattle.cell_core.proofs.Changes.{few_opened_so, few_of, room_if, frame_added}
 use Rattle.cell_core.proofs.Kept.{noted_known}
-use Rattle.cell_core.proofs.Worked.{hand_is_in, hand_below, few_stand, look_on_sound, look_on_left, look_open_sound, look_open_left, look_end_sound, look_end_left, look_found_sound, look_found_left, room_kept, room_under, room_ended}
+use Rattle.cell_core.proofs.Worked.{hand_is_in, hand_demanded, hand_below, few_stand, look_on_sound, look_on_left, look_open_sound, look_open_left, look_end_sound, look_end_left, look_found_sound, look_found_left, room_kept, room_under, room_ended}
 use Rattle.cell_core.proofs.work.look.Goals as goal
 
 pub returns-in-Going-clause-wins : goal.returns-in-Going-clause-wins
@@ -114,3 +116,155 @@ returns-clause-lower g c = λ m arguments counted.
 
 pub returns-in-Some-clause-wins : goal.returns-in-Some-clause-wins
 returns-in-Some-clause-wins g c = let w = c.look_step.ensures.wins in (0, omega arith, omega arith, omega arith)
+
+pub look_step-requires-clause-own : goal.look_step-requires-clause-own
+look_step-requires-clause-own g c = c.requires.own
+
+pub look_step-requires-clause-open : goal.look_step-requires-clause-open
+look_step-requires-clause-open g c =
+    let own = hand_is_in g.M.Memo.meaning c.args.problem.now (heights c.args.problem.now c.admissible.ensures c.heights_fall.ensures.falls c.heights_fall.ensures.few) (g.N.Notes.noted c.args.notes.now) c.args.pass.now (with_hand c.args.work.now c.args.hand) c.args.hand (frames_of c.args.work.now.top c.args.work.now.below.items) (record { going = c.requires.going; hand_is = refl; frames_are = refl; ready_is = c.requires.no_answer }) c.requires.sound in
+    own.still_open
+
+pub look_step-requires-clause-follows : goal.look_step-requires-clause-follows
+look_step-requires-clause-follows g c =
+    let own = hand_is_in g.M.Memo.meaning c.args.problem.now (heights c.args.problem.now c.admissible.ensures c.heights_fall.ensures.falls c.heights_fall.ensures.few) (g.N.Notes.noted c.args.notes.now) c.args.pass.now (with_hand c.args.work.now c.args.hand) c.args.hand (frames_of c.args.work.now.top c.args.work.now.below.items) (record { going = c.requires.going; hand_is = refl; frames_are = refl; ready_is = c.requires.no_answer }) c.requires.sound in
+    own.follows
+
+pub opened_visit-visit-requires : goal.opened_visit-visit-requires
+opened_visit-visit-requires g c = record {
+  demanded = hand_demanded g.M.Memo.meaning c.args.problem.now (heights c.args.problem.now c.admissible.ensures c.heights_fall.ensures.falls c.heights_fall.ensures.few) (g.N.Notes.noted c.args.notes.now) c.args.pass.now (with_hand c.args.work.now c.args.hand) c.args.hand (frames_of c.args.work.now.top c.args.work.now.below.items) (record { going = c.requires.going; hand_is = refl; frames_are = refl; ready_is = c.requires.no_answer }) c.requires.sound;
+}
+
+pub note-requires-clause-demanded : goal.note-requires-clause-demanded
+note-requires-clause-demanded g c =
+    subst (λ q. IsDemanded q c.args.hand.cell) (sym c.requires.notes)
+    (hand_demanded g.M.Memo.meaning c.args.problem.now (heights c.args.problem.now c.admissible.ensures c.heights_fall.ensures.falls c.heights_fall.ensures.few) (g.N.Notes.noted c.args.notes.now) c.args.pass.now (with_hand c.args.work.now c.args.hand) c.args.hand (frames_of c.args.work.now.top c.args.work.now.below.items) (record { going = c.requires.going; hand_is = refl; frames_are = refl; ready_is = c.requires.no_answer }) c.requires.sound)
+
+pub note-requires-clause-score : goal.note-requires-clause-score
+note-requires-clause-score g c =
+    let own = hand_is_in g.M.Memo.meaning c.args.problem.now (heights c.args.problem.now c.admissible.ensures c.heights_fall.ensures.falls c.heights_fall.ensures.few) (g.N.Notes.noted c.args.notes.now) c.args.pass.now (with_hand c.args.work.now c.args.hand) c.args.hand (frames_of c.args.work.now.top c.args.work.now.below.items) (record { going = c.requires.going; hand_is = refl; frames_are = refl; ready_is = c.requires.no_answer }) c.requires.sound in
+    subst (λ q. IsScoreOf q c.args.hand.cell c.in-Found.score) (c.requires.memo ∙ sym c.requires.notes)
+    (subst (λ (cell : Cell). IsScoreOf (g.M.Memo.problem c.args.memo.now) cell c.in-Found.score) own.cell c.in-Found.ensures.look.2)
+
+pub returns-in-Going-clause-notes : goal.returns-in-Going-clause-notes
+returns-in-Going-clause-notes g c = c.requires.notes
+
+pub returns-in-Going-clause-own : goal.returns-in-Going-clause-own
+returns-in-Going-clause-own g c = c.look_step.ensures.own
+
+pub returns-in-Going-clause-share : goal.returns-in-Going-clause-share
+returns-in-Going-clause-share g c = c.look_step.ensures.share
+
+pub returns-in-Going-clause-known : goal.returns-in-Going-clause-known
+returns-in-Going-clause-known g c = c.look_step.ensures.known
+
+pub returns-in-Going-clause-steps : goal.returns-in-Going-clause-steps
+returns-in-Going-clause-steps g c = c.look_step.ensures.steps
+
+pub returns-in-Going-clause-moves : goal.returns-in-Going-clause-moves
+returns-in-Going-clause-moves g c = refl
+
+pub returns-in-Going-clause-frames : goal.returns-in-Going-clause-frames
+returns-in-Going-clause-frames g c = inl refl
+
+pub returns-in-Going-clause-next : goal.returns-in-Going-clause-next
+returns-in-Going-clause-next g c = λ h e t. none-some _ (sym h)
+
+pub returns-in-Going-clause-no_answer : goal.returns-in-Going-clause-no_answer
+returns-in-Going-clause-no_answer g c = c.requires.no_answer
+
+pub returns-in-Going-clause-loads : goal.returns-in-Going-clause-loads
+returns-in-Going-clause-loads g c =
+    let own = hand_is_in g.M.Memo.meaning c.args.problem.now (heights c.args.problem.now c.admissible.ensures c.heights_fall.ensures.falls c.heights_fall.ensures.few) (g.N.Notes.noted c.args.notes.now) c.args.pass.now (with_hand c.args.work.now c.args.hand) c.args.hand (frames_of c.args.work.now.top c.args.work.now.below.items) (record { going = c.requires.going; hand_is = refl; frames_are = refl; ready_is = c.requires.no_answer }) c.requires.sound in
+    subst (λ (cell : Cell). (g.M.Memo.meaning.loads c.args.hand.probe ≡ true) ↔ ((found : ℕ) × IsOnRecordWord g.M.Memo.meaning c.look_step.new.pass cell found)) own.cell c.look_step.ensures.loads
+
+pub returns-in-Unpublished-clause-notes : goal.returns-in-Unpublished-clause-notes
+returns-in-Unpublished-clause-notes g c = c.requires.notes
+
+pub returns-in-Unpublished-clause-own : goal.returns-in-Unpublished-clause-own
+returns-in-Unpublished-clause-own g c = c.look_step.ensures.own
+
+pub returns-in-Unpublished-clause-share : goal.returns-in-Unpublished-clause-share
+returns-in-Unpublished-clause-share g c = c.look_step.ensures.share
+
+pub returns-in-Unpublished-clause-known : goal.returns-in-Unpublished-clause-known
+returns-in-Unpublished-clause-known g c = c.look_step.ensures.known
+
+pub returns-in-Unpublished-clause-steps : goal.returns-in-Unpublished-clause-steps
+returns-in-Unpublished-clause-steps g c = c.look_step.ensures.steps
+
+pub returns-in-Unpublished-clause-moves : goal.returns-in-Unpublished-clause-moves
+returns-in-Unpublished-clause-moves g c = c.open.ensures.moves
+
+pub returns-in-Unpublished-clause-next : goal.returns-in-Unpublished-clause-next
+returns-in-Unpublished-clause-next g c = λ h e t. none-some _ (sym t ∙ c.open.ensures.top)
+
+pub returns-in-Unpublished-clause-no_answer : goal.returns-in-Unpublished-clause-no_answer
+returns-in-Unpublished-clause-no_answer g c = c.open.ensures.ready ∙ c.requires.no_answer
+
+pub returns-in-Some-clause-notes : goal.returns-in-Some-clause-notes
+returns-in-Some-clause-notes g c = c.note.ensures.problem ∙ c.requires.notes
+
+pub returns-in-Some-clause-own : goal.returns-in-Some-clause-own
+returns-in-Some-clause-own g c = c.look_step.ensures.own
+
+pub returns-in-Some-clause-share : goal.returns-in-Some-clause-share
+returns-in-Some-clause-share g c = c.look_step.ensures.share
+
+pub returns-in-Some-clause-known : goal.returns-in-Some-clause-known
+returns-in-Some-clause-known g c = c.look_step.ensures.known
+
+pub returns-in-Some-clause-steps : goal.returns-in-Some-clause-steps
+returns-in-Some-clause-steps g c = c.look_step.ensures.steps
+
+pub returns-in-Some-clause-moves : goal.returns-in-Some-clause-moves
+returns-in-Some-clause-moves g c = refl
+
+pub returns-in-Some-clause-frames : goal.returns-in-Some-clause-frames
+returns-in-Some-clause-frames g c = inl refl
+
+pub returns-in-Some-clause-next : goal.returns-in-Some-clause-next
+returns-in-Some-clause-next g c = λ h e t. none-some _ (sym t ∙ c.in-Some.is)
+
+pub returns-in-Some-clause-no_answer : goal.returns-in-Some-clause-no_answer
+returns-in-Some-clause-no_answer g c = c.requires.no_answer
+
+pub returns-in-Some-clause-loads : goal.returns-in-Some-clause-loads
+returns-in-Some-clause-loads g c =
+    let own = hand_is_in g.M.Memo.meaning c.args.problem.now (heights c.args.problem.now c.admissible.ensures c.heights_fall.ensures.falls c.heights_fall.ensures.few) (g.N.Notes.noted c.args.notes.now) c.args.pass.now (with_hand c.args.work.now c.args.hand) c.args.hand (frames_of c.args.work.now.top c.args.work.now.below.items) (record { going = c.requires.going; hand_is = refl; frames_are = refl; ready_is = c.requires.no_answer }) c.requires.sound in
+    subst (λ (cell : Cell). (g.M.Memo.meaning.loads c.args.hand.probe ≡ true) ↔ ((found : ℕ) × IsOnRecordWord g.M.Memo.meaning c.look_step.new.pass cell found)) own.cell c.look_step.ensures.loads
+
+pub returns-clause-notes : goal.returns-clause-notes
+returns-clause-notes g c = c.note.ensures.problem ∙ c.requires.notes
+
+pub returns-clause-own : goal.returns-clause-own
+returns-clause-own g c = c.look_step.ensures.own
+
+pub returns-clause-share : goal.returns-clause-share
+returns-clause-share g c = c.look_step.ensures.share
+
+pub returns-clause-known : goal.returns-clause-known
+returns-clause-known g c = c.look_step.ensures.known
+
+pub returns-clause-steps : goal.returns-clause-steps
+returns-clause-steps g c = c.look_step.ensures.steps
+
+pub returns-clause-moves : goal.returns-clause-moves
+returns-clause-moves g c = refl
+
+pub returns-clause-frames : goal.returns-clause-frames
+returns-clause-frames g c = inl refl
+
+pub returns-clause-next : goal.returns-clause-next
+returns-clause-next g c = λ h e t. false≢true (sym e)
+
+pub returns-clause-no_answer : goal.returns-clause-no_answer
+returns-clause-no_answer g c = c.requires.no_answer
+
+pub returns-clause-loads : goal.returns-clause-loads
+returns-clause-loads g c =
+    let own = hand_is_in g.M.Memo.meaning c.args.problem.now (heights c.args.problem.now c.admissible.ensures c.heights_fall.ensures.falls c.heights_fall.ensures.few) (g.N.Notes.noted c.args.notes.now) c.args.pass.now (with_hand c.args.work.now c.args.hand) c.args.hand (frames_of c.args.work.now.top c.args.work.now.below.items) (record { going = c.requires.going; hand_is = refl; frames_are = refl; ready_is = c.requires.no_answer }) c.requires.sound in
+    subst (λ (cell : Cell). (g.M.Memo.meaning.loads c.args.hand.probe ≡ true) ↔ ((found : ℕ) × IsOnRecordWord g.M.Memo.meaning c.look_step.new.pass cell found)) own.cell c.look_step.ensures.loads
+
+pub returns-clause-wins : goal.returns-clause-wins
+returns-clause-wins g c = let w = c.look_step.ensures.wins in (0, omega arith, omega arith, omega arith)

@@ -1,13 +1,15 @@
-use Rattle.std.proofs.Common.{inr, ◌+◌, refl, sym, subst, ◌∙◌, arith}
+use Rattle.std.proofs.Common.{inl, inr, ◌+◌, refl, sym, subst, ◌∙◌, arith}
 use Rattle.std.specs.Prelude.{reverse}
+use Rattle.std.proofs.lemmas.Option.{none-some}
 use Rattle.adp_model.specs.declared.cell.Cell.{Cell}
-use Rattle.adp_model.specs.Demand.{IsDemandedChild, IsDemandedCount}
+use Rattle.adp_model.specs.Answers.{IsAnswer}
+use Rattle.adp_model.specs.Demand.{IsDemanded, IsDemandedChild, IsDemandedCount}
 use Rattle.adp_model.specs.Memos.{IsAdded, IsOnRecordWord}
 use Rattle.cell_core.specs.Working.{with_top}
 use Rattle.cell_core.proofs.Heights.{heights}
 use Rattle.cell_core.proofs.Changes.{few_wins_so}
-use Rattle.cell_core.proofs.Worked.{top_following, answer_right, children_known, publish_on_sound, publish_on_left, room_top}
-use Rattle.cell_core.proofs.Closing.{closed_sound, closed_left, closed_frames}
+use Rattle.cell_core.proofs.Worked.{published_demanded, top_following, top_unpublished, answer_right, children_known, publish_on_sound, publish_on_left, room_top}
+use Rattle.cell_core.proofs.Closing.{on_with_a_top, closed_sound, closed_left, closed_frames}
 use Rattle.cell_core.proofs.work.publish.Goals as goal
 
 pub publish_step-requires-clause-children : goal.publish_step-requires-clause-children
@@ -97,3 +99,125 @@ returns-in-Lost-clause-lower g c = λ m arguments counted.
     let added = subst (λ (cell : Cell). IsAdded cell (g.M.Memo.meaning.known c.args.pass.now) (g.M.Memo.meaning.known c.publish_step.new.pass)) own.cell e.publish.1 in
     closed_left g.M.Memo.meaning c.args.problem.now (heights c.args.problem.now c.admissible.ensures c.heights_fall.ensures.falls c.heights_fall.ensures.few) (g.N.Notes.noted c.args.notes.now) c.args.pass.now c.publish_step.new.pass (λ probe apart f. g.met.M.Memo.follows_on probe _ _ c.publish_step.ensures.on apart f) c.publish_step.ensures.known c.args.work.now c.close-in-Lost.new.work c.args.top c.args.answer (record { going = c.requires.going; hand_is = c.requires.no_hand; frames_are = refl; ready_is = c.requires.answer }) c.requires.sound c.args.work.now.wins c.score_of-score.result c.close-in-Lost.ensures.closed
     m arguments added.known c.publish_step.new.probe (c.publish_step.ensures.fewer m (subst (λ q. IsDemandedCount q m) (sym c.requires.memo) counted))
+
+pub publish_step-requires-clause-own : goal.publish_step-requires-clause-own
+publish_step-requires-clause-own g c = c.requires.own
+
+pub publish_step-requires-clause-unpublished : goal.publish_step-requires-clause-unpublished
+publish_step-requires-clause-unpublished g c =
+    top_unpublished g.M.Memo.meaning c.args.problem.now (heights c.args.problem.now c.admissible.ensures c.heights_fall.ensures.falls c.heights_fall.ensures.few) (g.N.Notes.noted c.args.notes.now) c.args.pass.now (with_top c.args.work.now c.args.top) c.args.top (reverse c.args.work.now.below.items) c.args.answer (record { going = c.requires.going; hand_is = c.requires.no_hand; frames_are = refl; ready_is = c.requires.answer }) c.requires.sound
+
+pub publish_step-requires-clause-follows : goal.publish_step-requires-clause-follows
+publish_step-requires-clause-follows g c =
+    let own = top_following g.M.Memo.meaning c.args.problem.now (heights c.args.problem.now c.admissible.ensures c.heights_fall.ensures.falls c.heights_fall.ensures.few) (g.N.Notes.noted c.args.notes.now) c.args.pass.now (with_top c.args.work.now c.args.top) c.args.top (reverse c.args.work.now.below.items) c.args.answer (record { going = c.requires.going; hand_is = c.requires.no_hand; frames_are = refl; ready_is = c.requires.answer }) c.requires.sound in
+    own.follows
+
+pub publish_step-requires-clause-answer : goal.publish_step-requires-clause-answer
+publish_step-requires-clause-answer g c =
+    let own = top_following g.M.Memo.meaning c.args.problem.now (heights c.args.problem.now c.admissible.ensures c.heights_fall.ensures.falls c.heights_fall.ensures.few) (g.N.Notes.noted c.args.notes.now) c.args.pass.now (with_top c.args.work.now c.args.top) c.args.top (reverse c.args.work.now.below.items) c.args.answer (record { going = c.requires.going; hand_is = c.requires.no_hand; frames_are = refl; ready_is = c.requires.answer }) c.requires.sound in
+    subst (λ q. IsAnswer q (g.M.Memo.meaning.cell c.args.top.probe) c.args.answer) (sym c.requires.memo)
+    (subst (λ (cell : Cell). IsAnswer c.args.problem.now cell c.args.answer) (sym own.cell)
+    (answer_right g.M.Memo.meaning c.args.problem.now (heights c.args.problem.now c.admissible.ensures c.heights_fall.ensures.falls c.heights_fall.ensures.few) (g.N.Notes.noted c.args.notes.now) c.args.pass.now (with_top c.args.work.now c.args.top) c.args.top (reverse c.args.work.now.below.items) c.args.answer (record { going = c.requires.going; hand_is = c.requires.no_hand; frames_are = refl; ready_is = c.requires.answer }) c.requires.sound))
+
+pub close-requires-clause-taken : goal.close-requires-clause-taken
+close-requires-clause-taken g c = c.requires.taken
+
+pub close-requires-clause-demanded : goal.close-requires-clause-demanded
+close-requires-clause-demanded g c =
+    subst (λ q. IsDemanded q c.args.top.visit.cell) (sym c.requires.notes)
+    (published_demanded g.M.Memo.meaning c.args.problem.now (heights c.args.problem.now c.admissible.ensures c.heights_fall.ensures.falls c.heights_fall.ensures.few) (g.N.Notes.noted c.args.notes.now) c.args.pass.now (with_top c.args.work.now c.args.top) c.args.top (reverse c.args.work.now.below.items) c.args.answer (record { going = c.requires.going; hand_is = c.requires.no_hand; frames_are = refl; ready_is = c.requires.answer }) c.requires.sound)
+
+pub close-requires-clause-score : goal.close-requires-clause-score
+close-requires-clause-score g c =
+    c.score_of-score.ensures (g.N.Notes.problem c.args.notes.now) c.args.top.visit.cell
+    (subst (λ q. IsAnswer q c.args.top.visit.cell c.args.answer) (sym c.requires.notes)
+    (answer_right g.M.Memo.meaning c.args.problem.now (heights c.args.problem.now c.admissible.ensures c.heights_fall.ensures.falls c.heights_fall.ensures.few) (g.N.Notes.noted c.args.notes.now) c.args.pass.now (with_top c.args.work.now c.args.top) c.args.top (reverse c.args.work.now.below.items) c.args.answer (record { going = c.requires.going; hand_is = c.requires.no_hand; frames_are = refl; ready_is = c.requires.answer }) c.requires.sound))
+
+pub close-requires-in-Lost-clause-taken : goal.close-requires-in-Lost-clause-taken
+close-requires-in-Lost-clause-taken g c = c.requires.taken
+
+pub close-requires-in-Lost-clause-demanded : goal.close-requires-in-Lost-clause-demanded
+close-requires-in-Lost-clause-demanded g c =
+    subst (λ q. IsDemanded q c.args.top.visit.cell) (sym c.requires.notes)
+    (published_demanded g.M.Memo.meaning c.args.problem.now (heights c.args.problem.now c.admissible.ensures c.heights_fall.ensures.falls c.heights_fall.ensures.few) (g.N.Notes.noted c.args.notes.now) c.args.pass.now (with_top c.args.work.now c.args.top) c.args.top (reverse c.args.work.now.below.items) c.args.answer (record { going = c.requires.going; hand_is = c.requires.no_hand; frames_are = refl; ready_is = c.requires.answer }) c.requires.sound)
+
+pub close-requires-in-Lost-clause-score : goal.close-requires-in-Lost-clause-score
+close-requires-in-Lost-clause-score g c =
+    c.score_of-score.ensures (g.N.Notes.problem c.args.notes.now) c.args.top.visit.cell
+    (subst (λ q. IsAnswer q c.args.top.visit.cell c.args.answer) (sym c.requires.notes)
+    (answer_right g.M.Memo.meaning c.args.problem.now (heights c.args.problem.now c.admissible.ensures c.heights_fall.ensures.falls c.heights_fall.ensures.few) (g.N.Notes.noted c.args.notes.now) c.args.pass.now (with_top c.args.work.now c.args.top) c.args.top (reverse c.args.work.now.below.items) c.args.answer (record { going = c.requires.going; hand_is = c.requires.no_hand; frames_are = refl; ready_is = c.requires.answer }) c.requires.sound))
+
+pub returns-in-Going-clause-notes : goal.returns-in-Going-clause-notes
+returns-in-Going-clause-notes g c = c.requires.notes
+
+pub returns-in-Going-clause-own : goal.returns-in-Going-clause-own
+returns-in-Going-clause-own g c = c.publish_step.ensures.own
+
+pub returns-in-Going-clause-share : goal.returns-in-Going-clause-share
+returns-in-Going-clause-share g c = c.publish_step.ensures.share
+
+pub returns-in-Going-clause-known : goal.returns-in-Going-clause-known
+returns-in-Going-clause-known g c = c.publish_step.ensures.known
+
+pub returns-in-Going-clause-steps : goal.returns-in-Going-clause-steps
+returns-in-Going-clause-steps g c = c.publish_step.ensures.steps
+
+pub returns-in-Going-clause-moves : goal.returns-in-Going-clause-moves
+returns-in-Going-clause-moves g c = refl
+
+pub returns-in-Going-clause-frames : goal.returns-in-Going-clause-frames
+returns-in-Going-clause-frames g c = inl refl
+
+pub returns-in-Going-clause-next : goal.returns-in-Going-clause-next
+returns-in-Going-clause-next g c = λ r e t. none-some _ (sym t)
+
+pub returns-in-Going-clause-no_hand : goal.returns-in-Going-clause-no_hand
+returns-in-Going-clause-no_hand g c = c.requires.no_hand
+
+pub returns-in-Won-clause-notes : goal.returns-in-Won-clause-notes
+returns-in-Won-clause-notes g c = c.close.ensures.notes ∙ c.requires.notes
+
+pub returns-in-Won-clause-own : goal.returns-in-Won-clause-own
+returns-in-Won-clause-own g c = c.publish_step.ensures.own
+
+pub returns-in-Won-clause-share : goal.returns-in-Won-clause-share
+returns-in-Won-clause-share g c = c.publish_step.ensures.share
+
+pub returns-in-Won-clause-known : goal.returns-in-Won-clause-known
+returns-in-Won-clause-known g c = c.publish_step.ensures.known
+
+pub returns-in-Won-clause-steps : goal.returns-in-Won-clause-steps
+returns-in-Won-clause-steps g c = c.publish_step.ensures.steps
+
+pub returns-in-Won-clause-moves : goal.returns-in-Won-clause-moves
+returns-in-Won-clause-moves g c = c.close.ensures.closed.moves
+
+pub returns-in-Won-clause-next : goal.returns-in-Won-clause-next
+returns-in-Won-clause-next g c = λ r e. on_with_a_top _ _ _ c.close.ensures.closed e
+
+pub returns-in-Won-clause-no_hand : goal.returns-in-Won-clause-no_hand
+returns-in-Won-clause-no_hand g c = c.close.ensures.closed.hand ∙ c.requires.no_hand
+
+pub returns-in-Lost-clause-notes : goal.returns-in-Lost-clause-notes
+returns-in-Lost-clause-notes g c = c.close-in-Lost.ensures.notes ∙ c.requires.notes
+
+pub returns-in-Lost-clause-own : goal.returns-in-Lost-clause-own
+returns-in-Lost-clause-own g c = c.publish_step.ensures.own
+
+pub returns-in-Lost-clause-share : goal.returns-in-Lost-clause-share
+returns-in-Lost-clause-share g c = c.publish_step.ensures.share
+
+pub returns-in-Lost-clause-known : goal.returns-in-Lost-clause-known
+returns-in-Lost-clause-known g c = c.publish_step.ensures.known
+
+pub returns-in-Lost-clause-steps : goal.returns-in-Lost-clause-steps
+returns-in-Lost-clause-steps g c = c.publish_step.ensures.steps
+
+pub returns-in-Lost-clause-moves : goal.returns-in-Lost-clause-moves
+returns-in-Lost-clause-moves g c = c.close-in-Lost.ensures.closed.moves
+
+pub returns-in-Lost-clause-next : goal.returns-in-Lost-clause-next
+returns-in-Lost-clause-next g c = λ r e. on_with_a_top _ _ _ c.close-in-Lost.ensures.closed e
+
+pub returns-in-Lost-clause-no_hand : goal.returns-in-Lost-clause-no_hand
+returns-in-Lost-clause-no_hand g c = c.close-in-Lost.ensures.closed.hand ∙ c.requires.no_hand
