@@ -74,3 +74,6 @@ returns-in-Some-clause-unpublished g c = (
       let same = ap value_of c.in-Some.is in
       omega (arith, zero_is, some, same)),
 )
+
+pub returns-in-Some-clause-four_left : goal.returns-in-Some-clause-four_left
+returns-in-Some-clause-four_left g c = λ m counted e. absurd (let f : looks.Found c.score.result ≡ looks.Unpublished = e in cc)
