@@ -11,6 +11,7 @@ ghost use Rattle.memo_words.specs.Passes.{IsPassOf, view_of, problem_of, plan_of
 ghost use Rattle.memo_words.specs.Views.{first_view, joined};
 ghost use Rattle.evaluators.specs.Posts.{posts_of};
 ghost use Rattle.evaluators.specs.Driving.{HasStepsOfFresh};
+ghost use Rattle.evaluators.specs.Hiring.{IsHired};
 ghost use Rattle.evaluators.specs.Working.{IsReady, IsAtWork, first_orders, post_of};
 ghost use Rattle.evaluators.specs.Joined.{IsJoined};
 ghost use Rattle.evaluators.specs.Runs.{IsFinished, HaveAllEnded, HasFirstEnded, wins_of};
@@ -81,7 +82,10 @@ fn team_for<'a, 'g, G: Gate>(
 }
 
 /// The prepared problem, shared by all workers.
-fn prepare<'a>(alloc: Global, problem: &'a Problem<'a>) -> Result<Arc<Prepared<'a>, Global>, AllocError>
+fn prepare<'a>(
+    alloc: Global,
+    problem: &'a Problem<'a>,
+) -> Result<Arc<Prepared<'a>, Global>, AllocError>
     ensures problem { IfOk result (λ prepared. arc_value prepared ≡ problem.now) }
     ensures admissible { IsAdmissible problem.now }
 {
@@ -114,12 +118,28 @@ pub(crate) fn team<'a, 'g, G: Gate>(
     let mut team = Vec::new(alloc);
     for number in 0..count - 1 {
         let other = table.split(&mut pass);
-        let worker = worker(alloc, prepared, other, number, seed)?;
-        team.push(GatedWorker { worker, gate })?;
+        hire(alloc, &mut team, prepared, gate, other, number, seed)?;
     }
-    let worker = worker(alloc, prepared, pass, count - 1, seed)?;
-    team.push(GatedWorker { worker, gate })?;
+    hire(alloc, &mut team, prepared, gate, pass, count - 1, seed)?;
     Ok(team)
+}
+
+/// One more worker, with a fresh machine, for the team.
+fn hire<'a, 'g, G: Gate>(
+    alloc: Global,
+    team: &mut Vec<GatedWorker<'g, TableWorker<'a>, G>>,
+    prepared: &Arc<Prepared<'a>, Global>,
+    gate: &'g G,
+    pass: Pass,
+    number: u32,
+    seed: u64,
+) -> Result<(), AllocError>
+    ensures { IfOk result (λ _. IsHired (λ gated. gated.worker) (arc_value prepared.now) seed number pass
+        team.old.items team.new.items) }
+{
+    let worker = worker(alloc, prepared, pass, number, seed)?;
+    team.push(GatedWorker { worker, gate })?;
+    Ok(())
 }
 
 /// A worker with a fresh machine.
