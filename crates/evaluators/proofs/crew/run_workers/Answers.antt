@@ -1,6 +1,7 @@
 use Rattle.std.proofs.Common.{◌≡◌, true, map, All, sym, ap, ◌∙◌, subst}
 use Rattle.memo_words.specs.Passes.{problem_of}
 use Rattle.evaluators.specs.Posts.{posts_of}
+use Rattle.evaluators.specs.Joined.{IsJoined}
 use Rattle.evaluators.specs.Runs.{HasFirstEnded, ended_of}
 use Rattle.evaluators.specs.Working.{TableWorker, post_of}
 use Rattle.evaluators.specs.declared.gated.GatedWorker.{GatedWorker}
@@ -43,3 +44,8 @@ returns-clause-ended g c =
     subst (All (λ machine. ended_of machine ≡ true))
     (sym (c.finish.ensures.kept ∙ (c.in_ok-left.ensures {u = tt}).kept ∙ machines))
     (all_ended (λ (gated : GatedWorker TableWorker _). gated.worker) c.in_ok-table.table left c.run_all.ensures.done)
+
+pub finish-requires-clause-joined : goal.finish-requires-clause-joined
+finish-requires-clause-joined g c =
+    subst (λ count. IsJoined c.in_ok-table.table c.args.seed count c.in_ok-left.left)
+    (sym (c.in_ok-table.ensures {u = tt}).seats) (c.in_ok-left.ensures {u = tt}).joined
