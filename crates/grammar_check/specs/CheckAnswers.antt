@@ -4,9 +4,9 @@ use Rattle.adp_model.specs.declared.grammar.Grammar.{Grammar}
 use Rattle.adp_model.specs.Lengths.{IsProductive}
 use Rattle.adp_model.specs.GrammarFaults.{IsFirstFaulty, IsUnproductive, IsFaultless, IsGrammarFault}
 use Rattle.yield_sizes.specs.declared.rule_sizes.Sizes.{Sizes}
-use Rattle.yield_sizes.specs.declared.rule_anchors.Anchors.{Anchors}
 use Rattle.yield_sizes.specs.GrammarSizes.{AreAllProductive, AreSizes, AreAnchors}
 use Rattle.yield_sizes.specs.LoopAnswers.{IsLoopFree, AreRanks}
+use Rattle.grammar_check.specs.declared.checking.Findings.{Findings}
 use Rattle.grammar_check.specs.declared.error.CheckError.{CheckError}
 use Rattle.grammar_check.specs.declared.error.CheckError.TheVariants.{Fault, Memory}
 use Rattle.grammar_check.specs.CheckedGrammar.{CheckedGrammar}
@@ -38,10 +38,10 @@ MatchFaultless grammar name (Err (Fault fault)) = IsGrammarFault grammar name fa
 MatchFaultless grammar name (Err Memory) = Unit {0}
 
 -- the same with ranks and anchors of the rules
-abbrev pub MatchFindings : Grammar → List ℕ → Result (ℕ × Sizes × List ℕ × Anchors) CheckError → Type 0
+abbrev pub MatchFindings : Grammar → List ℕ → Result Findings CheckError → Type 0
 MatchFindings grammar name (Ok found) =
-    IsFaultless grammar name found.0 × AreSizes grammar found.1 × AreRanks grammar found.2
-    × AreAnchors grammar found.3
+    IsFaultless grammar name found.algebra × AreSizes grammar found.sizes × AreAnchors grammar found.anchors
+    × AreRanks grammar found.ranks
 MatchFindings grammar name (Err (Fault fault)) = IsGrammarFault grammar name fault
 MatchFindings grammar name (Err Memory) = Unit {0}
 

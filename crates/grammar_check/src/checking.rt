@@ -12,6 +12,15 @@ use algebra_terms::monotone;
 use std::alloc::{AllocError, Global};
 use yield_sizes::{Anchors, Sizes, anchors, first_loop, productive, ranks, sizes};
 
+/// What the checks find of a grammar that has no fault under an algebra, by its number.
+#[derive(Drop)]
+struct Findings {
+    algebra: u32,
+    sizes: Sizes,
+    anchors: Anchors,
+    ranks: Sequence<u32>,
+}
+
 /// The number of the algebra with this name.
 fn algebra_named(grammar: &Grammar, name: &Text) -> Option<u32>
     requires { IsTrue (is_well_formed grammar.now) }
@@ -107,19 +116,20 @@ fn faultless(alloc: Global, grammar: &Grammar, algebra: &Text) -> Result<(u32, S
     Ok((number, sizes))
 }
 
-/// What a checked grammar keeps: the number of the algebra, sizes, ranks and anchors.
-fn findings(
-    alloc: Global,
-    grammar: &Grammar,
-    algebra: &Text,
-) -> Result<(u32, Sizes, Sequence<u32>, Anchors), CheckError>
+/// What a checked grammar keeps beside the grammar, which has no fault under the algebra of this name.
+fn examine(alloc: Global, grammar: &Grammar, algebra: &Text) -> Result<Findings, CheckError>
     requires { IsTrue (is_well_formed grammar.now) }
     ensures { MatchFindings grammar.now algebra.now result }
 {
-    let (number, sizes) = faultless(alloc, grammar, algebra)?;
+    let (algebra, sizes) = faultless(alloc, grammar, algebra)?;
     let ranks = Sequence::new(ranks(alloc, grammar, &sizes)?);
     let anchors = anchors(alloc, grammar, &sizes)?;
-    Ok((number, sizes, ranks, anchors))
+    Ok(Findings {
+        algebra,
+        sizes,
+        anchors,
+        ranks,
+    })
 }
 
 /// Checks a grammar under its algebra of this name. A refusal is the first that holds: no algebra has the name; a rule
@@ -130,12 +140,12 @@ pub fn check(alloc: Global, grammar: Grammar, algebra: &Text) -> Result<Checked,
     ensures { MatchCheck grammar algebra.now result }
 {
     monotone_terms_keep_order();
-    let (number, sizes, ranks, anchors) = findings(alloc, &grammar, algebra)?;
+    let found = examine(alloc, &grammar, algebra)?;
     Ok(Checked {
         grammar,
-        algebra: number,
-        sizes,
-        anchors,
-        ranks,
+        algebra: found.algebra,
+        sizes: found.sizes,
+        anchors: found.anchors,
+        ranks: found.ranks,
     })
 }

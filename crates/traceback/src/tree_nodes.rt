@@ -40,11 +40,11 @@ pub fn preorder<A: Answers>(
     preferred_tree_is_unique();
     children_are_placed();
     let mut nodes = Vec::new(alloc);
-    let mut open = first_open(alloc, problem, answers)?;
-    while let Some(cell) = open.pop() {
+    let mut waiting = first_open(alloc, problem, answers)?;
+    while let Some(cell) = waiting.pop() {
         let choice = choice_at(problem, answers, cell);
         nodes.push(NodeAt { cell, choice })?;
-        push_children(&mut open, problem, cell, choice)?;
+        push_children(&mut waiting, problem, cell, choice)?;
     }
     Ok(nodes)
 }
@@ -90,19 +90,19 @@ fn choice_at<A: Answers>(problem: &Problem<'_>, answers: &A, cell: Cell) -> Choi
 
 /// Puts the cells of a split's rule arguments on the stack, the first on top.
 fn push_children(
-    open: &mut Vec<Cell>,
+    waiting: &mut Vec<Cell>,
     problem: &Problem<'_>,
     cell: Cell,
     choice: Choice,
 ) -> Result<(), AllocError>
     requires { choice.alt < length (alternatives_of problem.now.grammar cell.rule) }
-    ensures { OnOk result (open.new.items ≡ open.old.items
+    ensures { OnOk result (waiting.new.items ≡ waiting.old.items
         ++ stacked (placed problem.now cell choice.alt choice.cuts)) }
 {
     let [first, second, third] = choice.cuts;
     let ends = [first, second, third, cell.to];
     push_cells(
-        open,
+        waiting,
         problem.arguments(cell.rule, choice.alt),
         cell.from,
         &ends,
@@ -111,31 +111,31 @@ fn push_children(
 
 /// Puts the cells of the rules among these arguments on the stack, the first on top. There are at most four arguments.
 fn push_cells(
-    open: &mut Vec<Cell>,
+    waiting: &mut Vec<Cell>,
     arguments: &[Arg],
     from: u16,
     ends: &[u16],
 ) -> Result<(), AllocError>
-    ensures { OnOk result (open.new.items ≡ open.old.items ++ stacked (place arguments.now from ends.now)) }
+    ensures { OnOk result (waiting.new.items ≡ waiting.old.items ++ stacked (place arguments.now from ends.now)) }
 {
     match (arguments, ends) {
         ([], _) => Ok(()),
         (_, []) => Ok(()),
         ([argument, arguments @ ..], [to, ends @ ..]) => {
-            push_cells(open, arguments, *to, ends)?;
-            push_cell(open, argument, from, *to)
+            push_cells(waiting, arguments, *to, ends)?;
+            push_cell(waiting, argument, from, *to)
         }
     }
 }
 
 /// Puts the argument's cell on the stack, where it is a rule.
-fn push_cell(open: &mut Vec<Cell>, argument: &Arg, from: u16, to: u16) -> Result<(), AllocError>
-    ensures { OnOk result (open.new.items ≡ open.old.items
+fn push_cell(waiting: &mut Vec<Cell>, argument: &Arg, from: u16, to: u16) -> Result<(), AllocError>
+    ensures { OnOk result (waiting.new.items ≡ waiting.old.items
         ++ cell_of (record { argument = argument.now; from = from; to = to })) }
 {
     if let Arg::Rule(rule) = argument {
         let rule = *rule;
-        open.push(Cell { rule, from, to })?;
+        waiting.push(Cell { rule, from, to })?;
     }
     Ok(())
 }

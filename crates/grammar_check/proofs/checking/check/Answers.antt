@@ -5,9 +5,9 @@ use Rattle.grammar_check.proofs.checking.check.Goals as goal
 pub invariant_of-result : goal.invariant_of-result
 invariant_of-result c =
     let grammar = c.args.grammar in
-    let faultless = c.in_ok-number.ensures.0 in
-    let sizes = c.in_ok-number.ensures.1 in
-    let ranks = c.in_ok-number.ensures.2 in
+    let faultless = c.in_ok-found.ensures.0 in
+    let sizes = c.in_ok-found.ensures.1 in
+    let ranks = c.in_ok-found.ensures.3 in
     record {
       found = record {
         well_formed = c.requires;
@@ -19,10 +19,10 @@ invariant_of-result c =
         greatest_are = sizes.greatest_are;
         ranks_fall = ranks.fall;
         ranks_fit = ranks.fit;
-        orderly = λ sign inside. c.monotone_terms_keep_order.ensures (term_for grammar c.in_ok-number.number sign) (sign_at grammar sign).kinds (faultless.monotone sign inside);
+        orderly = λ sign inside. c.monotone_terms_keep_order.ensures (term_for grammar c.in_ok-found.found.algebra sign) (sign_at grammar sign).kinds (faultless.monotone sign inside);
       };
-      anchored = c.in_ok-number.ensures.3;
+      anchored = c.in_ok-found.ensures.2;
     }
 
 pub returns : goal.returns
-returns c = (refl, c.in_ok-number.ensures.0)
+returns c = (refl, c.in_ok-found.ensures.0)

@@ -4,7 +4,7 @@ use Rattle.traceback.specs.Listing.{IsListing}
 use Rattle.traceback.proofs.tree_nodes.preorder.Given as goal
 
 abbrev pub invariant-loop-cell : goal.invariant-loop-cell
-invariant-loop-cell g l = IsListing l.problem l.nodes.items l.open.items
+invariant-loop-cell g l = IsListing l.problem l.nodes.items l.waiting.items
 
 abbrev pub decreases-loop-cell : goal.decreases-loop-cell
 decreases-loop-cell g l = most_nodes + 1 - vec_len l.nodes
