@@ -2,7 +2,7 @@ ghost use Rattle.std.specs.Prelude.{◌≡◌, ◌≤◌, ℕ, map, length, Some
 ghost use Rattle.std.specs.String.{string_bytes};
 ghost use Rattle.adp_model.specs.Verdict.{IsVerdict, greatest_length};
 ghost use Rattle.adp_model.specs.CheckableJobs.{AreCheckable};
-ghost use Rattle.adp_model.specs.Command.{ReadsJob};
+ghost use Rattle.adp_model.specs.Command.{ReadsJob, schedule_of};
 ghost use Rattle.adp_model.specs.declared.fault.LimitFault.{LimitFault};
 ghost use Rattle.adp_main.specs.Commands.{IsCommandOf, asked_command};
 ghost use Rattle.adp_main.specs.Posed.{posed_words};
@@ -62,16 +62,15 @@ pub(crate) fn answer_bytes<R: Threads + Sync, K: Sink, G: Gate>(
     asked_grammar_is_unique();
     let job = checked_job(alloc, words, command, bytes)?;
     job.checked.passes();
-    let schedule = schedule_entries(alloc, words, command)?;
-    write_job(rt, alloc, command, &schedule, &job, out, gate)
+    write_job(rt, alloc, words, command, &job, out, gate)
 }
 
 /// Writes the reports of the words of a checked job, where each word keeps the limits.
 fn write_job<R: Threads + Sync, K: Sink, G: Gate>(
     rt: &R,
     alloc: Global,
+    words: &[String],
     command: &Command,
-    schedule: &[u8],
     job: &CheckedJob,
     out: &mut K,
     gate: &mut G,
@@ -85,20 +84,21 @@ fn write_job<R: Threads + Sync, K: Sink, G: Gate>(
     ensures untouched { IsBeforeWriting (status_after result) → out.new ≡ out.old }
     ensures ending { IsJobEnding (asked_command command.now) job.now.checked.grammar job.now.checked.algebra
         job.now.words result (K.held out.old) (K.held out.new) }
-    ensures noted { IsJobNoted (asked_command command.now) schedule.now (posed_words job.now.checked.grammar
-        job.now.checked.algebra job.now.words) (status_after result) (G.runs gate.old) (G.runs gate.new)
-        (K.held out.old) (K.held out.new) }
+    ensures noted { IsJobNoted (asked_command command.now) (schedule_of (map string_bytes words.now)
+        (asked_command command.now)) (posed_words job.now.checked.grammar job.now.checked.algebra job.now.words)
+        (status_after result) (G.runs gate.old) (G.runs gate.new) (K.held out.old) (K.held out.new) }
 {
-    let words = job.words.as_slice();
-    let rows = judge_words(alloc, &job.checked, words)?;
+    let schedule = schedule_entries(alloc, words, command)?;
+    let job_words = job.words.as_slice();
+    let rows = judge_words(alloc, &job.checked, job_words)?;
     write_words(
         rt,
         alloc,
         command,
-        schedule,
+        &schedule,
         &job.checked,
         &rows,
-        words,
+        job_words,
         out,
         gate,
     )

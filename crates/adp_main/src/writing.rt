@@ -1,17 +1,18 @@
 //! The reports of words that keep the limits, found and written one by one.
-ghost use Rattle.std.specs.Prelude.{◌≡◌, ◌≤◌, List, ℕ, length};
+ghost use Rattle.std.specs.Prelude.{◌≡◌, ◌≤◌, List, ℕ, length, vec_len};
 ghost use Rattle.std.specs.List.{AllByRecursion};
 ghost use Rattle.adp_io.specs.Causes.{RisesWhere};
 ghost use Rattle.adp_io.specs.Streams.{SameTold};
-ghost use Rattle.adp_model.specs.Command.{ReadsJob};
+ghost use Rattle.adp_model.specs.Command.{ReadsJob, Serial};
 ghost use Rattle.adp_model.specs.ProblemFields.{IsAdmissible};
+ghost use Rattle.evaluators.specs.Runs.{IsFinished};
 ghost use Rattle.grammar_check.specs.ToldRows.{AreRowsOf};
 ghost use Rattle.adp_main.specs.Commands.{asked_command};
 ghost use Rattle.adp_main.specs.Faults.{status_after};
 ghost use Rattle.adp_main.specs.Posed.{posed_words};
 ghost use Rattle.adp_main.specs.Reporting.{AreReportsOf, AreShort, HasWritten};
 ghost use Rattle.adp_main.specs.RunNotes.{AreNoted};
-ghost use Rattle.adp_main.specs.Writing.{IsReportWritten, IsWordEnding};
+ghost use Rattle.adp_main.specs.Writing.{HasRun, IsReportWritten, IsWordEnding};
 ghost use Rattle.adp_main.specs.declared.status.Status.TheVariants.{WriteFault};
 
 use crate::evaluating::{evaluate, evaluated_report};
@@ -22,7 +23,7 @@ use adp_io::{Sink, write_whole};
 use adp_model::laws::demand::demanded_cells_are_unique;
 use adp_model::laws::report::words_have_reports;
 use adp_model::{Problem, Text};
-use evaluators::Gate;
+use evaluators::{Finished, Gate};
 use grammar_check::{BoundRows, Checked};
 use report::Fault;
 use std::alloc::Global;
@@ -96,15 +97,38 @@ fn write_word<R: Threads + Sync, K: Sink, G: Gate>(
     ensures ending { IsWordEnding (asked_command command.now) schedule.now number problem.now result
         (G.runs gate.old) (G.runs gate.new) (K.held out.old) (K.held out.new) }
 {
-    demanded_cells_are_unique();
     if !command.mode.runs_evaluators() {
         let report = swept_report(alloc, number, problem)?;
         return write_report(out, &report);
     }
     let finished = evaluate(rt, alloc, command, schedule, problem, &*gate)?;
-    let report = evaluated_report(alloc, command, number, problem, &finished)?;
+    tell_run(alloc, command, number, problem, &finished, out, gate)
+}
+
+/// Writes the report of a word that evaluators solved, and tells the gate of the run once it is written.
+fn tell_run<K: Sink, G: Gate>(
+    alloc: Global,
+    command: &Command,
+    number: u32,
+    problem: &Problem<'_>,
+    finished: &Finished<'_>,
+    out: &mut K,
+    gate: &mut G,
+) -> Result<(), Fault>
+    requires mode { ReadsJob (asked_command command.now).mode }
+    requires other { (asked_command command.now).mode ≡ Serial → ⊥ }
+    requires finished { IsFinished problem.now (asked_command command.now).seed finished.now }
+    requires machines { vec_len finished.now.machines ≡ (asked_command command.now).workers }
+    ensures told { SameTold (K.held out.old) (K.held out.new) }
+    ensures faults { RisesWhere (K.faults out.old) (K.faults out.new) (status_after result ≡ WriteFault) }
+    ensures ending { (schedule : List ℕ) → HasRun (asked_command command.now).mode schedule finished.now
+        → IsWordEnding (asked_command command.now) schedule number problem.now result
+        (G.runs gate.old) (G.runs gate.new) (K.held out.old) (K.held out.new) }
+{
+    demanded_cells_are_unique();
+    let report = evaluated_report(alloc, command, number, problem, finished)?;
     write_report(out, &report)?;
-    gate.finished(problem, command.seed, &finished)?;
+    gate.finished(problem, command.seed, finished)?;
     Ok(())
 }
 

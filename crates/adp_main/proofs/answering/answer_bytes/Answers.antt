@@ -1,5 +1,4 @@
-use Rattle.std.proofs.Common.{[], inl, refl, ◌∙◌, arith}
-use Rattle.std.proofs.KnownBytes.{Appends-nil}
+use Rattle.std.proofs.Common.{inl, refl}
 use Rattle.std.proofs.lemmas.Result.{err_from_is_err_and}
 use Rattle.adp_main.specs.Commands.{asked_command}
 use Rattle.adp_main.proofs.Reported.{fault_of, first_of, grew_of, refused, short_of, shows_part, verdict_of}
@@ -38,7 +37,7 @@ returns-clause-checkable g c = λ word limit _.
 pub returns-clause-noted : goal.returns-clause-noted
 returns-clause-noted g c =
     runs_of _ _ (asked_command c.args.command.now) c.in_ok-job.job _ c.in_ok-job.ensures.job
-    (c.deref.ensures.value ∙ c.in_ok-schedule.ensures)
+    refl
     _ _ _ _ _ c.write_job.ensures.noted
 
 pub returns-in_err-job-clause-verdict : goal.returns-in_err-job-clause-verdict
@@ -61,16 +60,6 @@ write_job-requires-clause-some g c = λ _ _. c.command_is_unique.ensures.some_wo
 
 pub write_job-requires-clause-few_workers : goal.write_job-requires-clause-few_workers
 write_job-requires-clause-few_workers g c = λ _ _. c.command_is_unique.ensures.few_workers _ _ c.requires.command
-
-pub returns-in_err-schedule-clause-writing : goal.returns-in_err-schedule-clause-writing
-returns-in_err-schedule-clause-writing g c =
-    let p = err_from_is_err_and c.from_residual-in_err-schedule.result c.from_residual-in_err-schedule.ensures.1 in
-    rw (p.1, p.2) (record {
-      write_fault = record { later = omega arith; rises = λ e. cc; stands = λ _. refl };
-      told = refl;
-      grew = ([], Appends-nil _);
-      untouched = λ before. refl;
-    })
 
 pub returns-clause-short : goal.returns-clause-short
 returns-clause-short g c = short_of _ _ _ _ c.write_job.result _ _ c.write_job.ensures.ending

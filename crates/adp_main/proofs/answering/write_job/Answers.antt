@@ -1,4 +1,4 @@
-use Rattle.std.proofs.Common.{List, ap, inl, inr, refl, subst}
+use Rattle.std.proofs.Common.{ℕ, List, ◌∙◌, ap, inl, inr, refl, subst}
 use Rattle.std.proofs.lemmas.Result.{err_from_is_err_and}
 use Rattle.adp_model.specs.PosedProblem.{PosedProblem}
 use Rattle.adp_main.specs.Commands.{asked_command}
@@ -13,18 +13,26 @@ pub returns-clause-ending : goal.returns-clause-ending
 returns-clause-ending g c =
     let job = c.args.job.now in
     job_ending (asked_command c.args.command.now) job.checked.grammar job.checked.algebra job.words
-    (posed_words job.checked.grammar job.checked.algebra c.as_slice-words.result.now)
-    (ap (posed_words job.checked.grammar job.checked.algebra) c.as_slice-words.ensures) c.in_ok-rows.ensures.admissible
+    (posed_words job.checked.grammar job.checked.algebra c.as_slice-job_words.result.now)
+    (ap (posed_words job.checked.grammar job.checked.algebra) c.as_slice-job_words.ensures) c.in_ok-rows.ensures.admissible
     c.write_words.result _ _ c.write_words.ensures.written
 
 pub returns-clause-noted : goal.returns-clause-noted
 returns-clause-noted g c =
     let job = c.args.job.now in
-    inr (subst (λ (ps : List PosedProblem). AreNoted (asked_command c.args.command.now) c.args.schedule.now ps
+    let schedule = c.deref.ensures.value ∙ c.in_ok-schedule.ensures in
+    let problems = ap (posed_words job.checked.grammar job.checked.algebra) c.as_slice-job_words.ensures in
+    inr (subst (λ (it : List ℕ × List PosedProblem). AreNoted (asked_command c.args.command.now) it.0 it.1
     (status_after c.write_words.result) (g.G.Gate.runs c.args.gate.now) (g.G.Gate.runs c.write_words.new.gate)
-    (g.K.Sink.held c.args.out.now) (g.K.Sink.held c.write_words.new.out)) (ap (posed_words job.checked.grammar job.checked.algebra) c.as_slice-words.ensures) c.write_words.ensures.noted)
+    (g.K.Sink.held c.args.out.now) (g.K.Sink.held c.write_words.new.out)) (λ i. (schedule i, problems i))
+    c.write_words.ensures.noted)
+
+pub returns-in_err-schedule-clause-noted : goal.returns-in_err-schedule-clause-noted
+returns-in_err-schedule-clause-noted g c =
+    let p = err_from_is_err_and c.from_residual.result c.from_residual.ensures.1 in
+    rw (p.1, p.2) (inl (refl, λ e. cc))
 
 pub returns-in_err-rows-clause-noted : goal.returns-in_err-rows-clause-noted
 returns-in_err-rows-clause-noted g c =
-    let p = err_from_is_err_and c.from_residual.result c.from_residual.ensures.1 in
+    let p = err_from_is_err_and c.from_residual-in_err-rows.result c.from_residual-in_err-rows.ensures.1 in
     rw (p.1, p.2) (inl (refl, undone c.in_err-rows.field-0.0))
