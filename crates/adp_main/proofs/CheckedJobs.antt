@@ -7,7 +7,7 @@ use Rattle.adp_model.specs.Command as asked
 use Rattle.adp_model.specs.GrammarFaults.{IsGrammarFault, NoAlgebra, Unproductive, Loop, NotMonotone}
 use Rattle.adp_model.specs.JobText.{IsText}
 use Rattle.adp_model.specs.Parts.{rule_at, sign_at}
-use Rattle.adp_model.specs.Verdict.{AsksFor, AsksUnder, asked_name}
+use Rattle.adp_model.specs.Verdict.{AsksFor, AsksUnder, asked_name, greatest_length}
 use Rattle.adp_model.specs.WellFormed.{is_name}
 use Rattle.grammar_check.specs.CheckAnswers.{MatchCheck}
 use Rattle.grammar_check.specs.CheckedGrammar.{CheckedGrammar}
@@ -15,11 +15,24 @@ use Rattle.grammar_check.specs.declared.error.CheckError.{CheckError}
 use Rattle.grammar_check.specs.declared.error.CheckError.TheVariants as check_errors
 use Rattle.grammar_text.specs.Reading.{MatchReading}
 use Rattle.grammar_text.specs.declared.error.TextError.{TextError}
+use Rattle.grammar_text.specs.declared.error.TextError.TheVariants as text_errors
 use Rattle.report.specs.declared.fault.Fault.{Fault}
-use Rattle.adp_main.specs.Reporting.{IsJobRefusal, grammar_refusal}
+use Rattle.adp_main.specs.Reporting.{IsJobRefusal, grammar_refusal, text_refusal}
 
 pub is_text : (bytes : List ℕ) (job : Job) (given : Result Job TextError) → MatchReading bytes given → given ≡ Ok job → IsText bytes job
 is_text bytes job given read is = subst (MatchReading bytes) is read
+
+unread : (words : List (List ℕ)) (bytes : List ℕ) (error : TextError) → asked.AsksForJob words → length bytes ≤ greatest_length → MatchReading bytes (Err error)
+    → IsJobRefusal words bytes (text_refusal error)
+unread words bytes (text_errors.Fault fault) asks fits found = (asks, fits, found)
+unread words bytes text_errors.Memory asks fits found = tt
+
+-- the text's fault is the verdict
+pub text_refused : (words : List (List ℕ)) (bytes : List ℕ) (given : Result Job TextError) (fault : Fault)
+    → asked.AsksForJob words → length bytes ≤ greatest_length → MatchReading bytes given
+    → (error : TextError) × (given ≡ Err error) × (fault ≡ text_refusal error) → IsJobRefusal words bytes fault
+text_refused words bytes given fault asks fits read (error, is, turned) =
+    subst (IsJobRefusal words bytes) (sym turned) (unread words bytes error asks fits (subst (MatchReading bytes) is read))
 
 -- the job's grammar has no fault under the algebra of the name
 pub is_checked : (words : List (List ℕ)) (bytes : List ℕ) (command : asked.Command) (job : Job) (name : List ℕ) (given : Result CheckedGrammar CheckError) (checked : CheckedGrammar)

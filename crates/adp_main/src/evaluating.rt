@@ -74,14 +74,7 @@ pub(crate) fn evaluated_report(
         report.items) }
 {
     let closed = &finished.closed;
-    let report = answered_report(
-        alloc,
-        number,
-        problem,
-        closed,
-        finished.answer,
-        closed.len(),
-    )?;
+    let report = answered_report(alloc, number, problem, closed, closed.len())?;
     match command.mode {
         Mode::Wins | Mode::Replay => with_wins(report, &finished.wins),
         Mode::Best | Mode::Serial | Mode::Big => Ok(report),

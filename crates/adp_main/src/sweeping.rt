@@ -3,7 +3,7 @@ ghost use Rattle.std.specs.Prelude.{◌≡◌, IfOk};
 ghost use Rattle.adp_model.specs.Report.{IsReport};
 
 use crate::reporting::answered_report;
-use adp_model::{Problem, axiom_answer};
+use adp_model::Problem;
 use seq_reference::solve;
 use std::alloc::{AllocError, Global};
 
@@ -16,6 +16,5 @@ pub(crate) fn swept_report(
     ensures { IfOk result (λ report. IsReport number problem.now report.items) }
 {
     let solved = solve(alloc, problem)?;
-    let answer = axiom_answer(problem, &solved);
-    answered_report(alloc, number, problem, &solved, answer, solved.cells())
+    answered_report(alloc, number, problem, &solved, solved.cells())
 }

@@ -1,16 +1,25 @@
 use Rattle.std.proofs.Common.{◌≡◌, ◌∙◌}
 use Rattle.std.proofs.lemmas.Result.{err_from_is_err_and}
 use Rattle.grammar_check.specs.declared.error.CheckError.{CheckError}
+use Rattle.grammar_text.specs.declared.error.TextError.{TextError}
 use Rattle.report.specs.declared.fault.Fault.{Fault}
 use Rattle.adp_main.specs.Commands.{asked_command}
-use Rattle.adp_main.specs.Reporting.{grammar_refusal}
-use Rattle.adp_main.proofs.CheckedJobs.{is_text, is_checked, grammar_refused}
+use Rattle.adp_main.specs.Reporting.{grammar_refusal, text_refusal}
+use Rattle.adp_main.proofs.CheckedJobs.{is_text, is_checked, grammar_refused, text_refused}
 use Rattle.adp_main.proofs.Turned.{gave_ok, gave_err}
 use Rattle.adp_main.proofs.checking.checked_job.Goals as goal
 
 pub new-name-requires : goal.new-name-requires
 new-name-requires c =
     rw c.in_ok-from_slice.ensures.items (c.names_are_short_and_printable.ensures.printable c.named_algebra-name.result.now c.named_algebra-name.ensures.name)
+
+pub returns-in_err-job-clause-refusal : goal.returns-in_err-job-clause-refusal
+returns-in_err-job-clause-refusal c =
+    let p = err_from_is_err_and c.from_residual.result c.from_residual.ensures.1 in
+    rw (p.1, p.2)
+    (text_refused _ c.args.bytes.now c.read_text.result c.in_err-job.field-0.0
+    (asked_command c.args.command.now, c.requires.command, c.requires.reads) c.requires.fits c.read_text.ensures
+    (gave_err c.read_text.result c.in_err-job.field-0.0 (λ (e : TextError) (fault : Fault). fault ≡ text_refusal e) c.in_err-job.ensures.cases))
 
 pub returns-in_err-checked-clause-refusal : goal.returns-in_err-checked-clause-refusal
 returns-in_err-checked-clause-refusal c =
