@@ -48,6 +48,14 @@ pub(crate) struct Case {
     pub(crate) winners: Option<usize>,
 }
 
+// What a run gave.
+#[derive(Clone, Copy)]
+struct Came<'r> {
+    status: u8,
+    output: &'r [u8],
+    error: &'r [u8],
+}
+
 /// The name of a case, and how its runs differed: not at all where that is empty.
 #[derive(Drop)]
 pub(crate) struct Outcome {
@@ -124,29 +132,56 @@ impl Case {
         let mut err = self.error_writes.sink(alloc)?;
         let mut gate = OpenGate;
         let status = run(rt, alloc, words, &mut source, &mut out, &mut err, &mut gate);
-        let status = status.number();
-        let is_same_output = match self.winners {
-            None => out.bytes() == self.output.as_slice(),
-            Some(winners) => without_wins(alloc, out.bytes(), winners)?.is_some_and(
-                |rest| rest.as_slice() == self.output.as_slice(),
-            ),
+        let came = Came {
+            status: status.number(),
+            output: out.bytes(),
+            error: err.bytes(),
         };
-        let is_same_error = err.bytes() == self.error.as_slice();
-        if status == self.status && is_same_output && is_same_error {
-            return Ok(());
+        if !self.is_right(alloc, &came)? {
+            self.tell(alloc, words, &came, difference)?;
         }
+        Ok(())
+    }
+
+    fn is_right(&self, alloc: Global, came: &Came<'_>) -> Result<bool, AllocError> {
+        Ok(
+            came.status == self.status
+                && came.error == self.error.as_slice()
+                && self.is_output(alloc, came.output)?,
+        )
+    }
+
+    fn is_output(&self, alloc: Global, output: &[u8]) -> Result<bool, AllocError> {
+        match self.winners {
+            None => Ok(output == self.output.as_slice()),
+            Some(winners) => match without_wins(alloc, output, winners)? {
+                Some(rest) => Ok(rest.as_slice() == self.output.as_slice()),
+                None => Ok(false),
+            },
+        }
+    }
+
+    // Appends the words, and each thing that came otherwise than it has to.
+    fn tell(
+        &self,
+        alloc: Global,
+        words: &[String],
+        came: &Came<'_>,
+        difference: &mut String,
+    ) -> Result<(), AllocError> {
         for word in words {
             difference.push_str(word.as_str())?;
             difference.push_str(" ")?;
         }
-        if status != self.status {
+        if came.status != self.status {
+            let status = came.status;
             push_difference(difference, "status", &format!(in alloc; "{status}")?)?;
         }
-        if !is_same_output {
-            push_difference(difference, "output", &shown(alloc, out.bytes())?)?;
+        if !self.is_output(alloc, came.output)? {
+            push_bytes(alloc, difference, "output", came.output)?;
         }
-        if !is_same_error {
-            push_difference(difference, "error", &shown(alloc, err.bytes())?)?;
+        if came.error != self.error.as_slice() {
+            push_bytes(alloc, difference, "error", came.error)?;
         }
         Ok(())
     }
@@ -158,6 +193,15 @@ fn push_difference(difference: &mut String, what: &str, is: &String) -> Result<(
     difference.push_str(" is ")?;
     difference.push_str(is.as_str())?;
     difference.push_str(") ")
+}
+
+fn push_bytes(
+    alloc: Global,
+    difference: &mut String,
+    what: &str,
+    bytes: &[u8],
+) -> Result<(), AllocError> {
+    push_difference(difference, what, &shown(alloc, bytes)?)
 }
 
 // The bytes up to the first 300, with ` / ` for the end of a line.

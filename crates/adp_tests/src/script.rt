@@ -3,6 +3,7 @@
 use crate::bytes::{push_numbered, push_text, push_times};
 use crate::case::{Case, Outcome};
 use std::alloc::{AllocError, Global};
+use std::mem;
 use std::thread::Threads;
 
 // Bytes with a name, which several cases begin with.
@@ -20,46 +21,80 @@ enum Open {
     Case(Case),
 }
 
+// What the lines of a file have come to.
+#[derive(Drop)]
+struct Script {
+    outcomes: Vec<Outcome>,
+    blocks: Vec<Block>,
+    open: Open,
+    stray: u32,
+}
+
 /// Runs the cases of a file, and tells how each ended.
 pub(crate) fn outcomes<R: Threads + Sync>(
     rt: &R,
     alloc: Global,
     text: &str,
 ) -> Result<Vec<Outcome>, AllocError> {
-    let mut outcomes = Vec::new(alloc);
-    let mut blocks: Vec<Block> = Vec::new(alloc);
-    let mut open = Open::Nothing;
-    let mut stray = 0u32;
+    let mut script = Script::new(alloc);
     for line in text.lines() {
+        script.read(rt, alloc, line)?;
+    }
+    script
+        .outcomes
+        .push(Outcome::of_stray_lines(alloc, script.stray)?)?;
+    Ok(script.outcomes)
+}
+
+impl Script {
+    fn new(alloc: Global) -> Script {
+        Script {
+            outcomes: Vec::new(alloc),
+            blocks: Vec::new(alloc),
+            open: Open::Nothing,
+            stray: 0,
+        }
+    }
+
+    fn read<R: Threads + Sync>(
+        &mut self,
+        rt: &R,
+        alloc: Global,
+        line: &str,
+    ) -> Result<(), AllocError> {
         let (word, rest) = line.split_once(' ').unwrap_or((line, ""));
         match word {
             "" | "#" => {}
-            "case" => open = Open::Case(Case::new(alloc, rest)?),
-            "block" => {
-                let name = String::from_str(alloc, rest)?;
-                open = Open::Block(Block {
-                    name,
-                    bytes: Vec::new(alloc),
-                });
-            }
-            "end" => {
-                let done = open;
-                open = Open::Nothing;
-                match done {
-                    Open::Nothing => {}
-                    Open::Block(block) => blocks.push(block)?,
-                    Open::Case(case) => outcomes.push(case.outcome(rt, alloc)?)?,
-                }
-            }
+            "case" => self.open = Open::Case(Case::new(alloc, rest)?),
+            "block" => self.open = Open::Block(Block::new(alloc, rest)?),
+            "end" => self.end(rt, alloc)?,
             _ => {
-                if !read_line(alloc, &mut open, &blocks, word, rest)? {
-                    stray = stray.saturating_add(1);
+                if !read_line(alloc, &mut self.open, &self.blocks, word, rest)? {
+                    self.stray = self.stray.saturating_add(1);
                 }
             }
         }
+        Ok(())
     }
-    outcomes.push(Outcome::of_stray_lines(alloc, stray)?)?;
-    Ok(outcomes)
+
+    // Keeps the block that is open, or runs the case.
+    fn end<R: Threads + Sync>(&mut self, rt: &R, alloc: Global) -> Result<(), AllocError> {
+        match mem::replace(&mut self.open, Open::Nothing) {
+            Open::Nothing => {}
+            Open::Block(block) => self.blocks.push(block)?,
+            Open::Case(case) => self.outcomes.push(case.outcome(rt, alloc)?)?,
+        }
+        Ok(())
+    }
+}
+
+impl Block {
+    fn new(alloc: Global, name: &str) -> Result<Block, AllocError> {
+        Ok(Block {
+            name: String::from_str(alloc, name)?,
+            bytes: Vec::new(alloc),
+        })
+    }
 }
 
 // Reads a line of a case or a block, and says whether it is one.
@@ -96,24 +131,33 @@ fn read_case_line(
     if let Some(form) = word.strip_prefix('!') {
         return push_form(alloc, &mut case.error, blocks, form, rest);
     }
-    match word {
-        "words" => {
-            case.commands.push(command(alloc, rest)?)?;
-            return Ok(true);
-        }
-        "vary" => {
-            case.commands = varied(alloc, &case.commands, rest)?;
-            return Ok(true);
-        }
-        "long" => {
-            add_long(alloc, &mut case.commands, rest)?;
-            return Ok(true);
-        }
-        _ => {}
+    if read_commands(alloc, &mut case.commands, word, rest)? {
+        return Ok(true);
     }
-    let Ok(number) = rest.parse::<u32>() else {
-        return Ok(false);
-    };
+    match rest.parse::<u32>() {
+        Ok(number) => read_number(case, word, number),
+        Err(_) => Ok(false),
+    }
+}
+
+// Reads a line that adds to the commands of a case.
+fn read_commands(
+    alloc: Global,
+    commands: &mut Vec<Vec<String>>,
+    word: &str,
+    rest: &str,
+) -> Result<bool, AllocError> {
+    match word {
+        "words" => commands.push(command(alloc, rest)?)?,
+        "vary" => *commands = varied(alloc, commands, rest)?,
+        "long" => add_long(alloc, commands, rest)?,
+        _ => return Ok(false),
+    }
+    Ok(true)
+}
+
+// Reads a line whose value is a number.
+fn read_number(case: &mut Case, word: &str, number: u32) -> Result<bool, AllocError> {
     match word {
         "status" => case.status = u8::try_from(number).unwrap_or(255),
         "read" => case.read_piece = number as usize,
@@ -150,13 +194,22 @@ fn varied(
     let mut varied = Vec::new(alloc);
     for command in commands {
         for value in values.split(' ') {
-            let mut words = command.clone()?;
-            words.push(String::from_str(alloc, option)?)?;
-            words.push(String::from_str(alloc, value)?)?;
-            varied.push(words)?;
+            varied.push(with_option(alloc, command, option, value)?)?;
         }
     }
     Ok(varied)
+}
+
+fn with_option(
+    alloc: Global,
+    command: &Vec<String>,
+    option: &str,
+    value: &str,
+) -> Result<Vec<String>, AllocError> {
+    let mut words = command.clone()?;
+    words.push(String::from_str(alloc, option)?)?;
+    words.push(String::from_str(alloc, value)?)?;
+    Ok(words)
 }
 
 // Each command with a further option, whose value is a text so many times.

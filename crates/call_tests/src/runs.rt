@@ -2,8 +2,9 @@ use crate::jobs::PAIRS;
 use adp_io::{CleanSink, CleanSource};
 use adp_main::{Status, run};
 use adp_model::{Answer, Choice, Problem};
-use evaluators::{Finished, Gate, LogGate};
+use evaluators::{Finished, Gate, LogGate, RunNote};
 use std::alloc::{AllocError, Global};
+use std::process::Abort;
 use std::sync::atomic::{AtomicU64, Ordering};
 use std::test::Fail;
 use std::thread::Threads;
@@ -35,21 +36,24 @@ fn a_run_leaves_a_note(rt: HostRuntime) -> Result<(), Fail> {
     let alloc = rt.alloc();
     let mut gate = LogGate::new(alloc);
     let (status, taken) = run_pairs(&rt, alloc, &["wins"], "pq", &mut gate)?;
-    assert_eq!(rt; status, Status::Done);
-    assert_eq!(rt; taken, 65);
-    assert_eq!(rt; gate.notes().len(), 1);
-    let note = &gate.notes()[0];
+    assert!(rt; status == Status::Done && taken == 65);
+    expect_note(&rt, gate.notes());
+    Ok(())
+}
+
+fn expect_note(rt: &impl Abort, notes: &[RunNote]) {
+    assert!(rt; notes.len() == 1);
+    let note = &notes[0];
     assert!(rt; note.word.bytes() == b"pq".as_slice() && note.algebra == 0 && note.seed == 0);
     let choice = Choice {
         alt: 2,
         cuts: [1, 1, 2],
     };
-    assert_eq!(rt; note.answer, Answer::Best { score: 1, choice });
-    assert_eq!(rt; note.cells, 4);
+    assert!(rt; note.answer == Answer::Best { score: 1, choice });
+    assert!(rt; note.cells == 4);
     assert!(rt;
         note.wins.as_slice() == [4].as_slice() && note.ended.as_slice() == [true].as_slice()
     );
-    Ok(())
 }
 
 // Two machines are stopped within their publications: the one has put the key, and the other stored its record.
@@ -59,15 +63,18 @@ fn a_replayed_run_leaves_a_note_of_its_steps(rt: HostRuntime) -> Result<(), Fail
     let mut gate = LogGate::new(alloc);
     let words = ["replay", "--workers", "3", "--schedule", "1122222"];
     let (status, taken) = run_pairs(&rt, alloc, &words, "", &mut gate)?;
-    assert_eq!(rt; status, Status::Done);
-    assert_eq!(rt; taken, 47);
-    assert_eq!(rt; gate.notes().len(), 1);
-    let note = &gate.notes()[0];
-    assert_eq!(rt; note.cells, 1);
+    assert!(rt; status == Status::Done && taken == 47);
+    expect_steps(&rt, gate.notes());
+    Ok(())
+}
+
+fn expect_steps(rt: &impl Abort, notes: &[RunNote]) {
+    assert!(rt; notes.len() == 1);
+    let note = &notes[0];
+    assert!(rt; note.cells == 1);
     assert!(rt; note.wins.as_slice() == [1, 0, 0].as_slice());
     assert!(rt; note.moves.as_slice() == [6, 2, 5].as_slice());
     assert!(rt; note.ended.as_slice() == [true, false, false].as_slice());
-    Ok(())
 }
 
 const AWAY: u64 = 0;
@@ -143,8 +150,7 @@ fn workers_run_side_by_side(rt: HostRuntime) -> Result<(), Fail> {
         let mut gate = Meeting::new();
         let words = [mode, "--workers", "2"];
         let (status, _taken) = run_pairs(&rt, alloc, &words, word.as_str(), &mut gate)?;
-        assert_eq!(rt; status, Status::Done);
-        assert!(rt; gate.have_met(), "{mode}");
+        assert!(rt; status == Status::Done && gate.have_met(), "{mode}");
     }
     Ok(())
 }
