@@ -1,8 +1,8 @@
 -- The name of the algebra that a command asks for: where it stands among the words, and that it is a name.
 use Rattle.std.proofs.Common.{◌≡◌, ℕ, ◌+◌, ◌<◌, suc, IsTrue, List, [], ◌∷◌, length, map, get_or, Some, sym, ap, ◌∙◌, subst, arith}
 use Rattle.std.proofs.lemmas.List.{length-map, get_or-map}
-use Rattle.adp_model.specs.Command.{Setting, Algebra, AreSettings, IsCommand, algebra_set, mode_word}
-use Rattle.adp_model.specs.Command as asked
+use Rattle.verdicts.specs.Command.{Setting, Algebra, AreSettings, IsCommand, algebra_set, mode_word}
+use Rattle.verdicts.specs.Command as asked
 use Rattle.adp_model.specs.WellFormed.{is_name}
 
 -- at this number a name stands among the words from a place on

@@ -3,11 +3,11 @@ use Rattle.std.proofs.Common.{◌≡◌, ℕ, ◌<◌, ◌≤◌, List, length, 
 use Rattle.adp_model.specs.declared.fault.GrammarFault.{GrammarFault}
 use Rattle.adp_model.specs.declared.grammar.Grammar.{Grammar}
 use Rattle.adp_model.specs.declared.job.Job.{Job}
-use Rattle.adp_model.specs.Command as asked
+use Rattle.verdicts.specs.Command as asked
 use Rattle.adp_model.specs.GrammarFaults.{IsGrammarFault, NoAlgebra, Unproductive, Loop, NotMonotone}
-use Rattle.adp_model.specs.JobText.{IsText}
+use Rattle.job_texts.specs.JobText.{IsText}
 use Rattle.adp_model.specs.Parts.{rule_at, sign_at}
-use Rattle.adp_model.specs.Verdict.{AsksFor, AsksUnder, asked_name, greatest_length}
+use Rattle.verdicts.specs.Verdict.{AsksFor, AsksUnder, asked_name, greatest_length}
 use Rattle.adp_model.specs.WellFormed.{is_name}
 use Rattle.grammar_check.specs.CheckAnswers.{MatchCheck}
 use Rattle.grammar_check.specs.CheckedGrammar.{CheckedGrammar}

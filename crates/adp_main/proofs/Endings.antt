@@ -9,14 +9,14 @@ use Rattle.adp_io.specs.declared.whole.WriteFault.{WriteFault as Unwritten}
 use Rattle.adp_io.specs.Causes.{RisesWhere, Rose}
 use Rattle.adp_io.specs.Streams.{AppendsProperPrefix, AsksForAtMost, CallsAtMost, LosesAtMost, SameTold, job_limit, piece_limit}
 use Rattle.adp_model.specs.declared.fault.LimitFault.{LimitFault}
-use Rattle.adp_model.specs.CheckableJobs.{AreCheckable}
-use Rattle.adp_model.specs.Command.{Big, Command, IsCommand, HasCommand, AsksForJob}
-use Rattle.adp_model.specs.Verdict.{Verdict, IsLimit, IsReports, IsVerdict}
+use Rattle.verdicts.specs.CheckableJobs.{AreCheckable}
+use Rattle.verdicts.specs.Command.{Big, Command, IsCommand, HasCommand, AsksForJob}
+use Rattle.verdicts.specs.Verdict.{Verdict, IsLimit, IsReports, IsVerdict}
 use Rattle.evaluators.specs.declared.finished.RunNote.{RunNote}
 use Rattle.adp_main.specs.RunNotes.{ShowsRuns}
 use Rattle.adp_main.specs.Making.{IsBigEnding}
 use Rattle.adp_main.proofs.Made.{made_ending}
-use Rattle.adp_model.specs.Verdict as verdicts
+use Rattle.verdicts.specs.Verdict as verdicts
 use Rattle.report.specs.declared.fault.Fault.{Fault}
 use Rattle.report.specs.declared.fault.Fault.TheVariants as faults
 use Rattle.adp_main.specs.declared.status.Status.{Status}

@@ -7,7 +7,7 @@ use Rattle.adp_model.specs.declared.fault.LimitFault.{LimitFault}
 use Rattle.adp_model.specs.LimitFaults.{IsLimitFault}
 use Rattle.adp_model.specs.PosedProblem.{PosedProblem}
 use Rattle.adp_model.specs.ProblemFields.{IsAdmissible}
-use Rattle.adp_model.specs.Verdict.{IsFirstLimit}
+use Rattle.verdicts.specs.Verdict.{IsFirstLimit}
 use Rattle.adp_main.specs.Posed.{posed_words}
 
 pub first_limit : (grammar : Grammar) (algebra number : ℕ) (words : List (List ℕ)) (k place : ℕ) (d : List ℕ) (fault : LimitFault) → k < length words → place ≡ number + k

@@ -5,9 +5,9 @@ use Rattle.std.specs.Io.KnownBytes.{Appends}
 use Rattle.std.proofs.lemmas.List.{append-nil}
 use Rattle.adp_io.specs.Streams.{AppendsProperPrefix}
 use Rattle.adp_model.specs.BigReport.{IsBigReport}
-use Rattle.adp_model.specs.Command.{Big, Command, IsCommand}
-use Rattle.adp_model.specs.Verdict.{IsVerdict}
-use Rattle.adp_model.specs.Verdict as verdicts
+use Rattle.verdicts.specs.Command.{Big, Command, IsCommand}
+use Rattle.verdicts.specs.Verdict.{IsVerdict}
+use Rattle.verdicts.specs.Verdict as verdicts
 use Rattle.evaluators.specs.declared.finished.RunNote.{RunNote}
 use Rattle.report.specs.declared.fault.Fault.{Fault}
 use Rattle.report.specs.declared.fault.Fault.TheVariants as faults

@@ -7,7 +7,7 @@ use Rattle.adp_model.specs.declared.fault.GrammarFault.{GrammarFault}
 use Rattle.adp_model.specs.declared.grammar.Grammar.{Grammar}
 use Rattle.adp_model.specs.Answers.{IsAnswer}
 use Rattle.adp_model.specs.BigReport.{big_lines, made_problem, made_word, next_state, pairs_grammar, IsBigReport}
-use Rattle.adp_model.specs.Command.{Command}
+use Rattle.verdicts.specs.Command.{Command}
 use Rattle.adp_model.specs.Demand.{IsDemandedCount}
 use Rattle.adp_model.specs.Derivation.{Derives}
 use Rattle.adp_model.specs.GrammarFaults.{HasOtherTerm, IsFaultless, IsGrammarFault, IsNamed, NoAlgebra, Unproductive, Loop, NotMonotone}

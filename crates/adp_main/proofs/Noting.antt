@@ -5,7 +5,7 @@ use Rattle.std.proofs.lemmas.List.Elements.{All-map}
 use Rattle.adp_model.specs.PosedProblem.{PosedProblem, axiom_cell}
 use Rattle.adp_model.specs.Answers.{IsAnswer}
 use Rattle.adp_model.specs.Demand.{IsDemandedCount}
-use Rattle.adp_model.specs.Command.{Mode, Replay, Command}
+use Rattle.verdicts.specs.Command.{Mode, Replay, Command}
 use Rattle.evaluators.specs.declared.finished.Finished.{Finished}
 use Rattle.evaluators.specs.declared.finished.RunNote.{RunNote}
 use Rattle.evaluators.specs.Runs.{IsFinished, IsNoteOf, GrowsByNote, HaveAllEnded, wins_of, moves_of, ended_of}

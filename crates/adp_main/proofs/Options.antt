@@ -3,8 +3,8 @@ use Rattle.std.proofs.Common.{◌≡◌, ℕ, ◌+◌, ◌-◌, ◌/◌, ◌%◌
 use Rattle.std.specs.List.{All, list_any}
 use Rattle.std.proofs.lemmas.List.Elements.{All-nil, All-cons, All-head, All-tail}
 use lib.Pointwise.{pointwise}
-use Rattle.adp_model.specs.Command.{Setting, Algebra, Workers, Seed, Schedule, Size, Allows, AreSettings, AreSetOnce, IsValue, IsCommand, HasCommand, algebra_set, workers_set, seed_set, schedule_set, size_set, mode_word, option_word}
-use Rattle.adp_model.specs.Command as asked
+use Rattle.verdicts.specs.Command.{Setting, Algebra, Workers, Seed, Schedule, Size, Allows, AreSettings, AreSetOnce, IsValue, IsCommand, HasCommand, algebra_set, workers_set, seed_set, schedule_set, size_set, mode_word, option_word}
+use Rattle.verdicts.specs.Command as asked
 use Rattle.adp_main.specs.declared.words.Settings.{Settings}
 use Rattle.adp_main.specs.declared.words.Mode.{Mode}
 use Rattle.adp_main.specs.declared.words.Mode.TheVariants.{Replay, Big}

@@ -6,9 +6,9 @@ use Rattle.std.proofs.KnownBytes.{Appends-trans}
 use Rattle.std.proofs.lemmas.List.{append-nil, append_assoc, take_more, length-take-le}
 use Rattle.adp_io.specs.Streams.{AppendsProperPrefix}
 use Rattle.adp_model.specs.PosedProblem.{PosedProblem}
-use Rattle.adp_model.specs.Command.{Mode, Best, Serial, Wins, Replay, Big, Command}
+use Rattle.verdicts.specs.Command.{Mode, Best, Serial, Wins, Replay, Big, Command}
 use Rattle.adp_model.specs.Report.{IsReport, IsWinsReport}
-use Rattle.adp_model.specs.Verdict.{IsReportIn}
+use Rattle.verdicts.specs.Verdict.{IsReportIn}
 use Rattle.evaluators.specs.declared.finished.Finished.{Finished}
 use Rattle.evaluators.specs.declared.finished.RunNote.{RunNote}
 use Rattle.adp_model.specs.ProblemFields.{IsAdmissible}

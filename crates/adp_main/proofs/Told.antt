@@ -3,11 +3,11 @@ use Rattle.std.proofs.Common.{◌≡◌, ℕ, List, Option, Some, Err, IsErrOf, 
 use Rattle.adp_model.specs.declared.grammar.Grammar.{Grammar}
 use Rattle.adp_model.specs.declared.job.Job.{Job}
 use Rattle.adp_model.specs.declared.fault.LimitFault.{LimitFault}
-use Rattle.adp_model.specs.CheckableJobs.{AreCheckable}
+use Rattle.verdicts.specs.CheckableJobs.{AreCheckable}
 use Rattle.adp_model.specs.Checks.{IsChecked}
-use Rattle.adp_model.specs.Command.{Command, schedule_of}
+use Rattle.verdicts.specs.Command.{Command, schedule_of}
 use Rattle.adp_model.specs.PosedProblem.{PosedProblem}
-use Rattle.adp_model.specs.Verdict.{AsksUnder}
+use Rattle.verdicts.specs.Verdict.{AsksUnder}
 use Rattle.evaluators.specs.declared.finished.RunNote.{RunNote}
 use Rattle.report.specs.declared.fault.Fault.{Fault}
 use Rattle.report.specs.declared.fault.Fault.TheVariants as faults

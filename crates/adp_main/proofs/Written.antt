@@ -9,8 +9,8 @@ use Rattle.std.proofs.lemmas.List.Folds.{concat-append}
 use Rattle.adp_io.specs.Streams.{AppendsProperPrefix}
 use Rattle.adp_model.specs.PosedProblem.{PosedProblem}
 use Rattle.adp_model.specs.ProblemFields.{IsAdmissible}
-use Rattle.adp_model.specs.Command.{Command}
-use Rattle.adp_model.specs.Verdict.{IsReportIn}
+use Rattle.verdicts.specs.Command.{Command}
+use Rattle.verdicts.specs.Verdict.{IsReportIn}
 use Rattle.adp_main.specs.Reporting.{AreReportsOf}
 
 pub on_err : {T E : Type 0} {P : Type 0} (r : Result T E) → is_err r ≡ true → OnErr r P → P

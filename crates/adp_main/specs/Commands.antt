@@ -1,9 +1,9 @@
 -- The command as the program keeps it, and the options that it has read.
 use Rattle.std.specs.Prelude.{◌≡◌, ℕ, ◌^◌, ◌<◌, ◌≤◌, List, Some, None, IsNone, IsSome, IsTrue}
-use Rattle.adp_model.specs.Command.{IsCommand, IsNumberWord, Setting, Algebra, Workers, Seed, Schedule, Size, greatest_size, option_word}
-use Rattle.adp_model.specs.Command as asked
+use Rattle.verdicts.specs.Command.{IsCommand, IsNumberWord, Setting, Algebra, Workers, Seed, Schedule, Size, greatest_size, option_word}
+use Rattle.verdicts.specs.Command as asked
 use Rattle.adp_model.specs.WellFormed.{is_name}
-use Rattle.adp_model.specs.ScheduleText.{is_schedule}
+use Rattle.verdicts.specs.ScheduleText.{is_schedule}
 use Rattle.adp_main.specs.declared.words.Command.{Command}
 use Rattle.adp_main.specs.declared.words.Mode.{Mode}
 use Rattle.adp_main.specs.declared.words.Mode.TheVariants.{Best, Serial, Wins, Replay, Big}

@@ -4,9 +4,9 @@ use Rattle.std.specs.List.{concat}
 use Rattle.std.specs.Io.KnownBytes.{Appends, IsAtEnd}
 use Rattle.adp_io.specs.Causes.{RisesWhere, Rose, next_count}
 use Rattle.adp_io.specs.Streams.{AppendsProperPrefix, AsksForAtMost, CallsAtMost, LosesAtMost, SameTold, job_limit, piece_limit}
-use Rattle.adp_model.specs.Command.{HasCommand, AsksForJob}
-use Rattle.adp_model.specs.Verdict.{Verdict, IsVerdict}
-use Rattle.adp_model.specs.Verdict as verdicts
+use Rattle.verdicts.specs.Command.{HasCommand, AsksForJob}
+use Rattle.verdicts.specs.Verdict.{Verdict, IsVerdict}
+use Rattle.verdicts.specs.Verdict as verdicts
 use Rattle.report.specs.declared.fault.Fault.{Fault}
 use Rattle.adp_main.specs.declared.status.Status.{Status}
 use Rattle.adp_main.specs.declared.status.Status.TheVariants.{Done, Usage, ReadFault, WriteFault, Text, Grammar, Limit, Memory}

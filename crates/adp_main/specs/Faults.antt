@@ -2,8 +2,8 @@
 use Rattle.std.specs.Prelude.{Option, Some, None, Result, Ok, Err}
 use Rattle.adp_io.specs.declared.job.JobFault.{JobFault}
 use Rattle.adp_io.specs.declared.job.JobFault.TheVariants as job_faults
-use Rattle.adp_model.specs.Verdict.{Verdict}
-use Rattle.adp_model.specs.Verdict as verdicts
+use Rattle.verdicts.specs.Verdict.{Verdict}
+use Rattle.verdicts.specs.Verdict as verdicts
 use Rattle.report.specs.declared.fault.Fault.{Fault}
 use Rattle.report.specs.declared.fault.Fault.TheVariants.{Usage, Read, Write, TooLong, Text, Grammar, Limit, Memory}
 use Rattle.adp_main.specs.declared.status.Status.{Status}

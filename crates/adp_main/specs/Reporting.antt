@@ -6,9 +6,9 @@ use Rattle.adp_io.specs.Streams.{AppendsProperPrefix}
 use Rattle.adp_model.specs.declared.grammar.Grammar.{Grammar}
 use Rattle.adp_model.specs.declared.job.Job.{Job}
 use Rattle.adp_model.specs.PosedProblem.{PosedProblem}
-use Rattle.adp_model.specs.Command as asked
-use Rattle.adp_model.specs.Verdict.{IsVerdict, AsksUnder, KeepLimits, IsFirstLimit, IsReportIn, AreReports}
-use Rattle.adp_model.specs.Verdict as verdicts
+use Rattle.verdicts.specs.Command as asked
+use Rattle.verdicts.specs.Verdict.{IsVerdict, AsksUnder, KeepLimits, IsFirstLimit, IsReportIn, AreReports}
+use Rattle.verdicts.specs.Verdict as verdicts
 use Rattle.report.specs.declared.fault.Fault.{Fault}
 use Rattle.report.specs.declared.fault.Fault.TheVariants as faults
 use Rattle.adp_main.specs.declared.checking.CheckedJob.{CheckedJob}

@@ -8,8 +8,8 @@ use Rattle.adp_model.specs.Answers.{IsAnswer}
 use Rattle.adp_model.specs.Demand.{IsDemandedCount}
 use Rattle.adp_model.specs.Report.{IsReport, IsWinsReport}
 use Rattle.adp_model.specs.BigReport.{made_problem}
-use Rattle.adp_model.specs.Command.{Mode, Best, Serial, Wins, Replay, Big, Command, IsCommand, schedule_of}
-use Rattle.adp_model.specs.Verdict.{AsksUnder}
+use Rattle.verdicts.specs.Command.{Mode, Best, Serial, Wins, Replay, Big, Command, IsCommand, schedule_of}
+use Rattle.verdicts.specs.Verdict.{AsksUnder}
 use Rattle.evaluators.specs.declared.finished.RunNote.{RunNote}
 use Rattle.evaluators.specs.Schedules.{AreScheduled}
 use Rattle.adp_main.specs.declared.status.Status.{Status}

@@ -4,8 +4,8 @@ use Rattle.std.specs.Io.KnownBytes.{Appends}
 use Rattle.adp_io.specs.Streams.{AppendsProperPrefix}
 use Rattle.adp_model.specs.PosedProblem.{PosedProblem}
 use Rattle.adp_model.specs.Report.{IsReport, IsWinsReport}
-use Rattle.adp_model.specs.Command.{Mode, Best, Serial, Wins, Replay, Big, Command}
-use Rattle.adp_model.specs.Verdict.{IsReportIn}
+use Rattle.verdicts.specs.Command.{Mode, Best, Serial, Wins, Replay, Big, Command}
+use Rattle.verdicts.specs.Verdict.{IsReportIn}
 use Rattle.evaluators.specs.declared.finished.Finished.{Finished}
 use Rattle.evaluators.specs.declared.finished.RunNote.{RunNote}
 use Rattle.evaluators.specs.Runs.{HaveAllEnded}

@@ -1,8 +1,8 @@
 ghost use Rattle.std.specs.Prelude.{◌≡◌, ◌≤◌, ℕ, map, length, Some, IfErr, IfSome, IsErrOf};
 ghost use Rattle.std.specs.String.{string_bytes};
-ghost use Rattle.adp_model.specs.Verdict.{IsVerdict, greatest_length};
-ghost use Rattle.adp_model.specs.CheckableJobs.{AreCheckable};
-ghost use Rattle.adp_model.specs.Command.{ReadsJob, schedule_of};
+ghost use Rattle.verdicts.specs.Verdict.{IsVerdict, greatest_length};
+ghost use Rattle.verdicts.specs.CheckableJobs.{AreCheckable};
+ghost use Rattle.verdicts.specs.Command.{ReadsJob, schedule_of};
 ghost use Rattle.adp_model.specs.declared.fault.LimitFault.{LimitFault};
 ghost use Rattle.adp_main.specs.Commands.{IsCommandOf, asked_command};
 ghost use Rattle.adp_main.specs.Posed.{posed_words};
@@ -21,11 +21,11 @@ use crate::schedule::schedule_entries;
 use crate::words::Command;
 use crate::writing::write_words;
 use adp_io::Sink;
-use adp_model::laws::verdict::{asked_grammar_is_unique, command_is_unique};
 use evaluators::Gate;
 use report::Fault;
 use std::alloc::Global;
 use std::thread::Threads;
+use verdicts::laws::{asked_grammar_is_unique, command_is_unique};
 
 /// Reads the job that the bytes spell, checks its grammar, judges its words, and writes their reports, each by one
 /// `write_whole`. The gate is told of each run of evaluators.

@@ -3,7 +3,7 @@ ghost use Rattle.std.specs.Prelude.{◌≡◌, ◌≤◌, IfOk, vec_len};
 ghost use Rattle.adp_io.specs.Causes.{RisesWhere};
 ghost use Rattle.adp_io.specs.Streams.{SameTold};
 ghost use Rattle.adp_model.specs.BigReport.{IsBigReport, made_problem, pairs_grammar};
-ghost use Rattle.adp_model.specs.Command.{Big, greatest_size};
+ghost use Rattle.verdicts.specs.Command.{Big, greatest_size};
 ghost use Rattle.evaluators.specs.Runs.{HaveAllEnded, IsFinished};
 ghost use Rattle.adp_main.specs.Commands.{asked_command};
 ghost use Rattle.adp_main.specs.Faults.{status_after};

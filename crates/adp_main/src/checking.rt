@@ -1,8 +1,8 @@
 //! A job whose grammar passed its checks under the algebra that the command asks for.
 ghost use Rattle.std.specs.Prelude.{◌≡◌, ◌≤◌, map, length, IfOk, IfErr, IsTrue};
 ghost use Rattle.std.specs.String.{string_bytes};
-ghost use Rattle.adp_model.specs.Command.{ReadsJob};
-ghost use Rattle.adp_model.specs.Verdict.{asked_name, greatest_length};
+ghost use Rattle.verdicts.specs.Command.{ReadsJob};
+ghost use Rattle.verdicts.specs.Verdict.{asked_name, greatest_length};
 ghost use Rattle.adp_model.specs.WellFormed.{is_name, is_well_formed};
 ghost use Rattle.adp_main.specs.Commands.{IsCommandOf, asked_command};
 ghost use Rattle.adp_main.specs.Reporting.{IsCheckedJob, IsJobRefusal};

@@ -1,7 +1,7 @@
 //! Reports by evaluators that share a table.
 ghost use Rattle.std.specs.Prelude.{◌≡◌, ◌≤◌, ◌++◌, IfOk, MatchBool, vec_len};
-ghost use Rattle.adp_model.specs.Command.{ReadsJob};
-ghost use Rattle.adp_model.specs.Command as asked;
+ghost use Rattle.verdicts.specs.Command.{ReadsJob};
+ghost use Rattle.verdicts.specs.Command as asked;
 ghost use Rattle.adp_model.specs.Report.{wins_line};
 ghost use Rattle.evaluators.specs.Runs.{IsFinished};
 ghost use Rattle.adp_main.specs.Commands.{asked_command, mode_of};

@@ -2,8 +2,8 @@
 ghost use Rattle.std.specs.Prelude.{◌≡◌, map, IfOk};
 ghost use Rattle.std.specs.List.{list_all};
 ghost use Rattle.std.specs.String.{string_bytes};
-ghost use Rattle.adp_model.specs.Command.{schedule_of};
-ghost use Rattle.adp_model.specs.ScheduleText.{entry_of, is_entry_byte, is_schedule};
+ghost use Rattle.verdicts.specs.Command.{schedule_of};
+ghost use Rattle.verdicts.specs.ScheduleText.{entry_of, is_entry_byte, is_schedule};
 ghost use Rattle.adp_main.specs.Commands.{asked_command};
 
 use crate::words::Command;

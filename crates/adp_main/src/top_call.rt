@@ -1,6 +1,6 @@
 ghost use Rattle.std.specs.Prelude.{◌≡◌, ◌≤◌, map, length, IfErr, IfSome, IsErrOf, List, ℕ};
 ghost use Rattle.std.specs.String.{string_bytes};
-ghost use Rattle.adp_model.specs.Verdict.{IsVerdict};
+ghost use Rattle.verdicts.specs.Verdict.{IsVerdict};
 ghost use Rattle.adp_main.specs.Ending.{Ending, IsInput, ShowsFault};
 ghost use Rattle.adp_main.specs.Faults.{fault_verdict, status_after};
 ghost use Rattle.report.specs.Faults.{HasShortName};
@@ -11,11 +11,11 @@ use crate::fault::{reading_fault, status_of};
 use crate::status::Status;
 use crate::words::read_words;
 use adp_io::{Sink, Source, read_job, write_whole};
-use adp_model::laws::verdict::{command_is_unique, verdict_is_unique};
 use evaluators::Gate;
 use report::{Fault, fault_line};
 use std::alloc::Global;
 use std::thread::Threads;
+use verdicts::laws::{command_is_unique, verdict_is_unique};
 
 /// Reads a job from `input` and writes the reports of its words to `out`, or the line of a fault to `err`. The words
 /// are those after the program's name. Evaluators run in threads where there are any; the gate is passed before each

@@ -1,8 +1,8 @@
 ghost use Rattle.std.specs.Prelude.{◌≡◌, ◌↔◌, ◌<◌, ◌^◌, ℕ, map, IsOk, IfOk, IsTrue, OnErr, SomeIff};
 ghost use Rattle.std.specs.String.{string_bytes};
 ghost use Rattle.std.specs.Str.Parse.{IsNumeral, digits_value};
-ghost use Rattle.adp_model.specs.Command.{HasCommand, mode_word};
-ghost use Rattle.adp_model.specs.Command as asked;
+ghost use Rattle.verdicts.specs.Command.{HasCommand, mode_word};
+ghost use Rattle.verdicts.specs.Command as asked;
 ghost use Rattle.adp_main.specs.declared.words.Settings.{Settings};
 ghost use Rattle.adp_main.specs.Commands.{Adds, AddsAlgebra, AddsSchedule, AddsSeed, AddsSize, AddsWorkers, IsCommandOf, Suits, mode_of};
 

@@ -3,7 +3,7 @@ ghost use Rattle.std.specs.Prelude.{◌≡◌, ◌≤◌, List, ℕ, length, vec
 ghost use Rattle.std.specs.List.{AllByRecursion};
 ghost use Rattle.adp_io.specs.Causes.{RisesWhere};
 ghost use Rattle.adp_io.specs.Streams.{SameTold};
-ghost use Rattle.adp_model.specs.Command.{ReadsJob, Serial};
+ghost use Rattle.verdicts.specs.Command.{ReadsJob, Serial};
 ghost use Rattle.adp_model.specs.ProblemFields.{IsAdmissible};
 ghost use Rattle.evaluators.specs.Runs.{IsFinished};
 ghost use Rattle.grammar_check.specs.ToldRows.{AreRowsOf};
@@ -21,13 +21,13 @@ use crate::sweeping::swept_report;
 use crate::words::Command;
 use adp_io::{Sink, write_whole};
 use adp_model::laws::demand::demanded_cells_are_unique;
-use adp_model::laws::report::words_have_reports;
 use adp_model::{Problem, Text};
 use evaluators::{Finished, Gate};
 use grammar_check::{BoundRows, Checked};
 use report::Fault;
 use std::alloc::Global;
 use std::thread::Threads;
+use verdicts::laws::words_have_reports;
 
 /// Writes the reports of the words in order, the first of which has number 1, each by one `write_whole`, and tells the
 /// gate of each run. All words have one schedule. Each word keeps the limits, and is admitted when its turn comes, so

@@ -38,9 +38,7 @@ pub mod Reports
 pub mod ReportExists
 pub mod Strict
 pub mod FormedTerms
-pub mod TextTokens
 pub mod FittingTerms
 pub mod FormedNames
 pub mod PlacedChildren
 pub mod LimitsKept
-pub mod OneVerdict

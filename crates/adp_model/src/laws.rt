@@ -14,6 +14,4 @@ pub mod sizes;
 pub mod splits;
 pub mod strict;
 pub mod terms;
-pub mod text;
-pub mod verdict;
 pub mod well_formed;

@@ -18,13 +18,13 @@ use adp_main::{
     CheckedJob, Command, Status, checked_job, read_words, reading_fault, schedule_entries,
     status_of,
 };
-use adp_model::laws::verdict::command_is_unique;
 use grammar_check::{AdmitError, admit};
 use report::{Fault, fault_line};
 use std::alloc::Global;
 use std::io;
 use std::process::ExitCode;
 use step_traces::trace_schedule;
+use verdicts::laws::command_is_unique;
 
 fn main(rt: HostRuntime) -> ExitCode {
     let alloc = rt.alloc();

@@ -12,7 +12,7 @@ use Rattle.std.proofs.lemmas.List.Folds.{list_any-append}
 use Rattle.std.proofs.lemmas.Map.Text.{is_eq-slice_cmp}
 use Rattle.std.proofs.lemmas.Int.{fits_signed_from_abs}
 use lib.Pointwise.{pointwise}
-use Rattle.adp_model.specs.TermText.{Part, total, totals_fit, is_among, are_declared, factor_after, factors_after}
+use Rattle.job_texts.specs.TermText.{Part, total, totals_fit, is_among, are_declared, factor_after, factors_after}
 use Rattle.algebra_terms.specs.Reading.{is_part_of, factor_in}
 use Rattle.algebra_terms.proofs.Totals.{factor_is, or_false, or_true}
 use Rattle.algebra_terms.proofs.Ranges.{same_variable, total_fits}

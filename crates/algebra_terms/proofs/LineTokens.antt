@@ -3,7 +3,7 @@ use Rattle.std.proofs.Common.{◌≡◌, ℕ, zero, suc, ◌+◌, ◌-◌, ◌<�
 use Rattle.std.specs.List.{slice_range}
 use Rattle.std.proofs.lemmas.List.{map_push, drop_more}
 use Rattle.std.proofs.Math.Seq.{take-length}
-use Rattle.adp_model.specs.LineTokens.{Token, PlacedToken, Offence, StrayByte, OpenQuote, Space, Begins, Stops, beginning, with_token, tokens_from, line_tokens}
+use Rattle.job_texts.specs.LineTokens.{Token, PlacedToken, Offence, StrayByte, OpenQuote, Space, Begins, Stops, beginning, with_token, tokens_from, line_tokens}
 use Rattle.algebra_terms.specs.declared.lexer.Token as spans
 use Rattle.algebra_terms.specs.declared.lexer.TokenKind.{TokenKind}
 use Rattle.algebra_terms.specs.declared.error.TokenError.{TokenError}

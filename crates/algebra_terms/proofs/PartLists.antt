@@ -2,7 +2,7 @@
 use Rattle.std.proofs.Common.{◌≡◌, Option, Some, None, is_some, List, [], ◌∷◌, ◌++◌, map, refl, sym, ◌∙◌, ap, append_assoc}
 use Rattle.std.specs.Option.{option_map}
 use Rattle.std.proofs.lemmas.List.{append-nil, map_push}
-use Rattle.adp_model.specs.TermText.{Part, with_part}
+use Rattle.job_texts.specs.TermText.{Part, with_part}
 use Rattle.algebra_terms.specs.declared.part.Part as code_parts
 use Rattle.algebra_terms.specs.Reading.{part_of}
 

@@ -1,9 +1,9 @@
 -- The parts of a term, token by token.
 use Rattle.std.proofs.Common.{◌≡◌, Bool, true, false, None, List, [], ◌∷◌, ℕ, refl}
 use Rattle.std.specs.Borrow.{Bor}
-use Rattle.adp_model.specs.LineTokens.{Token, Word, Plus, Minus, Times}
-use Rattle.adp_model.specs.TermText.{begins_number, plain_number, plain_variable, multiple, with_part}
-use Rattle.adp_model.specs.TermParts.{parts_from, further_parts}
+use Rattle.job_texts.specs.LineTokens.{Token, Word, Plus, Minus, Times}
+use Rattle.job_texts.specs.TermText.{begins_number, plain_number, plain_variable, multiple, with_part}
+use Rattle.job_texts.specs.TermParts.{parts_from, further_parts}
 use Rattle.algebra_terms.specs.declared.symbols.Symbol.{Symbol}
 use Rattle.algebra_terms.specs.declared.symbols.Symbol.TheVariants as symbols
 use Rattle.algebra_terms.specs.Tokens.{symbol_of}

@@ -1,7 +1,7 @@
 -- The length of a quoted text, byte by byte, and the quoted text that it cuts off.
 use Rattle.std.proofs.Common.{◌≡◌, ℕ, suc, ◌+◌, Bool, true, false, Option, Some, None, List, [], ◌∷◌, take, refl, sym, ◌∙◌, arith}
 use Rattle.std.specs.Option.{option_map}
-use Rattle.adp_model.specs.LineTokens.{QuotedRest, QuotedSort, Quote, Backslash, Plain, quoted_sort, quoted_rest, with_letter, with_backslash, Quoted, Begins, beginning}
+use Rattle.job_texts.specs.LineTokens.{QuotedRest, QuotedSort, Quote, Backslash, Plain, quoted_sort, quoted_rest, with_letter, with_backslash, Quoted, Begins, beginning}
 use Rattle.algebra_terms.specs.Tokens.{quoted_bytes, letters_behind}
 
 -- so many bytes before

@@ -6,7 +6,7 @@ use Rattle.std.specs.Cmp.Lexicographic.{same_text}
 use Rattle.std.proofs.lemmas.Int.{fits_signed_from_abs}
 use lib.Pointwise.{pointwise}
 use Rattle.adp_model.specs.WellFormed.{is_in_range}
-use Rattle.adp_model.specs.TermText.{Part, total, totals_fit}
+use Rattle.job_texts.specs.TermText.{Part, total, totals_fit}
 
 pub same_variable : (a b : Option (List ℕ)) → option_eq (pointwise nat_eq) a b ≡ true → a ≡ b
 same_variable None None h = refl

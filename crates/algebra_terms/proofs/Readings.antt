@@ -1,9 +1,9 @@
 -- The reading of a term's text, from its tokens and its parts.
 use Rattle.std.proofs.Common.{◌≡◌, ℕ, true, false, Some, None, Ok, Err, List, [], ◌∷◌, map, refl, ap}
 use Rattle.adp_model.specs.declared.grammar.Linear.{Linear}
-use Rattle.adp_model.specs.LineTokens.{PlacedToken, Token, line_tokens}
-use Rattle.adp_model.specs.TermText.{Part, Name, Number, Unknown, are_names, are_numbers, totals_fit, are_declared, total, factors_after, term_of_parts}
-use Rattle.adp_model.specs.TermParts.{parts_of, term_parts, term_reading}
+use Rattle.job_texts.specs.LineTokens.{PlacedToken, Token, line_tokens}
+use Rattle.job_texts.specs.TermText.{Part, Name, Number, Unknown, are_names, are_numbers, totals_fit, are_declared, total, factors_after, term_of_parts}
+use Rattle.job_texts.specs.TermParts.{parts_of, term_parts, term_reading}
 use Rattle.algebra_terms.specs.declared.lexer.Token as spans
 use Rattle.algebra_terms.specs.declared.error.TermError.{TermError}
 use Rattle.algebra_terms.specs.declared.error.TermError.TheVariants as errors

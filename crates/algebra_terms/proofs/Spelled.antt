@@ -8,11 +8,11 @@ use Rattle.std.specs.Str.Parse.{AllDigits}
 use Rattle.std.proofs.lemmas.Fmt.{decimal_is_IsNumeral}
 use Rattle.std.proofs.lemmas.Str.Parse.{digit_from_value}
 use Rattle.adp_model.specs.WellFormed.{is_word_byte, is_in_range}
-use Rattle.adp_model.specs.Spelling.{factors_text, term_text}
+use Rattle.job_texts.specs.Spelling.{factors_text, term_text}
 use Rattle.adp_model.specs.declared.grammar.Linear.{Linear}
-use Rattle.adp_model.specs.LineTokens.{Token, Word, Plus, Minus, Times, before_tokens, begins_word, is_one_of, mark_of, tokens_of}
-use Rattle.adp_model.specs.TermText.{Part, begins_number, number_of, signed}
-use Rattle.adp_model.specs.TermParts.{parts_from, further_parts, term_parts}
+use Rattle.job_texts.specs.LineTokens.{Token, Word, Plus, Minus, Times, before_tokens, begins_word, is_one_of, mark_of, tokens_of}
+use Rattle.job_texts.specs.TermText.{Part, begins_number, number_of, signed}
+use Rattle.job_texts.specs.TermParts.{parts_from, further_parts, term_parts}
 use Rattle.algebra_terms.specs.Reading.{begins_times}
 use Rattle.algebra_terms.proofs.Parts.{at_number, at_multiple}
 use Rattle.algebra_terms.proofs.Ranges.{both}

@@ -10,10 +10,10 @@ use Rattle.adp_model.specs.declared.grammar.Kind.{Kind}
 use Rattle.adp_model.specs.declared.grammar.Sign.{Sign}
 use Rattle.adp_model.specs.declared.grammar.Linear.{Linear}
 use Rattle.adp_model.specs.WellFormed.{is_word_byte, is_name, is_in_range, is_sign, is_term}
-use Rattle.adp_model.specs.Spelling.{variables, term_text}
-use Rattle.adp_model.specs.LineTokens.{Token, Word, before_tokens, begins_word, is_one_of, mark_of, tokens_of}
-use Rattle.adp_model.specs.TermText.{Part, total, are_names, are_numbers, totals_fit, is_among, are_declared, factor_after, factors_after}
-use Rattle.adp_model.specs.TermParts.{term_reading}
+use Rattle.job_texts.specs.Spelling.{variables, term_text}
+use Rattle.job_texts.specs.LineTokens.{Token, Word, before_tokens, begins_word, is_one_of, mark_of, tokens_of}
+use Rattle.job_texts.specs.TermText.{Part, total, are_names, are_numbers, totals_fit, is_among, are_declared, factor_after, factors_after}
+use Rattle.job_texts.specs.TermParts.{term_reading}
 use Rattle.algebra_terms.proofs.Spelled.{variable_word, factor_parts, constant_part, decimal_is_word, parts_of_term}
 use Rattle.algebra_terms.proofs.Ranges.{both}
 use Rattle.algebra_terms.proofs.Readings.{made}

@@ -10,7 +10,7 @@ use Rattle.std.specs.Int.{w128}
 use Rattle.std.specs.Cmp.Lexicographic.{same_text}
 use lib.Pointwise.{pointwise}
 use Rattle.adp_model.specs.WellFormed.{is_in_range}
-use Rattle.adp_model.specs.TermText.{Part, amount_for, total, totals_fit}
+use Rattle.job_texts.specs.TermText.{Part, amount_for, total, totals_fit}
 use Rattle.algebra_terms.specs.declared.part.Part as code_parts
 use Rattle.algebra_terms.specs.Reading.{part_of, parts_seen, is_part_of, factor_in}
 

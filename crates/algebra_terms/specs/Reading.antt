@@ -12,9 +12,9 @@ use Rattle.algebra_terms.specs.declared.part.Part as code_parts
 use Rattle.algebra_terms.specs.declared.error.TermError.{TermError}
 use Rattle.algebra_terms.specs.declared.error.TermError.TheVariants as errors
 use Rattle.algebra_terms.specs.Tokens.{said}
-use Rattle.adp_model.specs.LineTokens.{Token, Times}
-use Rattle.adp_model.specs.TermParts.{further_parts}
-use Rattle.adp_model.specs.TermText.{Part, with_part, total, TermFault, Shape, Name, Number, Unknown}
+use Rattle.job_texts.specs.LineTokens.{Token, Times}
+use Rattle.job_texts.specs.TermParts.{further_parts}
+use Rattle.job_texts.specs.TermText.{Part, with_part, total, TermFault, Shape, Name, Number, Unknown}
 use Rattle.adp_model.specs.declared.grammar.Linear.{Linear}
 
 -- a part without where its variable lies in memory

@@ -9,7 +9,7 @@ use Rattle.algebra_terms.specs.declared.symbols.Symbol.{Symbol}
 use Rattle.algebra_terms.specs.declared.symbols.Symbol.TheVariants as symbols
 use Rattle.algebra_terms.specs.declared.error.TokenError.{TokenError}
 use Rattle.algebra_terms.specs.declared.error.TokenError.TheVariants as errors
-use Rattle.adp_model.specs.LineTokens.{Token, Word, Quoted, Equals, OpenBracket, CloseBracket, Comma, OpenSquare, CloseSquare, Bar, Plus, Minus, Times, Dots, PlacedToken, Offence, StrayByte, OpenQuote, mark_of, QuotedRest, quoted_rest, Space, Begins, Stops, beginning}
+use Rattle.job_texts.specs.LineTokens.{Token, Word, Quoted, Equals, OpenBracket, CloseBracket, Comma, OpenSquare, CloseSquare, Bar, Plus, Minus, Times, Dots, PlacedToken, Offence, StrayByte, OpenQuote, mark_of, QuotedRest, quoted_rest, Space, Begins, Stops, beginning}
 
 -- how many bytes the rest of a quoted text has
 abbrev pub quoted_bytes : Option QuotedRest → Option ℕ

@@ -4,10 +4,10 @@ ghost use Rattle.std.specs.Prelude.{◌≡◌, IsTrue, Ok};
 ghost use Rattle.adp_model.specs.declared.grammar.Sign.{Sign};
 ghost use Rattle.adp_model.specs.declared.grammar.Linear.{Linear};
 ghost use Rattle.adp_model.specs.WellFormed.{is_sign, is_term};
-ghost use Rattle.adp_model.specs.Spelling.{term_text, variables};
-ghost use Rattle.adp_model.specs.TermParts.{term_reading};
+ghost use Rattle.job_texts.specs.Spelling.{term_text, variables};
+ghost use Rattle.job_texts.specs.TermParts.{term_reading};
 
-use adp_model::laws::text::{marks_are_tokens, spaces_are_no_tokens, words_are_tokens};
+use job_texts::laws::{marks_are_tokens, spaces_are_no_tokens, words_are_tokens};
 
 /// The canonical spelling of a sign's term is read as that term.
 pub fn spelled_terms_are_read()

@@ -1,6 +1,6 @@
 ghost use Rattle.std.specs.Prelude.{◌≡◌, ◌≤◌, ◌^◌, false, length, map, All, IfOk, IfSome, IsErr, MatchOption, MatchResult};
 ghost use Rattle.std.specs.List.{prefix_len};
-ghost use Rattle.adp_model.specs.LineTokens as lines;
+ghost use Rattle.job_texts.specs.LineTokens as lines;
 ghost use Rattle.adp_model.specs.WellFormed as words;
 ghost use Rattle.algebra_terms.specs.Tokens.{IsBeginning, IsIn, IsStopped, placed, quoted_bytes};
 

@@ -1,5 +1,5 @@
 ghost use Rattle.std.specs.Prelude.{◌≡◌};
-ghost use Rattle.adp_model.specs.TermText as terms;
+ghost use Rattle.job_texts.specs.TermText as terms;
 
 /// The greatest number of a job, 2^62 - 1.
 pub const GREATEST: u128 = 4_611_686_018_427_387_903;

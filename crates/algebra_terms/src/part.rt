@@ -1,7 +1,7 @@
 ghost use Rattle.std.specs.Prelude.{◌≡◌, ◌<◌, ◌^◌, ◌∷◌, true, length, map, is_some, All, IfOk, IfSome, Some, MatchResult};
-ghost use Rattle.adp_model.specs.LineTokens as lines;
-ghost use Rattle.adp_model.specs.TermParts as parts;
-ghost use Rattle.adp_model.specs.TermText as terms;
+ghost use Rattle.job_texts.specs.LineTokens as lines;
+ghost use Rattle.job_texts.specs.TermParts as parts;
+ghost use Rattle.job_texts.specs.TermText as terms;
 ghost use Rattle.algebra_terms.specs.Reading.{IsAfterTimes, IsPart, IsFurtherPart, IsMissing, parts_seen};
 ghost use Rattle.algebra_terms.specs.Tokens.{IsIn, said};
 

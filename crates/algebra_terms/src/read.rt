@@ -1,7 +1,7 @@
 ghost use Rattle.std.specs.Prelude.{◌≡◌, ◌≤◌, ◌^◌, true, length};
 ghost use Rattle.std.specs.Option.{option_copied, option_map_or};
-ghost use Rattle.adp_model.specs.TermParts.{term_reading};
-ghost use Rattle.adp_model.specs.TermText as terms;
+ghost use Rattle.job_texts.specs.TermParts.{term_reading};
+ghost use Rattle.job_texts.specs.TermText as terms;
 ghost use Rattle.adp_model.specs.WellFormed as words;
 ghost use Rattle.algebra_terms.specs.Reading.{parts_seen, Gives};
 

@@ -1,5 +1,5 @@
 ghost use Rattle.std.specs.Prelude.{◌≡◌, ◌∷◌, ◌<◌, [], length, map, unwrap_or, All, IfSome, MatchOption};
-ghost use Rattle.adp_model.specs.LineTokens.{Dots, mark_of};
+ghost use Rattle.job_texts.specs.LineTokens.{Dots, mark_of};
 ghost use Rattle.algebra_terms.specs.Tokens.{IsClosed, IsIn, said, symbol_of};
 
 use crate::lexer::{Token, TokenKind};

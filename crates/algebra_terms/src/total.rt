@@ -1,5 +1,5 @@
 ghost use Rattle.std.specs.Prelude.{◌≡◌, IfOk, None};
-ghost use Rattle.adp_model.specs.TermText as terms;
+ghost use Rattle.job_texts.specs.TermText as terms;
 ghost use Rattle.adp_model.specs.WellFormed as numbers;
 ghost use Rattle.algebra_terms.specs.Reading.{part_of, parts_seen, AreTotals};
 

@@ -5,14 +5,14 @@ use Rattle.std.specs.List.{AllByRecursion, Contains}
 use Rattle.std.proofs.lemmas.Bool.{cases_lt, false≢true}
 use Rattle.adp_model.specs.declared.grammar.Arg.{Arg}
 use Rattle.adp_model.specs.declared.cell.Cell.{Cell}
-use Rattle.adp_model.specs.declared.visit.Position.{Position}
-use Rattle.adp_model.specs.declared.visit.Visit.{Visit}
+use Rattle.memo_model.specs.declared.visit.Position.{Position}
+use Rattle.memo_model.specs.declared.visit.Visit.{Visit}
 use Rattle.adp_model.specs.PosedProblem.{PosedProblem}
 use Rattle.adp_model.specs.Parts.{alternatives_of, arguments_of}
 use Rattle.adp_model.specs.Preference.{LexicographicallyLess}
 use Rattle.adp_model.specs.Splits.{place, placed, ends_by, FitsSpan, IsViable}
 use Rattle.adp_model.specs.SplitArguments.{SplitArgument, AsksFor, IsSplitArgument}
-use Rattle.adp_model.specs.Visits.{argument_at, turned_number, visited_at, is_before, IsWalk}
+use Rattle.memo_model.specs.Visits.{argument_at, turned_number, visited_at, is_before, IsWalk}
 use Rattle.adp_model.specs.Walk.{rank_of, ranks_of}
 use Rattle.split_lines.specs.Laid.{IsCellOf, LineParts, HasParts, AreBoundaries}
 use Rattle.argument_search.specs.declared.skipping.OpenPair.{OpenPair}

@@ -9,10 +9,10 @@ use Rattle.adp_model.specs.declared.cell.Cell.{Cell}
 use Rattle.adp_model.specs.PosedProblem.{PosedProblem}
 use Rattle.adp_model.specs.Parts.{arguments_of}
 use Rattle.adp_model.specs.Splits.{Placed, place, ends_by}
-use Rattle.adp_model.specs.declared.visit.Position.{Position}
-use Rattle.adp_model.specs.declared.visit.Visit.{Visit}
+use Rattle.memo_model.specs.declared.visit.Position.{Position}
+use Rattle.memo_model.specs.declared.visit.Visit.{Visit}
 use Rattle.adp_model.specs.SplitArguments.{SplitArgument, AsksFor, IsSplitArgument}
-use Rattle.adp_model.specs.Visits.{visited_at, is_before, is_behind, is_behind_position, argument_at, IsWalk}
+use Rattle.memo_model.specs.Visits.{visited_at, is_before, is_behind, is_behind_position, argument_at, IsWalk}
 use Rattle.argument_search.specs.Seeking.{moved_to, IsNextLeft, IsNextSought, IsNoneSought}
 use Rattle.argument_search.proofs.VisitOrder.{behind_moved, less_transitive, less_irreflexive}
 

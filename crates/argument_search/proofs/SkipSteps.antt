@@ -2,11 +2,11 @@
 use Rattle.std.proofs.Common.{◌≡◌, ℕ, ◌⊎◌, inl, inr, Bool, true, false, Option, Some, None, refl, sym, subst, ap, ◌∙◌}
 use Rattle.std.specs.Prelude.{MatchOption}
 use Rattle.adp_model.specs.declared.cell.Cell.{Cell}
-use Rattle.adp_model.specs.declared.visit.Position.{Position}
-use Rattle.adp_model.specs.declared.visit.Visit.{Visit}
+use Rattle.memo_model.specs.declared.visit.Position.{Position}
+use Rattle.memo_model.specs.declared.visit.Visit.{Visit}
 use Rattle.adp_model.specs.PosedProblem.{PosedProblem}
 use Rattle.adp_model.specs.SplitArguments.{SplitArgument, AsksFor}
-use Rattle.adp_model.specs.Visits.{visited_at, is_before, is_behind, is_behind_position, argument_at}
+use Rattle.memo_model.specs.Visits.{visited_at, is_before, is_behind, is_behind_position, argument_at}
 use Rattle.argument_search.specs.Seeking.{moved_to, IsFirstLeft, IsNextLeft, IsNoneLeft, IsNoneSought}
 use Rattle.argument_search.specs.Skipping.{IsSkipped}
 use Rattle.argument_search.proofs.VisitOrder.{less_transitive}

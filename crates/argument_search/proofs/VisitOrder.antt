@@ -4,11 +4,11 @@ use Rattle.std.specs.Prelude.{if◌then◌else◌, Option, Some, None}
 use Rattle.std.proofs.lemmas.Bool.{false≢true, cases_lt, ltb-true, lt-ltb, le-ltb, eqb-true, eq-eqb, false_from_ne_true}
 use Rattle.adp_model.specs.PosedProblem.{PosedProblem}
 use Rattle.adp_model.specs.Preference.{LexicographicallyLess}
-use Rattle.adp_model.specs.declared.visit.Position.{Position}
-use Rattle.adp_model.specs.declared.visit.Visit.{Visit}
+use Rattle.memo_model.specs.declared.visit.Position.{Position}
+use Rattle.memo_model.specs.declared.visit.Visit.{Visit}
 use Rattle.adp_model.specs.SplitArguments.{SplitArgument}
 use Rattle.argument_search.specs.Seeking.{moved_to}
-use Rattle.adp_model.specs.Visits.{visited_at, is_less, is_behind, is_behind_position, argument_at}
+use Rattle.memo_model.specs.Visits.{visited_at, is_less, is_behind, is_behind_position, argument_at}
 
 pub lex_from : (xs ys : List ℕ) → is_less xs ys ≡ true → LexicographicallyLess xs ys
 lex_from [] ys e = absurd (false≢true e)

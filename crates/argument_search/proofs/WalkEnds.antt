@@ -8,9 +8,9 @@ use Rattle.adp_model.specs.PosedProblem.{PosedProblem}
 use Rattle.adp_model.specs.Parts.{alternatives_of}
 use Rattle.adp_model.specs.Preference.{LexicographicallyLess}
 use Rattle.adp_model.specs.Walk.{ranks_of}
-use Rattle.adp_model.specs.declared.visit.Position.{Position}
-use Rattle.adp_model.specs.declared.visit.Visit.{Visit}
-use Rattle.adp_model.specs.Visits.{visited_at, is_less, argument_at}
+use Rattle.memo_model.specs.declared.visit.Position.{Position}
+use Rattle.memo_model.specs.declared.visit.Visit.{Visit}
+use Rattle.memo_model.specs.Visits.{visited_at, is_less, argument_at}
 use Rattle.argument_search.proofs.VisitOrder.{lex_from}
 
 abbrev power : List ℕ → ℕ

@@ -11,11 +11,11 @@ use Rattle.adp_model.specs.Parts.{alternatives_of, arguments_of}
 use Rattle.adp_model.specs.Preference.{LexicographicallyLess}
 use Rattle.adp_model.specs.Splits.{IsViable}
 use Rattle.adp_model.specs.Walk.{ranks_of, IsVisitedBefore, IsFirstVisited, IsNextVisited}
-use Rattle.adp_model.specs.declared.visit.Position.{Position}
-use Rattle.adp_model.specs.declared.visit.Visit.{Visit}
+use Rattle.memo_model.specs.declared.visit.Position.{Position}
+use Rattle.memo_model.specs.declared.visit.Visit.{Visit}
 use Rattle.adp_model.specs.SplitArguments.{SplitArgument, AsksFor, IsSplitArgument}
-use Rattle.adp_model.specs.Visits.{turned_number, visited_at, is_before, is_behind, is_behind_position, argument_at}
-use Rattle.adp_model.specs.Visits.{IsWalk}
+use Rattle.memo_model.specs.Visits.{turned_number, visited_at, is_before, is_behind, is_behind_position, argument_at}
+use Rattle.memo_model.specs.Visits.{IsWalk}
 use Rattle.argument_search.specs.Seeking.{AreAllNoted, AreNotedBehind, IsFirstLeft, IsNextLeft, IsNoneLeft, IsNoneSought}
 use Rattle.argument_search.specs.Skipping.{IsReached}
 use Rattle.argument_search.proofs.SeekSteps.{split_of}

@@ -3,10 +3,10 @@ use Rattle.std.specs.Prelude.{◌≡◌, ◌⊎◌, ℕ, ◌≤◌, true, false,
 use Rattle.adp_model.specs.declared.cell.Cell.{Cell}
 use Rattle.adp_model.specs.PosedProblem.{PosedProblem}
 use Rattle.adp_model.specs.Parts.{alternatives_of}
-use Rattle.adp_model.specs.declared.visit.Position.{Position}
-use Rattle.adp_model.specs.declared.visit.Visit.{Visit}
+use Rattle.memo_model.specs.declared.visit.Position.{Position}
+use Rattle.memo_model.specs.declared.visit.Visit.{Visit}
 use Rattle.adp_model.specs.SplitArguments.{SplitArgument, AsksFor, IsSplitArgument}
-use Rattle.adp_model.specs.Visits.{argument_at, turned_number, is_before, is_behind}
+use Rattle.memo_model.specs.Visits.{argument_at, turned_number, is_before, is_behind}
 use Rattle.adp_model.specs.Walk.{IsVisitedBefore}
 
 -- the walk, at another position

@@ -4,10 +4,10 @@ use Rattle.std.specs.Bool.{OnTrue}
 use Rattle.std.specs.List.{Contains}
 use Rattle.adp_model.specs.declared.cell.Cell.{Cell}
 use Rattle.adp_model.specs.PosedProblem.{PosedProblem}
-use Rattle.adp_model.specs.declared.visit.Position.{Position}
-use Rattle.adp_model.specs.declared.visit.Visit.{Visit}
+use Rattle.memo_model.specs.declared.visit.Position.{Position}
+use Rattle.memo_model.specs.declared.visit.Visit.{Visit}
 use Rattle.adp_model.specs.SplitArguments.{SplitArgument, AsksFor, IsSplitArgument}
-use Rattle.adp_model.specs.Visits.{argument_at, is_before}
+use Rattle.memo_model.specs.Visits.{argument_at, is_before}
 use Rattle.adp_model.specs.Walk.{rank_of}
 use Rattle.adp_model.specs.declared.grammar.Arg.{Arg}
 use Rattle.viable_splits.specs.Placing.{Cover}

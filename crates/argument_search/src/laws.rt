@@ -2,10 +2,10 @@
 
 ghost use Rattle.std.specs.Prelude.{◌≡◌, true, false};
 ghost use Rattle.adp_model.specs.PosedProblem.{PosedProblem};
-ghost use Rattle.adp_model.specs.declared.visit.Position.{Position};
-ghost use Rattle.adp_model.specs.declared.visit.Visit.{Visit};
+ghost use Rattle.memo_model.specs.declared.visit.Position.{Position};
+ghost use Rattle.memo_model.specs.declared.visit.Visit.{Visit};
 ghost use Rattle.adp_model.specs.SplitArguments.{SplitArgument};
-ghost use Rattle.adp_model.specs.Visits.{argument_at, is_behind};
+ghost use Rattle.memo_model.specs.Visits.{argument_at, is_behind};
 ghost use Rattle.argument_search.specs.Seeking.{moved_to};
 
 /// Where a walk has moved on to a position, that one isn't behind it any more, and what is was behind it before.

@@ -18,7 +18,8 @@ ghost use Rattle.argument_search.specs.Skipping.{AreNotedIfLaid, AreNotedOn};
 use crate::noted_cells::NotedCells;
 use crate::skipping::{OpenPair, both_noted};
 use adp_model::laws::well_formed::{alternatives_fit, arguments_are_few_and_known};
-use adp_model::{Arg, Cell, Position};
+use adp_model::{Arg, Cell};
+use memo_model::Position;
 use split_lines::{KeptAlternative, Line, Lines, is_fixed, line_begins_later, line_here};
 use std::ops::Range;
 

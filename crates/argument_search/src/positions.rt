@@ -3,7 +3,8 @@
 ghost use Rattle.std.specs.Prelude.{◌≡◌, ◌≤◌, ◌∷◌, slice_index};
 ghost use Rattle.adp_model.specs.Splits.{ends_by};
 
-use adp_model::{Cell, Position};
+use adp_model::Cell;
+use memo_model::Position;
 
 /// The argument of the same split with this number.
 pub(crate) fn at_number(at: Position, number: u8) -> Position

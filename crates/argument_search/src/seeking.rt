@@ -3,14 +3,15 @@
 ghost use Rattle.std.specs.Prelude.{◌≡◌, IfSome, MatchOption};
 ghost use Rattle.adp_model.specs.PosedProblem.{IsSpan};
 ghost use Rattle.adp_model.specs.SplitArguments.{IsSplitArgument};
-ghost use Rattle.adp_model.specs.Visits.{argument_at, IsWalk};
+ghost use Rattle.memo_model.specs.Visits.{argument_at, IsWalk};
 ghost use Rattle.argument_search.specs.Seeking.{IsNextSought, IsNoneSought};
 
 use crate::noted_cells::NotedCells;
 use crate::passing::Depth;
 use crate::walk::{asked, next_position};
 use adp_model::laws::well_formed::{alternatives_fit, arguments_are_few_and_known};
-use adp_model::{Cell, Position, Problem, Visit};
+use adp_model::{Cell, Problem};
+use memo_model::{Position, Visit};
 use split_lines::Lines;
 
 /// The next argument of a visit whose cell isn't noted, with its cell; `None` where all are. Along a line of splits the

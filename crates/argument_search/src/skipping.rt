@@ -9,7 +9,7 @@ ghost use Rattle.adp_model.specs.Parts.{alternatives_of, arguments_of};
 ghost use Rattle.adp_model.specs.declared.grammar.Arg.TheVariants.{Rule};
 ghost use Rattle.adp_model.specs.Splits.{ends_by, FitsSpan, IsViable};
 ghost use Rattle.adp_model.specs.SplitArguments.{IsSplitArgument};
-ghost use Rattle.adp_model.specs.Visits.{argument_at, IsWalk};
+ghost use Rattle.memo_model.specs.Visits.{argument_at, IsWalk};
 ghost use Rattle.adp_model.specs.WellFormed.{IsKnown};
 ghost use Rattle.viable_splits.specs.Placing.{on_span};
 ghost use Rattle.split_lines.specs.Laid.{IsCellOf};
@@ -22,7 +22,8 @@ use crate::positions::{at_number, end_of, first_of, start_of};
 use crate::walk::asked;
 use adp_model::laws::splits::{ranks_begin_at_the_turn, viable_cuts_lie_within_the_cell};
 use adp_model::laws::well_formed::arguments_are_few_and_known;
-use adp_model::{Arg, Cell, Position, Problem, Visit};
+use adp_model::{Arg, Cell, Problem};
+use memo_model::{Position, Visit};
 use split_lines::{Line, Lines};
 
 /// The two arguments of a line on a span, and the positions at which the boundary between them may stand: the first one

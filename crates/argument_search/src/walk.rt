@@ -8,7 +8,7 @@ ghost use Rattle.adp_model.specs.PosedProblem.{IsSpan};
 ghost use Rattle.adp_model.specs.Parts.{alternatives_of};
 ghost use Rattle.adp_model.specs.Splits.{ends_by};
 ghost use Rattle.adp_model.specs.SplitArguments.{IsSplitArgument, AsksFor};
-ghost use Rattle.adp_model.specs.Visits.{argument_at, turned_number, IsWalk};
+ghost use Rattle.memo_model.specs.Visits.{argument_at, turned_number, IsWalk};
 ghost use Rattle.adp_model.specs.Walk.{IsFirstVisited};
 ghost use Rattle.argument_search.specs.Seeking.{AreAllNoted, IsFirstLeft, IsNextLeft, IsNoneLeft, IsNoneSought, turned_of};
 
@@ -18,7 +18,8 @@ use crate::positions::{at_number, end_of, first_of, start_of};
 use crate::skipping::reached;
 use adp_model::laws::splits::ranks_tell_splits_apart;
 use adp_model::laws::well_formed::alternatives_fit;
-use adp_model::{Arg, Cell, Position, Problem, Visit};
+use adp_model::{Arg, Cell, Problem};
+use memo_model::{Position, Visit};
 use random_orders::rotated;
 use split_lines::Lines;
 use viable_splits::Cuts;

@@ -4,7 +4,7 @@ use Rattle.std.specs.List.{flat_map}
 use Rattle.std.specs.Fmt.{digits}
 use Rattle.adp_model.specs.declared.grammar.Grammar.{Grammar}
 use Rattle.adp_model.specs.Report.{line}
-use Rattle.adp_model.specs.Spelling.{grammar_lines}
+use Rattle.job_texts.specs.Spelling.{grammar_lines}
 use Rattle.adp_model.specs.BigReport.{pairs_grammar}
 use Rattle.big_problems.specs.PairsText.{pairs_text}
 

@@ -6,10 +6,10 @@ ghost use Rattle.adp_model.specs.Tree.{Tree};
 ghost use Rattle.adp_model.specs.PosedProblem.{axiom_cell};
 ghost use Rattle.adp_model.specs.WellFormed.{is_well_formed};
 ghost use Rattle.adp_model.specs.GrammarFaults.{IsFaultless};
-ghost use Rattle.adp_model.specs.Spelling.{spelling};
+ghost use Rattle.job_texts.specs.Spelling.{spelling};
 ghost use Rattle.adp_model.specs.ProblemFields.{KeepsLimits};
 ghost use Rattle.adp_model.specs.Derivation.{Derives};
-ghost use Rattle.adp_model.specs.Command.{greatest_size};
+ghost use Rattle.verdicts.specs.Command.{greatest_size};
 ghost use Rattle.adp_model.specs.BigReport.{pairs_grammar, made_problem};
 ghost use Rattle.big_problems.specs.PairsText.{pairs_text};
 

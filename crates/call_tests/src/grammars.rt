@@ -1,5 +1,5 @@
 ghost use Rattle.std.specs.Prelude.{◌≤◌, IsTrue, length};
-ghost use Rattle.adp_model.specs.Verdict.{greatest_length};
+ghost use Rattle.verdicts.specs.Verdict.{greatest_length};
 ghost use Rattle.adp_model.specs.WellFormed.{is_well_formed};
 
 use crate::jobs::{DOUBLING, FEWEST, LENGTH, LINE, PAIRS, PIECES, TWO_LETTERS, job};

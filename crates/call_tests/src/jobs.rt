@@ -1,6 +1,6 @@
 ghost use Rattle.std.specs.Prelude.{◌≤◌, length};
 ghost use Rattle.adp_model.specs.Printable.{IsPrintable};
-ghost use Rattle.adp_model.specs.Verdict.{greatest_length};
+ghost use Rattle.verdicts.specs.Verdict.{greatest_length};
 
 use adp_model::{Job, Text};
 use grammar_text::{TextError, read_text};

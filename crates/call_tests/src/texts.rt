@@ -1,5 +1,5 @@
 ghost use Rattle.std.specs.Prelude.{◌≤◌, length};
-ghost use Rattle.adp_model.specs.Verdict.{greatest_length};
+ghost use Rattle.verdicts.specs.Verdict.{greatest_length};
 
 use crate::jobs::{FEWEST, LENGTH, LINE, PAIRS, RUNS, job};
 use adp_model::{Job, is_well_formed};

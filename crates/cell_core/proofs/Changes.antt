@@ -6,12 +6,12 @@ use Rattle.std.specs.List.{Contains, AllByRecursion}
 use Rattle.std.proofs.lemmas.List.{length-reverse, reverse-append}
 use Rattle.std.proofs.lemmas.List.Sums.{count_by-le-length}
 use Rattle.adp_model.specs.declared.cell.Cell.{Cell}
-use Rattle.adp_model.specs.declared.visit.Frame.{Frame}
+use Rattle.memo_model.specs.declared.visit.Frame.{Frame}
 use Rattle.adp_model.specs.PosedProblem.{PosedProblem}
 use Rattle.adp_model.specs.ProblemFields.{most_cells}
 use Rattle.adp_model.specs.Demand.{IsDemandedCount}
-use Rattle.adp_model.specs.Memos.{Meaning, IsOnRecordWord, AddsNothing}
-use Rattle.adp_model.specs.Machines.{is_known, AreFewOpened, KnowsSoMany}
+use Rattle.memo_model.specs.Memos.{Meaning, IsOnRecordWord, AddsNothing}
+use Rattle.memo_model.specs.Machines.{is_known, AreFewOpened, KnowsSoMany}
 use Rattle.rand_pcg.specs.Lcg.{Lcg}
 use Rattle.random_orders.specs.Draws.{drawn_turns}
 use Rattle.cell_core.specs.declared.work.Work.{Work}

@@ -5,11 +5,11 @@ use Rattle.std.proofs.lemmas.Bool.{false≢true}
 use Rattle.std.proofs.lemmas.Option.{none-some}
 use Rattle.adp_model.specs.declared.cell.Answer.{Answer}
 use Rattle.adp_model.specs.declared.cell.Cell.{Cell}
-use Rattle.adp_model.specs.declared.visit.Frame.{Frame}
-use Rattle.adp_model.specs.declared.probe.Stage.TheVariants.{Publishing}
+use Rattle.memo_model.specs.declared.visit.Frame.{Frame}
+use Rattle.memo_model.specs.declared.probe.Stage.TheVariants.{Publishing}
 use Rattle.adp_model.specs.PosedProblem.{PosedProblem}
 use Rattle.adp_model.specs.SplitArguments.{SplitArgument}
-use Rattle.adp_model.specs.Memos.{Meaning, IsScoreOf, StayKnown, IsAdded, IsOnRecordWord}
+use Rattle.memo_model.specs.Memos.{Meaning, IsScoreOf, StayKnown, IsAdded, IsOnRecordWord}
 use Rattle.rand_pcg.specs.Lcg.{Lcg}
 use Rattle.cell_core.specs.declared.work.Work.{Work}
 use Rattle.cell_core.specs.Working.{frames_of, all_frames, with_top, HasRoom, IsSound, IsClosed, work_left}

@@ -2,11 +2,11 @@
 use Rattle.std.proofs.Common.{ℕ, ◌+◌, ◌≤◌, List, ◌∷◌, arith}
 use Rattle.std.specs.List.{count_by}
 use Rattle.adp_model.specs.declared.cell.Cell.{Cell}
-use Rattle.adp_model.specs.declared.visit.Frame.{Frame}
+use Rattle.memo_model.specs.declared.visit.Frame.{Frame}
 use Rattle.adp_model.specs.PosedProblem.{PosedProblem}
 use Rattle.adp_model.specs.Demand.{IsDemanded, AreDemanded}
-use Rattle.adp_model.specs.Memos.{Meaning, StayKnown}
-use Rattle.adp_model.specs.Machines.{is_known, KnowsSoMany, AreFewOpened}
+use Rattle.memo_model.specs.Memos.{Meaning, StayKnown}
+use Rattle.memo_model.specs.Machines.{is_known, KnowsSoMany, AreFewOpened}
 use Rattle.cell_core.proofs.Counts.{count_le, count_less}
 use Rattle.cell_core.proofs.Knowing.{stay_so, known_so, not_known_so}
 

@@ -7,10 +7,10 @@ use Rattle.adp_model.specs.declared.cell.Cell.{Cell}
 use Rattle.adp_model.specs.PosedProblem.{PosedProblem, axiom_cell}
 use Rattle.adp_model.specs.Splits.{placed}
 use Rattle.adp_model.specs.Demand.{IsDemanded, Child, IsDemandedChild}
-use Rattle.adp_model.specs.declared.visit.Frame.{Frame}
+use Rattle.memo_model.specs.declared.visit.Frame.{Frame}
 use Rattle.adp_model.specs.SplitArguments.{SplitArgument, AsksFor}
-use Rattle.adp_model.specs.Visits.{argument_at}
-use Rattle.adp_model.specs.Machines.{IsVisit, AreFrames}
+use Rattle.memo_model.specs.Visits.{argument_at}
+use Rattle.memo_model.specs.Machines.{IsVisit, AreFrames}
 
 contains_at : {X : Type 0} (xs : List X) (i : ℕ) (x : X) → slice_get xs i ≡ Some x → Contains xs x
 contains_at [] i x e = cc

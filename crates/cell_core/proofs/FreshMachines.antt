@@ -7,9 +7,9 @@ use Rattle.adp_model.specs.Cells.{IsCounted}
 use Rattle.adp_model.specs.Sizes.{IsWithinSizes}
 use Rattle.adp_model.specs.Demand.{IsDemanded}
 use Rattle.adp_model.specs.SplitArguments.{SplitArgument}
-use Rattle.adp_model.specs.Memos.{Meaning}
-use Rattle.adp_model.specs.Machines.{IsGoing, IsUnderWay, IsMachine}
-use Rattle.adp_model.specs.StepBound.{step_bound, steps_left, remaining_bound}
+use Rattle.memo_model.specs.Memos.{Meaning}
+use Rattle.memo_model.specs.Machines.{IsGoing, IsUnderWay, IsMachine}
+use Rattle.memo_model.specs.StepBound.{step_bound, steps_left, remaining_bound}
 use Rattle.cell_tables.specs.Noted.{Notes}
 use Rattle.cell_core.specs.declared.work.Work.{Work}
 use Rattle.cell_core.specs.Working.{frames_of, IsFreshWork}

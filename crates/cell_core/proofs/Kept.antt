@@ -9,16 +9,16 @@ use Rattle.adp_model.specs.PosedProblem.{PosedProblem, axiom_cell}
 use Rattle.adp_model.specs.Answers.{IsAnswer}
 use Rattle.adp_model.specs.Splits.{Placed, placed}
 use Rattle.adp_model.specs.Demand.{IsDemanded, IsDemandedChild}
-use Rattle.adp_model.specs.declared.visit.Position.{Position}
-use Rattle.adp_model.specs.declared.visit.Visit.{Visit}
-use Rattle.adp_model.specs.declared.visit.Frame.{Frame}
-use Rattle.adp_model.specs.declared.visit.Hand.{Hand}
-use Rattle.adp_model.specs.declared.probe.Stage.{Stage}
-use Rattle.adp_model.specs.declared.probe.Stage.TheVariants.{Unpublished, Publishing}
+use Rattle.memo_model.specs.declared.visit.Position.{Position}
+use Rattle.memo_model.specs.declared.visit.Visit.{Visit}
+use Rattle.memo_model.specs.declared.visit.Frame.{Frame}
+use Rattle.memo_model.specs.declared.visit.Hand.{Hand}
+use Rattle.memo_model.specs.declared.probe.Stage.{Stage}
+use Rattle.memo_model.specs.declared.probe.Stage.TheVariants.{Unpublished, Publishing}
 use Rattle.adp_model.specs.SplitArguments.{SplitArgument, AsksFor, IsSplitArgument}
-use Rattle.adp_model.specs.Visits.{argument_at, is_before, is_behind, is_behind_position, IsWalk}
-use Rattle.adp_model.specs.Memos.{Meaning, StayKnown, AddsNothing, AddsAtMost, IsAdded}
-use Rattle.adp_model.specs.Machines.{IsVisit, AreFrames, IsInHand, IsFollowing, IsWaiting, AreProbes, IsGoing}
+use Rattle.memo_model.specs.Visits.{argument_at, is_before, is_behind, is_behind_position, IsWalk}
+use Rattle.memo_model.specs.Memos.{Meaning, StayKnown, AddsNothing, AddsAtMost, IsAdded}
+use Rattle.memo_model.specs.Machines.{IsVisit, AreFrames, IsInHand, IsFollowing, IsWaiting, AreProbes, IsGoing}
 use Rattle.argument_search.specs.Seeking.{moved_to, IsNextSought, IsNoneSought}
 use Rattle.cell_core.proofs.Frames.{sought_below}
 

@@ -2,8 +2,8 @@
 use Rattle.std.proofs.Common.{◌≡◌, ◌⊎◌, inl, inr, true, false, refl}
 use Rattle.std.proofs.lemmas.Bool.{false≢true, false_from_ne_true}
 use Rattle.adp_model.specs.declared.cell.Cell.{Cell}
-use Rattle.adp_model.specs.Memos.{Meaning, StayKnown}
-use Rattle.adp_model.specs.Machines.{holds, is_known}
+use Rattle.memo_model.specs.Memos.{Meaning, StayKnown}
+use Rattle.memo_model.specs.Machines.{holds, is_known}
 
 holds_from : {A B : Type 0} (either : A ⊎ B) → holds either ≡ true → A
 holds_from (inl a) e = a

@@ -5,10 +5,10 @@ use Rattle.std.specs.List.{AllByRecursion}
 use Rattle.std.proofs.lemmas.Bool.{false≢true, and_parts, and_from, eqb-true, eq-eqb, not-true, not_from_true, not_from_false, false_from_ne_true}
 use Rattle.adp_model.specs.declared.cell.Cell.{Cell}
 use Rattle.adp_model.specs.PosedProblem.{PosedProblem}
-use Rattle.adp_model.specs.declared.visit.Frame.{Frame}
+use Rattle.memo_model.specs.declared.visit.Frame.{Frame}
 use Rattle.adp_model.specs.SplitArguments.{SplitArgument}
-use Rattle.adp_model.specs.Visits.{is_behind}
-use Rattle.adp_model.specs.StepBound.{is_cell, is_left}
+use Rattle.memo_model.specs.Visits.{is_behind}
+use Rattle.memo_model.specs.StepBound.{is_cell, is_left}
 
 -- ---- cells
 

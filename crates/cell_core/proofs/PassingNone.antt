@@ -2,11 +2,11 @@
 use Rattle.std.proofs.Common.{◌≡◌, ◌⊎◌, inl, inr, Option, Some, None}
 use Rattle.std.specs.Prelude.{MatchOption}
 use Rattle.adp_model.specs.declared.cell.Cell.{Cell}
-use Rattle.adp_model.specs.declared.visit.Position.{Position}
-use Rattle.adp_model.specs.declared.visit.Visit.{Visit}
+use Rattle.memo_model.specs.declared.visit.Position.{Position}
+use Rattle.memo_model.specs.declared.visit.Visit.{Visit}
 use Rattle.adp_model.specs.PosedProblem.{PosedProblem}
 use Rattle.adp_model.specs.SplitArguments.{IsSplitArgument}
-use Rattle.adp_model.specs.Visits.{argument_at}
+use Rattle.memo_model.specs.Visits.{argument_at}
 use Rattle.argument_search.specs.Seeking.{IsNextSought, IsNoneSought}
 
 abbrev Nothing : Cell → Type 0

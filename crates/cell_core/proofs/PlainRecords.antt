@@ -10,7 +10,7 @@ use Rattle.adp_model.specs.PosedProblem.{PosedProblem}
 use Rattle.adp_model.specs.Answers.{IsAnswer}
 use Rattle.adp_model.specs.Cells.{IsCounted, IsCellBound, IsPlaceOf}
 use Rattle.cell_core.specs.declared.plain_memo.Record.{Record}
-use Rattle.adp_model.specs.Memos.{Access, IsOnRecordWord, IsScoreOf}
+use Rattle.memo_model.specs.Memos.{Access, IsOnRecordWord, IsScoreOf}
 use Rattle.cell_core.specs.PlainScores.{score_in}
 use Rattle.cell_core.specs.PlainMemos.{PlainState, AreRecords, HasRecord, FoundAt, record_count, value_of, access_of, plain_meaning}
 

@@ -3,12 +3,12 @@ use Rattle.std.proofs.Common.{◌≡◌, ◌<◌, ◌≤◌, ℕ, Bool, true, Op
 use Rattle.std.proofs.lemmas.Bool.{false≢true}
 use Rattle.adp_model.specs.declared.cell.Answer.{Answer}
 use Rattle.adp_model.specs.declared.cell.Cell.{Cell}
-use Rattle.adp_model.specs.declared.visit.Frame.{Frame}
-use Rattle.adp_model.specs.declared.visit.Hand.{Hand}
+use Rattle.memo_model.specs.declared.visit.Frame.{Frame}
+use Rattle.memo_model.specs.declared.visit.Hand.{Hand}
 use Rattle.adp_model.specs.PosedProblem.{PosedProblem}
 use Rattle.adp_model.specs.SplitArguments.{SplitArgument}
-use Rattle.adp_model.specs.Memos.{Meaning}
-use Rattle.adp_model.specs.Machines.{IsUnderWay, IsMachine}
+use Rattle.memo_model.specs.Memos.{Meaning}
+use Rattle.memo_model.specs.Machines.{IsUnderWay, IsMachine}
 use Rattle.cell_tables.specs.Noted.{Notes, IsNoted}
 use Rattle.cell_core.specs.declared.work.Work.{Work}
 use Rattle.cell_core.specs.Working.{all_frames, HasRoom, IsSound, work_left}

@@ -4,14 +4,14 @@ use Rattle.std.specs.List.{Contains}
 use Rattle.std.proofs.lemmas.List.Sums.{sum_by-cons, count_by-le-length}
 use Rattle.adp_model.specs.declared.cell.Cell.{Cell}
 use Rattle.adp_model.specs.PosedProblem.{PosedProblem}
-use Rattle.adp_model.specs.declared.visit.Visit.{Visit}
-use Rattle.adp_model.specs.declared.visit.Frame.{Frame}
-use Rattle.adp_model.specs.declared.visit.Hand.{Hand}
+use Rattle.memo_model.specs.declared.visit.Visit.{Visit}
+use Rattle.memo_model.specs.declared.visit.Frame.{Frame}
+use Rattle.memo_model.specs.declared.visit.Hand.{Hand}
 use Rattle.adp_model.specs.SplitArguments.{SplitArgument}
-use Rattle.adp_model.specs.Visits.{is_behind}
-use Rattle.adp_model.specs.Memos.{Meaning, StayKnown}
-use Rattle.adp_model.specs.Machines.{is_known}
-use Rattle.adp_model.specs.StepBound.{is_left, left_of, step_bound, steps_left}
+use Rattle.memo_model.specs.Visits.{is_behind}
+use Rattle.memo_model.specs.Memos.{Meaning, StayKnown}
+use Rattle.memo_model.specs.Machines.{is_known}
+use Rattle.memo_model.specs.StepBound.{is_left, left_of, step_bound, steps_left}
 use Rattle.cell_core.proofs.Counts.{count_le, count_less, times_le, times_less}
 use Rattle.cell_core.proofs.Knowing.{stay_so, known_so, not_known_so}
 use Rattle.cell_core.proofs.LeftArguments.{Above, cell_same, left_known, left_moved, left_opened, left_closed}

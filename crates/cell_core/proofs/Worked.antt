@@ -6,18 +6,18 @@ use Rattle.std.proofs.lemmas.Bool.{false≢true}
 use Rattle.std.proofs.lemmas.Option.{none-some}
 use Rattle.adp_model.specs.declared.cell.Answer.{Answer}
 use Rattle.adp_model.specs.declared.cell.Cell.{Cell}
-use Rattle.adp_model.specs.declared.visit.Position.{Position}
-use Rattle.adp_model.specs.declared.visit.Frame.{Frame}
-use Rattle.adp_model.specs.declared.visit.Hand.{Hand}
-use Rattle.adp_model.specs.declared.probe.Stage.TheVariants.{Unpublished, Publishing}
+use Rattle.memo_model.specs.declared.visit.Position.{Position}
+use Rattle.memo_model.specs.declared.visit.Frame.{Frame}
+use Rattle.memo_model.specs.declared.visit.Hand.{Hand}
+use Rattle.memo_model.specs.declared.probe.Stage.TheVariants.{Unpublished, Publishing}
 use Rattle.adp_model.specs.PosedProblem.{PosedProblem, axiom_cell}
 use Rattle.adp_model.specs.Answers.{IsAnswer}
 use Rattle.adp_model.specs.Demand.{IsDemanded, IsDemandedChild}
 use Rattle.adp_model.specs.SplitArguments.{SplitArgument, AsksFor, IsSplitArgument, AreRuleArguments}
-use Rattle.adp_model.specs.Visits.{argument_at, is_behind, IsWalk}
-use Rattle.adp_model.specs.Memos.{Meaning, IsScoreOf, StayKnown, AddsNothing, AddsAtMost, IsAdded}
-use Rattle.adp_model.specs.Machines.{AreFrames, IsInHand, IsFollowing, IsWaiting, IsGoing, AreFewOpened, KnowsSoMany}
-use Rattle.adp_model.specs.StepBound.{steps_left}
+use Rattle.memo_model.specs.Visits.{argument_at, is_behind, IsWalk}
+use Rattle.memo_model.specs.Memos.{Meaning, IsScoreOf, StayKnown, AddsNothing, AddsAtMost, IsAdded}
+use Rattle.memo_model.specs.Machines.{AreFrames, IsInHand, IsFollowing, IsWaiting, IsGoing, AreFewOpened, KnowsSoMany}
+use Rattle.memo_model.specs.StepBound.{steps_left}
 use Rattle.cell_core.specs.declared.work.Work.{Work}
 use Rattle.argument_search.specs.Seeking.{moved_to, IsNextSought, IsNoneSought}
 use Rattle.cell_core.specs.Working.{frames_of, HasRoom, IsSound, work_left}

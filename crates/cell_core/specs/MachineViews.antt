@@ -2,11 +2,11 @@
 use Rattle.std.specs.Prelude.{◌≡◌, ◌↔◌, ℕ, Bool, true, false, Option, Some, None, []}
 use Rattle.adp_model.specs.declared.cell.Answer.{Answer}
 use Rattle.adp_model.specs.declared.cell.Cell.{Cell}
-use Rattle.adp_model.specs.declared.visit.Hand.{Hand}
+use Rattle.memo_model.specs.declared.visit.Hand.{Hand}
 use Rattle.adp_model.specs.PosedProblem.{PosedProblem, axiom_cell}
 use Rattle.adp_model.specs.Demand.{IsDemanded}
-use Rattle.adp_model.specs.Memos.{Meaning, IsOnRecordWord}
-use Rattle.adp_model.specs.Machines.{MachineState}
+use Rattle.memo_model.specs.Memos.{Meaning, IsOnRecordWord}
+use Rattle.memo_model.specs.Machines.{MachineState}
 use Rattle.cell_tables.specs.Noted.{Notes, IsNoted}
 use Rattle.rand_pcg.specs.Lcg.{Lcg}
 use Rattle.cell_core.specs.declared.work.Work.{Work}

@@ -5,13 +5,13 @@ use mathlib.Core.Logic.{inl, inr}
 use Rattle.adp_model.specs.declared.cell.Answer.{Answer}
 use Rattle.adp_model.specs.declared.cell.Answer.TheVariants.{NoCandidate, Best}
 use Rattle.adp_model.specs.declared.cell.Cell.{Cell}
-use Rattle.adp_model.specs.declared.probe.Stage.{Stage}
-use Rattle.adp_model.specs.declared.probe.Stage.TheVariants.{Open, Unpublished, Publishing, Done}
+use Rattle.memo_model.specs.declared.probe.Stage.{Stage}
+use Rattle.memo_model.specs.declared.probe.Stage.TheVariants.{Open, Unpublished, Publishing, Done}
 use Rattle.adp_model.specs.PosedProblem.{PosedProblem}
 use Rattle.adp_model.specs.Answers.{IsAnswer}
 use Rattle.adp_model.specs.Cells.{IsCounted, IsCellBound, IsPlaceOf}
 use Rattle.adp_model.specs.Demand.{IsDemanded}
-use Rattle.adp_model.specs.Memos.{Access, Meaning}
+use Rattle.memo_model.specs.Memos.{Access, Meaning}
 use Rattle.cell_core.specs.declared.plain_memo.Record.{Record}
 use Rattle.cell_core.specs.declared.plain_memo.Load.{Load}
 use Rattle.cell_core.specs.declared.plain_memo.PlainProbe.{PlainProbe}

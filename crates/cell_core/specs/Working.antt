@@ -1,14 +1,14 @@
 -- What holds of the parts of a machine that change from step to step.
 use Rattle.std.specs.Prelude.{◌≡◌, ℕ, ℤ, ◌+◌, ◌*◌, ◌≤◌, ◌⊎◌, Bool, true, false, Option, Some, None, List, [], ◌∷◌, reverse, length, vec_capacity}
 use Rattle.adp_model.specs.declared.cell.Cell.{Cell}
-use Rattle.adp_model.specs.declared.visit.Frame.{Frame}
-use Rattle.adp_model.specs.declared.visit.Hand.{Hand}
+use Rattle.memo_model.specs.declared.visit.Frame.{Frame}
+use Rattle.memo_model.specs.declared.visit.Hand.{Hand}
 use Rattle.adp_model.specs.PosedProblem.{PosedProblem, axiom_cell}
 use Rattle.adp_model.specs.Demand.{IsDemanded}
 use Rattle.adp_model.specs.SplitArguments.{SplitArgument}
-use Rattle.adp_model.specs.Memos.{Meaning}
-use Rattle.adp_model.specs.Machines.{IsGoing, IsAtEnd, AreFewOpened, KnowsSoMany}
-use Rattle.adp_model.specs.StepBound.{steps_left}
+use Rattle.memo_model.specs.Memos.{Meaning}
+use Rattle.memo_model.specs.Machines.{IsGoing, IsAtEnd, AreFewOpened, KnowsSoMany}
+use Rattle.memo_model.specs.StepBound.{steps_left}
 use Rattle.cell_core.specs.declared.work.Work.{Work}
 use Rattle.cell_core.specs.declared.work.Turn.{Turn}
 use Rattle.cell_core.specs.declared.work.Turn.TheVariants as turns

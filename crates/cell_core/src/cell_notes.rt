@@ -7,10 +7,11 @@ ghost use Rattle.cell_tables.specs.Noted.{IsNoted};
 
 use crate::notes::Notes;
 use adp_model::laws::demand::demanded_cells_are_counted;
-use adp_model::{Answer, Cell, Position, Problem, Visit};
+use adp_model::{Answer, Cell, Problem};
 use argument_search::{NotedCells, seek};
 use cell_answers::{Scores, cell_answer};
 use cell_tables::Noted;
+use memo_model::{Position, Visit};
 use split_lines::{Lines, Prepared};
 use std::alloc::{AllocError, Global};
 use std::marker::Model;

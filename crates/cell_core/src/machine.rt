@@ -4,17 +4,18 @@ ghost use Rattle.std.specs.Prelude.{◌≡◌, ◌+◌, ◌-◌, ◌<◌, ◌≤
 ghost use Rattle.std.specs.Arc.{arc_value};
 ghost use Rattle.adp_model.specs.Demand.{IsDemandedCount};
 ghost use Rattle.adp_model.specs.SplitArguments.{SplitArgument, AreRuleArguments};
-ghost use Rattle.adp_model.specs.StepsMade.{steps_made};
-ghost use Rattle.adp_model.specs.Memos.{StayKnown};
-ghost use Rattle.adp_model.specs.Machines.{IsMachine};
-ghost use Rattle.adp_model.specs.StepBound.{step_bound, remaining_bound};
+ghost use Rattle.memo_model.specs.StepsMade.{steps_made};
+ghost use Rattle.memo_model.specs.Memos.{StayKnown};
+ghost use Rattle.memo_model.specs.Machines.{IsMachine};
+ghost use Rattle.memo_model.specs.StepBound.{step_bound, remaining_bound};
 ghost use Rattle.cell_core.specs.Working.{IsTurn};
 ghost use Rattle.cell_core.specs.FrameChanges.{standing, ChangesFrames, GainsWins};
 ghost use Rattle.cell_core.specs.MachineViews.{IsNotedIn, IsFresh, LoadsAsTold, looked_for, next_loads};
 
 use crate::cell_notes::CellNotes;
 use crate::work::{Turn, Work, fresh_work, make_step};
-use adp_model::{Memo, Problem, Steps};
+use adp_model::Problem;
+use memo_model::{Memo, Steps};
 use random_orders::Orders;
 use split_lines::Prepared;
 use std::alloc::{AllocError, Global};

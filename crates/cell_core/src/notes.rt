@@ -1,4 +1,5 @@
-use adp_model::{Answer, Cell, Position, Visit};
+use adp_model::{Answer, Cell};
+use memo_model::{Position, Visit};
 
 /// What a machine has noted of cells: which, and their scores. A problem's; cells are noted by `note` alone.
 pub(crate) trait Notes {
@@ -8,8 +9,8 @@ pub(crate) trait Notes {
     ghost use Rattle.adp_model.specs.Answers.{IsAnswer};
     ghost use Rattle.adp_model.specs.Demand.{IsDemanded, IsDemandedChild};
     ghost use Rattle.adp_model.specs.SplitArguments.{IsSplitArgument};
-    ghost use Rattle.adp_model.specs.Visits.{argument_at, IsWalk};
-    ghost use Rattle.adp_model.specs.Memos.{IsScoreOf};
+    ghost use Rattle.memo_model.specs.Visits.{argument_at, IsWalk};
+    ghost use Rattle.memo_model.specs.Memos.{IsScoreOf};
     ghost use Rattle.argument_search.specs.Seeking.{IsNextSought, IsNoneSought};
 
     ghost problem: { Self → PosedProblem };

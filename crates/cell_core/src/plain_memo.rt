@@ -5,8 +5,9 @@ ghost use Rattle.cell_core.specs.PlainScores.{score_in};
 
 use adp_model::laws::cells::{places_are_unique, places_tell_cells_apart};
 use adp_model::laws::demand::demanded_cells_are_counted;
-use adp_model::{Answer, Cell, Look, Memo, Problem, Publish, Stage, Steps};
+use adp_model::{Answer, Cell, Problem};
 use cell_layouts::{Places, places};
+use memo_model::{Look, Memo, Publish, Stage, Steps};
 use std::alloc::{AllocError, Global};
 use std::marker::Model;
 use std::sync::ledger::Ledger;

@@ -1,12 +1,12 @@
 -- Machines and passes that go on by steps.
 use Rattle.std.proofs.Common.{◌≡◌, ℕ, ◌<◌, ◌≤◌, List, length, refl, sym, ◌∙◌, subst, arith}
 use Rattle.adp_model.specs.ProblemFields.{IsAdmissible}
-use Rattle.adp_model.specs.Memos.{Meaning}
-use Rattle.adp_model.specs.Machines.{IsMachine}
+use Rattle.memo_model.specs.Memos.{Meaning}
+use Rattle.memo_model.specs.Machines.{IsMachine}
 use Rattle.adp_model.specs.PosedProblem.{PosedProblem}
 use Rattle.adp_model.specs.Demand.{IsDemandedCount}
 use Rattle.adp_model.specs.SplitArguments.{SplitArgument, AreRuleArguments}
-use Rattle.adp_model.specs.StepBound.{step_bound, remaining_bound}
+use Rattle.memo_model.specs.StepBound.{step_bound, remaining_bound}
 use Rattle.memo_words.specs.declared.pass.Pass.{Pass as TablePass}
 use Rattle.memo_words.specs.declared.words.Words.{Words}
 use Rattle.memo_words.specs.Passes.{IsPassOf}

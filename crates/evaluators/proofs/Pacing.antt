@@ -4,8 +4,8 @@ use Rattle.std.proofs.lemmas.Nat.{mul-le}
 use Rattle.rand_pcg.specs.Lcg.{Lcg}
 use Rattle.random_orders.specs.Draws.{drawn_turns, after_draws}
 use Rattle.adp_model.specs.PosedProblem.{PosedProblem}
-use Rattle.adp_model.specs.Memos.{Meaning}
-use Rattle.adp_model.specs.StepBound.{step_bound}
+use Rattle.memo_model.specs.Memos.{Meaning}
+use Rattle.memo_model.specs.StepBound.{step_bound}
 use Rattle.cell_core.specs.FrameChanges.{Standing, turn_bounds, ChangesFrames}
 
 -- the orders are those after four draws for each opened frame

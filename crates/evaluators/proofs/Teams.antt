@@ -6,7 +6,7 @@ use Rattle.rand_pcg.specs.Lcg.{Lcg, state_after}
 use Rattle.random_orders.specs.Draws.{after_draws}
 use Rattle.adp_model.specs.PosedProblem.{PosedProblem}
 use Rattle.adp_model.specs.ProblemFields.{IsAdmissible}
-use Rattle.adp_model.specs.Machines.{IsMachine}
+use Rattle.memo_model.specs.Machines.{IsMachine}
 use Rattle.memo_words.specs.declared.words.Words.{Words}
 use Rattle.memo_words.specs.Passes.{IsPassOf, view_of, problem_of}
 use Rattle.memo_table.specs.Meanings.{table_meaning}

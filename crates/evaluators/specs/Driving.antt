@@ -5,9 +5,9 @@ use Rattle.random_orders.specs.Draws.{after_draws}
 use Rattle.adp_model.specs.Demand.{IsDemandedCount}
 use Rattle.adp_model.specs.SplitArguments.{SplitArgument, AreRuleArguments}
 use Rattle.adp_model.specs.ProblemFields.{IsAdmissible}
-use Rattle.adp_model.specs.Memos.{Meaning}
-use Rattle.adp_model.specs.Machines.{MachineState, IsMachine}
-use Rattle.adp_model.specs.StepBound.{step_bound, remaining_bound}
+use Rattle.memo_model.specs.Memos.{Meaning}
+use Rattle.memo_model.specs.Machines.{MachineState, IsMachine}
+use Rattle.memo_model.specs.StepBound.{step_bound, remaining_bound}
 use Rattle.cell_core.specs.MachineViews.{MachineView, IsNotedIn}
 
 -- the machine has at most the steps of a fresh one left

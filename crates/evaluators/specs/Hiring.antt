@@ -1,7 +1,7 @@
 -- A team with one worker more, whose machine is fresh.
 use Rattle.std.specs.Prelude.{◌≡◌, ℕ, List, [], ◌∷◌, ◌++◌}
 use Rattle.adp_model.specs.PosedProblem.{PosedProblem}
-use Rattle.adp_model.specs.Machines.{IsMachine}
+use Rattle.memo_model.specs.Machines.{IsMachine}
 use Rattle.memo_words.specs.declared.pass.Pass.{Pass}
 use Rattle.memo_table.specs.Meanings.{table_meaning}
 use Rattle.cell_core.specs.MachineViews.{IsFresh, IsNotedIn}

@@ -2,7 +2,7 @@
 
 ghost use Rattle.std.specs.Prelude.{◌≡◌, ◌<◌, ◌≤◌, ℕ, [], ◌∷◌, ◌++◌, IfOk, All, map, true, vec_len, slice_index_or};
 ghost use Rattle.std.specs.Arc.{arc_value};
-ghost use Rattle.adp_model.specs.Machines.{IsMachine};
+ghost use Rattle.memo_model.specs.Machines.{IsMachine};
 ghost use Rattle.adp_model.specs.ProblemFields.{IsAdmissible};
 ghost use Rattle.cell_core.specs.MachineViews.{IsFresh, IsNotedIn};
 ghost use Rattle.memo_table.specs.Meanings.{table_meaning};

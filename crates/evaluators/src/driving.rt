@@ -8,8 +8,8 @@ use crate::watcher::Watcher;
 use adp_model::laws::existence::{
     demanded_cells_are_listed, rule_arguments_are_few, rule_arguments_are_listed,
 };
-use adp_model::{Memo, Steps};
 use cell_core::Machine;
+use memo_model::{Memo, Steps};
 use random_orders::draws_advance_the_generator;
 use std::marker::Brand;
 use std::sync::ledger::{Blank, Ledger};

@@ -9,11 +9,11 @@ use Rattle.adp_model.specs.declared.grammar.Grammar.{Grammar}
 use Rattle.adp_model.specs.declared.job.Job.{Job}
 use Rattle.adp_model.specs.declared.fault.TextFault.{TextFault}
 use Rattle.adp_model.specs.WellFormed.{is_well_formed}
-use Rattle.adp_model.specs.JobLines.{job_lines, is_words_line, up_to_words_line, header_of, words_line_of, words_of}
-use Rattle.adp_model.specs.Declarations.{Declaration, HeaderLine, Skipped, Unprintable, Unclosed, Shapeless, Says, header_line}
-use Rattle.adp_model.specs.DeclaredNames.{TextLines, text_lines, form_of, form_at, declarations, above, is_algebra_line}
-use Rattle.adp_model.specs.TextFaults.{is_axiom_line, is_words_line_number, Counted, limited, counts_of, counts_at, is_word_line, words_up_to}
-use Rattle.adp_model.specs.JobText.{declared_grammar, first_fault, Accepted, accepted_of, text_verdict, IsText, IsFaultOf}
+use Rattle.job_texts.specs.JobLines.{job_lines, is_words_line, up_to_words_line, header_of, words_line_of, words_of}
+use Rattle.job_texts.specs.Declarations.{Declaration, HeaderLine, Skipped, Unprintable, Unclosed, Shapeless, Says, header_line}
+use Rattle.job_texts.specs.DeclaredNames.{TextLines, text_lines, form_of, form_at, declarations, above, is_algebra_line}
+use Rattle.job_texts.specs.TextFaults.{is_axiom_line, is_words_line_number, Counted, limited, counts_of, counts_at, is_word_line, words_up_to}
+use Rattle.job_texts.specs.JobText.{declared_grammar, first_fault, Accepted, accepted_of, text_verdict, IsText, IsFaultOf}
 use Rattle.grammar_text.specs.Building.{are_buildable}
 use Rattle.grammar_text.proofs.Nothing.{map_none, not_some, none_of_both, none_passes}
 use Rattle.grammar_text.proofs.Faultless.{free, Each, each_faultless, IsFaultless, is_over}

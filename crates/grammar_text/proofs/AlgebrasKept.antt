@@ -11,10 +11,10 @@ use Rattle.adp_model.specs.declared.grammar.Sign as signs
 use Rattle.adp_model.specs.declared.grammar.Linear.{Linear}
 use Rattle.adp_model.specs.declared.grammar.Algebra as algebras
 use Rattle.adp_model.specs.WellFormed.{is_name, is_in_range, is_term, is_algebra}
-use Rattle.adp_model.specs.TermText.{Part, are_numbers, total, totals_fit, is_among, linear_of, factors_after}
-use Rattle.adp_model.specs.Declarations.{Declaration, Class, Sign, Algebra, Let, Rule, Axiom, Words}
-use Rattle.adp_model.specs.DeclaredNames.{kinds_of_sign, is_algebra_line, section_of, let_signs, sign_names, algebra_names}
-use Rattle.adp_model.specs.JobText.{term_in, declared_algebras}
+use Rattle.job_texts.specs.TermText.{Part, are_numbers, total, totals_fit, is_among, linear_of, factors_after}
+use Rattle.job_texts.specs.Declarations.{Declaration, Class, Sign, Algebra, Let, Rule, Axiom, Words}
+use Rattle.job_texts.specs.DeclaredNames.{kinds_of_sign, is_algebra_line, section_of, let_signs, sign_names, algebra_names}
+use Rattle.job_texts.specs.JobText.{term_in, declared_algebras}
 use Rattle.grammar_text.proofs.Faultless.{Each, IsFaultless}
 use Rattle.grammar_text.proofs.Sorts.{same_text, either_order, each_all, all_take}
 use Rattle.grammar_text.proofs.SignKinds.{HasOwnKinds}

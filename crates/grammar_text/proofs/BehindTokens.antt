@@ -1,8 +1,8 @@
 -- The bytes behind a token have the tokens behind it.
 use Rattle.std.proofs.Common.{◌≡◌, ℕ, zero, suc, ◌+◌, ◌<◌, get_or, length, take, Result, Ok, Err, List, [], ◌∷◌, ◌++◌, map, drop, refl, sym, ap, ◌∙◌, add-zero, subst, arith}
 use Rattle.std.proofs.lemmas.List.{take-append-drop, drop_more, map-append}
-use Rattle.adp_model.specs.LineTokens.{Token, PlacedToken, Offence, Beginning, Space, Begins, Stops, beginning, with_token, tokens_from, line_tokens, tokens_of}
-use Rattle.adp_model.specs.TermParts.{parts_of, term_parts}
+use Rattle.job_texts.specs.LineTokens.{Token, PlacedToken, Offence, Beginning, Space, Begins, Stops, beginning, with_token, tokens_from, line_tokens, tokens_of}
+use Rattle.job_texts.specs.TermParts.{parts_of, term_parts}
 use Rattle.algebra_terms.specs.declared.lexer.Token as spans
 use Rattle.algebra_terms.specs.Tokens.{said, placed}
 

@@ -5,7 +5,7 @@ use Rattle.std.specs.Option.{option_or}
 use Rattle.std.proofs.lemmas.Bool.{and_parts, and_from}
 use Rattle.std.proofs.lemmas.List.{take_more, drop_more, map_push}
 use Rattle.std.proofs.lemmas.List.Elements.{filter_map-append}
-use Rattle.adp_model.specs.DeclaredNames.{first_of_list}
+use Rattle.job_texts.specs.DeclaredNames.{first_of_list}
 
 pub all_at : {X Y : Type 0} (test : Y → Bool) (seen : X → Y) (xs : List X) (i : ℕ) (x : X) → list_all test (map seen xs) ≡ true → i < length xs → x ≡ get_or xs i x → test (seen x) ≡ true
 all_at test seen [] i x h within e = absurd (omega arith)

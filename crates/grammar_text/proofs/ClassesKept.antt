@@ -5,8 +5,8 @@ use Rattle.std.proofs.lemmas.Bool.{and_parts, and_from, or_parts, not-false, le-
 use Rattle.std.proofs.lemmas.List.Folds.{list_all-append}
 use Rattle.adp_model.specs.Printable.{is_printable_byte}
 use Rattle.adp_model.specs.WellFormed.{is_name, is_in_range, is_entry, is_class, letters_are_distinct}
-use Rattle.adp_model.specs.Declarations.{Item, Class}
-use Rattle.adp_model.specs.TextFaults.{weight_of, item_letters, class_letters, misnames, misletters}
+use Rattle.job_texts.specs.Declarations.{Item, Class}
+use Rattle.job_texts.specs.TextFaults.{weight_of, item_letters, class_letters, misnames, misletters}
 use Rattle.grammar_text.proofs.Shapes.{is_printable_item}
 use Rattle.grammar_text.proofs.TermsInRange.{weight_in_range}
 

@@ -7,11 +7,11 @@ use Rattle.std.proofs.lemmas.List.{append-nil}
 use Rattle.std.proofs.lemmas.List.Elements.{filter_map-append}
 use Rattle.std.proofs.Math.Seq.{take-append_seam, drop-append-add, get_or-append_seam}
 use Rattle.adp_model.specs.declared.fault.TextFault.{TextFault}
-use Rattle.adp_model.specs.TermText.{is_among}
-use Rattle.adp_model.specs.Declarations.{Declaration, HeaderLine, Skipped, Unprintable, Unclosed, Shapeless, Says}
-use Rattle.adp_model.specs.DeclaredNames.{TextLines, form_of, form_at, declarations, above, below, sign_names, section_of, let_signs, is_algebra_line}
-use Rattle.adp_model.specs.TextFaults.{has_unprintable_byte, has_no_words_line, has_not_one_axiom, lacks_let, has_no_name, has_no_number, has_repeated_name, has_no_letters, has_misplaced_let, has_unknown_name, has_misfit, has_crossed_run, passes_limit, misnames, misnumbers, repeats, misletters, is_misplaced, uses_unknown, misfits, Counted, counts_of, counts_at, is_word_line, words_up_to, limited, FaultKind, fault_kinds, plain_kind}
-use Rattle.adp_model.specs.JobText.{fault_at, first_fault_at, first_fault}
+use Rattle.job_texts.specs.TermText.{is_among}
+use Rattle.job_texts.specs.Declarations.{Declaration, HeaderLine, Skipped, Unprintable, Unclosed, Shapeless, Says}
+use Rattle.job_texts.specs.DeclaredNames.{TextLines, form_of, form_at, declarations, above, below, sign_names, section_of, let_signs, is_algebra_line}
+use Rattle.job_texts.specs.TextFaults.{has_unprintable_byte, has_no_words_line, has_not_one_axiom, lacks_let, has_no_name, has_no_number, has_repeated_name, has_no_letters, has_misplaced_let, has_unknown_name, has_misfit, has_crossed_run, passes_limit, misnames, misnumbers, repeats, misletters, is_misplaced, uses_unknown, misfits, Counted, counts_of, counts_at, is_word_line, words_up_to, limited, FaultKind, fault_kinds, plain_kind}
+use Rattle.job_texts.specs.JobText.{fault_at, first_fault_at, first_fault}
 use Rattle.grammar_text.specs.Judged as judged
 use Rattle.grammar_text.proofs.Nothing.{or_none, map_none, not_some, none_passes, none_of_both, told}
 

@@ -2,8 +2,8 @@
 use Rattle.std.proofs.Common.{◌≡◌, ℕ, suc, ◌+◌, ◌-◌, ◌≤◌, Some, None, refl, arith}
 use Rattle.std.specs.List.{range_with_len}
 use Rattle.adp_model.specs.declared.fault.TextFault.{TextFault}
-use Rattle.adp_model.specs.DeclaredNames.{TextLines}
-use Rattle.adp_model.specs.JobText.{fault_at, first_fault_at}
+use Rattle.job_texts.specs.DeclaredNames.{TextLines}
+use Rattle.job_texts.specs.JobText.{fault_at, first_fault_at}
 
 -- the fault of the line at hand is the first of those that are left
 pub fault_found : (text : TextLines) (i n : ℕ) (fault : TextFault) → i ≤ n → fault_at text (i + 1) ≡ Some fault

@@ -6,10 +6,10 @@ use Rattle.std.specs.Borrow.{Bor}
 use Rattle.std.proofs.lemmas.List.{take_more, map_push, length-map}
 use Rattle.std.proofs.Math.Nat.{min-eq_left}
 use lib.Pointwise.{pointwise}
-use Rattle.adp_model.specs.TermText.{is_among}
+use Rattle.job_texts.specs.TermText.{is_among}
 use Rattle.adp_model.specs.declared.grammar.Kind.{Kind}
-use Rattle.adp_model.specs.Declarations.{Declaration, Class, Sign, Algebra, Let, Rule, Axiom, Words}
-use Rattle.adp_model.specs.DeclaredNames.{first_of_list, kinds_given, kinds_of_sign, sign_name_of}
+use Rattle.job_texts.specs.Declarations.{Declaration, Class, Sign, Algebra, Let, Rule, Axiom, Words}
+use Rattle.job_texts.specs.DeclaredNames.{first_of_list, kinds_given, kinds_of_sign, sign_name_of}
 use Rattle.grammar_text.specs.Names.{gives_kinds}
 use Rattle.std.proofs.lemmas.List.Quantifiers.{position-Some}
 use Rattle.grammar_text.proofs.Sorts.{same_text, either_order}

@@ -3,7 +3,7 @@ use Rattle.std.proofs.Common.{◌≡◌, ℕ, ◌<◌, Option, Some, None, List,
 use Rattle.std.specs.Borrow.{Bor}
 use Rattle.std.specs.Option.{option_map}
 use Rattle.std.proofs.lemmas.List.{map_push}
-use Rattle.adp_model.specs.Declarations as forms
+use Rattle.job_texts.specs.Declarations as forms
 use Rattle.algebra_terms.specs.declared.symbols.Symbol.{Symbol}
 use Rattle.grammar_text.specs.Seen.{tokens_seen, words_seen, with_arguments}
 

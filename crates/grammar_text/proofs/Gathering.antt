@@ -3,10 +3,10 @@ use Rattle.std.proofs.Common.{◌≡◌, ℕ, suc, ◌+◌, ◌-◌, Bool, true,
 use Rattle.std.specs.List.{list_any, position}
 use Rattle.std.specs.Option.{option_map}
 use Rattle.std.specs.Borrow.{Bor}
-use Rattle.adp_model.specs.JobLines.{job_lines, is_words_line, up_to_words_line, words_line_of, words_of}
-use Rattle.adp_model.specs.DeclaredNames.{text_lines}
+use Rattle.job_texts.specs.JobLines.{job_lines, is_words_line, up_to_words_line, words_line_of, words_of}
+use Rattle.job_texts.specs.DeclaredNames.{text_lines}
 use Rattle.grammar_text.specs.Seen.{words_seen}
-use Rattle.adp_model.specs.Declarations as forms
+use Rattle.job_texts.specs.Declarations as forms
 use Rattle.grammar_text.specs.declared.reader.collected.LineSort.{LineSort}
 use Rattle.grammar_text.specs.declared.reader.collected.LineSort.TheVariants.{Skipped, Unprintable, Unclosed, Shapeless, Says}
 use Rattle.grammar_text.specs.Collecting.{is_last, says_in, woven}

@@ -2,9 +2,9 @@
 use Rattle.std.proofs.Common.{◌≡◌, ℕ, true, false, Some, None, Ok, List, map, refl}
 use Rattle.std.specs.List.{list_all}
 use Rattle.adp_model.specs.Printable.{is_printable_byte}
-use Rattle.adp_model.specs.LineTokens.{line_tokens}
-use Rattle.adp_model.specs.JobLines.{is_skipped}
-use Rattle.adp_model.specs.Declarations as forms
+use Rattle.job_texts.specs.LineTokens.{line_tokens}
+use Rattle.job_texts.specs.JobLines.{is_skipped}
+use Rattle.job_texts.specs.Declarations as forms
 use Rattle.algebra_terms.specs.declared.lexer.Token as spans
 use Rattle.algebra_terms.specs.declared.symbols.Symbol.{Symbol}
 use Rattle.algebra_terms.specs.Tokens as code

@@ -3,9 +3,9 @@ use Rattle.std.proofs.Common.{◌≡◌, ℕ, zero, suc, ◌+◌, ◌<◌, ◌�
 use Rattle.std.specs.Borrow.{Bor}
 use Rattle.std.specs.List.{filter_map, position, position_or_len, after_first}
 use Rattle.std.specs.Option.{option_map}
-use Rattle.adp_model.specs.JobLines.{is_words_line, up_to_words_line, words_line_of, words_of}
-use Rattle.adp_model.specs.Declarations.{Declaration, HeaderLine, Skipped, Unprintable, Unclosed, Shapeless, Says, header_line}
-use Rattle.adp_model.specs.DeclaredNames.{form_of}
+use Rattle.job_texts.specs.JobLines.{is_words_line, up_to_words_line, words_line_of, words_of}
+use Rattle.job_texts.specs.Declarations.{Declaration, HeaderLine, Skipped, Unprintable, Unclosed, Shapeless, Says, header_line}
+use Rattle.job_texts.specs.DeclaredNames.{form_of}
 use Rattle.std.proofs.lemmas.List.{length-map}
 use Rattle.std.proofs.lemmas.List.Elements.{All-cons}
 use Rattle.std.proofs.lemmas.Option.{none-some}

@@ -2,8 +2,8 @@
 use Rattle.std.proofs.Common.{◌≡◌, ℕ, zero, suc, ◌+◌, ◌<◌, ◌≤◌, true, false, List, [], ◌∷◌, ◌++◌, length, map, drop, get_or, refl, sym, ◌∙◌, ap, append_assoc, arith}
 use Rattle.std.specs.Borrow.{Bor}
 use Rattle.std.proofs.lemmas.List.{drop_more}
-use Rattle.adp_model.specs.JobLines.{up_to_words_line}
-use Rattle.adp_model.specs.Declarations as forms
+use Rattle.job_texts.specs.JobLines.{up_to_words_line}
+use Rattle.job_texts.specs.Declarations as forms
 use Rattle.grammar_text.specs.Seen.{words_seen}
 use Rattle.grammar_text.specs.Collecting.{is_last}
 use Rattle.grammar_text.proofs.WordsLines.{last_is_words}

@@ -1,8 +1,8 @@
 -- What the reading of a term shows of its parts.
 use Rattle.std.proofs.Common.{◌≡◌, ℕ, Bool, true, false, ◌&&◌, Option, Some, None, Result, Ok, Err, IsSome, List, refl}
 use Rattle.adp_model.specs.declared.grammar.Linear.{Linear}
-use Rattle.adp_model.specs.TermText.{Part, are_names, are_numbers, totals_fit, are_declared, linear_of, term_of_parts, Name, Number, Unknown}
-use Rattle.adp_model.specs.TermParts.{term_parts, term_reading}
+use Rattle.job_texts.specs.TermText.{Part, are_names, are_numbers, totals_fit, are_declared, linear_of, term_of_parts, Name, Number, Unknown}
+use Rattle.job_texts.specs.TermParts.{term_parts, term_reading}
 use Rattle.algebra_terms.specs.declared.error.TermError.{TermError}
 use Rattle.algebra_terms.specs.declared.error.TermError.TheVariants as errors
 use Rattle.algebra_terms.specs.Reading.{Gives}

@@ -3,10 +3,10 @@ use Rattle.std.proofs.Common.{◌≡◌, ℕ, ◌+◌, ◌*◌, ◌-◌, ◌<◌
 use Rattle.std.specs.Borrow.{Bor}
 use Rattle.std.specs.Option.{option_map}
 use Rattle.std.proofs.lemmas.List.{drop-map, length-map}
-use Rattle.adp_model.specs.LineTokens.{Token, Word, OpenBracket}
-use Rattle.adp_model.specs.TermText.{Part}
-use Rattle.adp_model.specs.TermParts.{parts_of, term_parts}
-use Rattle.adp_model.specs.Declarations as forms
+use Rattle.job_texts.specs.LineTokens.{Token, Word, OpenBracket}
+use Rattle.job_texts.specs.TermText.{Part}
+use Rattle.job_texts.specs.TermParts.{parts_of, term_parts}
+use Rattle.job_texts.specs.Declarations as forms
 use Rattle.algebra_terms.specs.declared.lexer.Token as spans
 use Rattle.algebra_terms.specs.declared.symbols.Symbol.{Symbol}
 use Rattle.algebra_terms.specs.Tokens as code

@@ -6,7 +6,7 @@ use Rattle.std.proofs.lemmas.Slice.Zip.{length-zip, get_or-zip}
 use Rattle.std.specs.List.{flat_map, zip}
 use Rattle.adp_model.specs.declared.grammar.Sign.{Sign}
 use Rattle.adp_model.specs.declared.grammar.Linear.{Linear}
-use Rattle.adp_model.specs.Spelling.{let_line}
+use Rattle.job_texts.specs.Spelling.{let_line}
 
 pub lets_more : (before out new : List ℕ) (signs : List Sign) (terms : List Linear) (n : ℕ) (sign : Sign) (term : Linear) → n < length signs → n < length terms
     → sign ≡ get_or signs n sign → term ≡ get_or terms n term → out ≡ before ++ flat_map let_line (take n (zip signs terms)) → new ≡ out ++ let_line (sign, term)

@@ -2,13 +2,13 @@
 use Rattle.std.proofs.Common.{◌≡◌, ℕ, ◌+◌, ◌<◌, ℤ, pos, Option, unwrap_or, List, [], ◌∷◌, ◌++◌, length, map, take, get_or, refl, sym, ◌∙◌, append-nil}
 use Rattle.std.proofs.lemmas.List.{take_more, map_push}
 use Rattle.std.proofs.lemmas.List.Concat.{flat_map-append}
-use Rattle.adp_model.specs.Declarations as forms
-use Rattle.adp_model.specs.TextFaults.{weight_of, item_letters, class_letters}
+use Rattle.job_texts.specs.Declarations as forms
+use Rattle.job_texts.specs.TextFaults.{weight_of, item_letters, class_letters}
 use Rattle.algebra_terms.specs.Tokens.{letters_behind}
 use Rattle.grammar_text.specs.declared.reader.declaration.Item.{Item}
 use Rattle.grammar_text.specs.Seen.{item_seen}
 use Rattle.std.specs.Option.{option_map}
-use Rattle.adp_model.specs.LineTokens.{QuotedRest}
+use Rattle.job_texts.specs.LineTokens.{QuotedRest}
 
 -- these letters, then those of the rest of a quoted text
 abbrev pub letters_first : List ℕ → Option QuotedRest → Option (List ℕ)

@@ -2,10 +2,10 @@
 use Rattle.std.proofs.Common.{◌≡◌, ℕ, ◌+◌, Bool, true, false, ◌&&◌, ◌||◌, not, Option, Some, None, List, [], ◌∷◌, ◌++◌, take, drop, get_or, nat_lt, refl, sym, ◌∙◌, ap}
 use Rattle.std.specs.List.{list_all, list_any}
 use Rattle.std.specs.Option.{option_map_or, option_or}
-use Rattle.adp_model.specs.TermText.{is_among}
-use Rattle.adp_model.specs.Declarations.{Declaration, Words}
-use Rattle.adp_model.specs.DeclaredNames.{TextLines, form_at, above, below, declarations, is_algebra_line, section_of, let_signs, sign_names}
-use Rattle.adp_model.specs.TextFaults as faults
+use Rattle.job_texts.specs.TermText.{is_among}
+use Rattle.job_texts.specs.Declarations.{Declaration, Words}
+use Rattle.job_texts.specs.DeclaredNames.{TextLines, form_at, above, below, declarations, is_algebra_line, section_of, let_signs, sign_names}
+use Rattle.job_texts.specs.TextFaults as faults
 use Rattle.grammar_text.specs.Judged as judged
 use Rattle.grammar_text.specs.Names.{first_passing}
 use Rattle.grammar_text.specs.LineKinds.{AreLineTests, AreTestsAlone, word_counts}

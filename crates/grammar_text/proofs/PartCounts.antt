@@ -5,10 +5,10 @@ use Rattle.std.specs.Option.{option_map}
 use Rattle.std.proofs.lemmas.List.{length-map}
 use Rattle.adp_model.specs.declared.grammar.Kind.{Kind}
 use Rattle.adp_model.specs.Printable.{is_printable_byte}
-use Rattle.adp_model.specs.LineTokens.{Token, Word, Quoted, Equals, OpenBracket, CloseBracket, Comma, OpenSquare, CloseSquare, Bar, Dots, PlacedToken, Offence, StrayByte, OpenQuote, Space, Begins, Stops, Beginning, beginning, with_token, tokens_from, tokens_of, line_tokens}
-use Rattle.adp_model.specs.JobLines.{is_skipped}
-use Rattle.adp_model.specs.TermParts.{parts_of}
-use Rattle.adp_model.specs.Declarations.{Declaration, Class, Sign, Algebra, Let, Rule, Alternative, Argument, Named, Spelled, OneOf, RunOf, RuleRest, Says, with_argument, at_close, with_sign, is_word, items_of, class_of, goal_of, algebra_of, LetTokens, let_tokens, let_of, axiom_of, nothing_more, kind_of, with_kind, kinds_of, sign_of, alternatives_of, arguments_of, behind_argument, rule_of, behind_word, declaration_of, header_line}
+use Rattle.job_texts.specs.LineTokens.{Token, Word, Quoted, Equals, OpenBracket, CloseBracket, Comma, OpenSquare, CloseSquare, Bar, Dots, PlacedToken, Offence, StrayByte, OpenQuote, Space, Begins, Stops, Beginning, beginning, with_token, tokens_from, tokens_of, line_tokens}
+use Rattle.job_texts.specs.JobLines.{is_skipped}
+use Rattle.job_texts.specs.TermParts.{parts_of}
+use Rattle.job_texts.specs.Declarations.{Declaration, Class, Sign, Algebra, Let, Rule, Alternative, Argument, Named, Spelled, OneOf, RunOf, RuleRest, Says, with_argument, at_close, with_sign, is_word, items_of, class_of, goal_of, algebra_of, LetTokens, let_tokens, let_of, axiom_of, nothing_more, kind_of, with_kind, kinds_of, sign_of, alternatives_of, arguments_of, behind_argument, rule_of, behind_word, declaration_of, header_line}
 use Rattle.grammar_text.specs.Names.{part_count}
 
 -- at most so many, where there are any

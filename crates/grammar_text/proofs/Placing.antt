@@ -1,9 +1,9 @@
 -- A line of a header: what it is, and what the lines above and below it say.
 use Rattle.std.proofs.Common.{◌≡◌, ℕ, zero, suc, ◌+◌, ◌<◌, ◌≤◌, List, [], ◌∷◌, length, take, drop, get_or, Bool, true, false, None, ◌-◌, add-one, refl, ◌∙◌, ap, arith}
 use Rattle.std.specs.List.{filter_map}
-use Rattle.adp_model.specs.Declarations as forms
-use Rattle.adp_model.specs.DeclaredNames.{TextLines, form_of, form_at, header_at, above, below, declarations}
-use Rattle.adp_model.specs.TextFaults.{has_no_shape, has_unclosed_quote}
+use Rattle.job_texts.specs.Declarations as forms
+use Rattle.job_texts.specs.DeclaredNames.{TextLines, form_of, form_at, header_at, above, below, declarations}
+use Rattle.job_texts.specs.TextFaults.{has_no_shape, has_unclosed_quote}
 use Rattle.grammar_text.specs.declared.reader.collected.LineSort.{LineSort}
 use Rattle.grammar_text.specs.declared.reader.collected.LineSort.TheVariants.{Skipped, Unprintable, Unclosed, Shapeless, Says}
 use Rattle.grammar_text.specs.Collecting.{says_in, woven}

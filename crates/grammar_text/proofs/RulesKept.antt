@@ -11,11 +11,11 @@ use Rattle.adp_model.specs.declared.grammar.Kind.TheVariants as kinds
 use Rattle.adp_model.specs.declared.grammar.Grammar.{Grammar}
 use Rattle.adp_model.specs.Parts.{sign_at}
 use Rattle.adp_model.specs.WellFormed.{is_high_bound, is_argument, is_alternative}
-use Rattle.adp_model.specs.TermText.{is_among}
-use Rattle.adp_model.specs.Declarations.{Argument, Named, Spelled, OneOf, RunOf, Alternative, Declaration, Class, Sign, Algebra, Let, Rule, Axiom, Words}
-use Rattle.adp_model.specs.DeclaredNames.{class_names, sign_names, rule_names, kinds_of_sign, first_of_list}
-use Rattle.adp_model.specs.TextFaults.{bound_of, fits_kind, fits_sign, is_unknown_argument, is_unknown_alternative, has_crossed_bounds, is_axiom_line, uses_unknown}
-use Rattle.adp_model.specs.JobText.{number_among, argument_of, alternative_of, axiom_name}
+use Rattle.job_texts.specs.TermText.{is_among}
+use Rattle.job_texts.specs.Declarations.{Argument, Named, Spelled, OneOf, RunOf, Alternative, Declaration, Class, Sign, Algebra, Let, Rule, Axiom, Words}
+use Rattle.job_texts.specs.DeclaredNames.{class_names, sign_names, rule_names, kinds_of_sign, first_of_list}
+use Rattle.job_texts.specs.TextFaults.{bound_of, fits_kind, fits_sign, is_unknown_argument, is_unknown_alternative, has_crossed_bounds, is_axiom_line, uses_unknown}
+use Rattle.job_texts.specs.JobText.{number_among, argument_of, alternative_of, axiom_name}
 use Rattle.grammar_text.proofs.Sorts.{number_within}
 use Rattle.grammar_text.specs.Building.{is_printable_argument, is_printable_alternative}
 

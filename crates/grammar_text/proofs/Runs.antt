@@ -5,7 +5,7 @@ use Rattle.std.specs.Ordering.{int_eq}
 use Rattle.std.proofs.lemmas.Bool.Decides.{Decides-int_eq}
 use Rattle.std.proofs.lemmas.Cmp.{int_eq_equiv}
 use Rattle.std.proofs.lemmas.List.Sums.{prefix_len-le-length}
-use Rattle.adp_model.specs.Spelling.{runs_of, run_text}
+use Rattle.job_texts.specs.Spelling.{runs_of, run_text}
 use Rattle.grammar_text.proofs.Appends.{appended}
 
 -- how many letters from the front on have this weight

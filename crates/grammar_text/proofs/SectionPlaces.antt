@@ -8,10 +8,10 @@ use Rattle.std.proofs.lemmas.List.{append-nil}
 use Rattle.std.proofs.lemmas.List.Elements.{filter_map-append}
 use Rattle.std.proofs.lemmas.List.Folds.{list_any-append}
 use lib.Pointwise.{pointwise}
-use Rattle.adp_model.specs.TermText.{is_among}
+use Rattle.job_texts.specs.TermText.{is_among}
 use Rattle.adp_model.specs.WellFormed.{are_distinct}
-use Rattle.adp_model.specs.Declarations.{Declaration, Class, Sign, Algebra, Let, Rule, Axiom, Words}
-use Rattle.adp_model.specs.DeclaredNames.{is_algebra_line, since_algebra, section_of, let_sign_of, let_signs, sign_names}
+use Rattle.job_texts.specs.Declarations.{Declaration, Class, Sign, Algebra, Let, Rule, Axiom, Words}
+use Rattle.job_texts.specs.DeclaredNames.{is_algebra_line, since_algebra, section_of, let_sign_of, let_signs, sign_names}
 use Rattle.grammar_text.specs.Names.{has_no_place, has_no_place_behind, AreMembers, lacks_sign}
 
 -- ---- below the nearest algebra line above

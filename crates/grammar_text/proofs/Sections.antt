@@ -3,7 +3,7 @@ use Rattle.std.proofs.Common.{◌≡◌, ℕ, zero, suc, ◌+◌, ◌<◌, ◌�
 use Rattle.std.specs.List.{position_or_len}
 use Rattle.std.proofs.lemmas.Bool.{and_parts}
 use Rattle.std.proofs.lemmas.List.{take_all, drop_more, length-map}
-use Rattle.adp_model.specs.DeclaredNames.{is_algebra_line, section_of}
+use Rattle.job_texts.specs.DeclaredNames.{is_algebra_line, section_of}
 use Rattle.grammar_text.specs.declared.reader.declaration.Declaration.{Declaration}
 use Rattle.grammar_text.specs.declared.reader.declaration.Declaration.TheVariants as code
 use Rattle.std.specs.Borrow.{Bor}

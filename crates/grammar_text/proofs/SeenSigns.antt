@@ -3,7 +3,7 @@ use Rattle.std.proofs.Common.{◌≡◌, ℕ, false, None, List, Vec, Global, re
 use Rattle.std.specs.Borrow.{Bor}
 use Rattle.adp_model.specs.declared.grammar.Kind.{Kind}
 use Rattle.adp_model.specs.declared.grammar.Goal.{Goal}
-use Rattle.adp_model.specs.DeclaredNames.{is_algebra_line, let_sign_of}
+use Rattle.job_texts.specs.DeclaredNames.{is_algebra_line, let_sign_of}
 use Rattle.grammar_text.specs.declared.reader.declaration.Declaration.{Declaration}
 use Rattle.grammar_text.specs.declared.reader.declaration.Declaration.TheVariants as declarations
 use Rattle.grammar_text.specs.declared.reader.declaration.Term.{Term}

@@ -3,8 +3,8 @@ use Rattle.std.proofs.Common.{◌≡◌, ℕ, zero, suc, ◌+◌, ◌*◌, ◌-�
 use Rattle.std.specs.Borrow.{Bor}
 use Rattle.std.proofs.Math.Seq.{take-length}
 use Rattle.adp_model.specs.declared.grammar.Kind.{Kind}
-use Rattle.adp_model.specs.LineTokens.{Token, OpenSquare, Word, CloseSquare, Dots, CloseBracket, Comma, Bar}
-use Rattle.adp_model.specs.Declarations as forms
+use Rattle.job_texts.specs.LineTokens.{Token, OpenSquare, Word, CloseSquare, Dots, CloseBracket, Comma, Bar}
+use Rattle.job_texts.specs.Declarations as forms
 use Rattle.algebra_terms.specs.declared.symbols.Symbol.{Symbol}
 use Rattle.grammar_text.specs.declared.reader.declaration.Item.{Item}
 use Rattle.grammar_text.specs.declared.reader.declaration.Argument.{Argument}

@@ -10,12 +10,12 @@ use Rattle.adp_model.specs.declared.grammar.Kind.{Kind}
 use Rattle.adp_model.specs.declared.grammar.Goal.{Goal}
 use Rattle.adp_model.specs.Printable.{is_printable_byte}
 use Rattle.adp_model.specs.WellFormed.{is_word_byte}
-use Rattle.adp_model.specs.JobLines.{is_skipped}
-use Rattle.adp_model.specs.LineTokens.{Token, Word, Quoted, Equals, OpenBracket, CloseBracket, Comma, OpenSquare, CloseSquare, Bar, Minus, Dots, PlacedToken, Offence, StrayByte, OpenQuote, ByteSort, SpaceByte, WordByte, QuoteByte, DotByte, MarkByte, OtherByte, byte_sort, mark_of, marks, is_one_of, QuotedSort, Quote, Backslash, Plain, quoted_sort, QuotedRest, with_letter, with_backslash, quoted_rest, Beginning, Space, Begins, Stops, beginning, with_token, tokens_from, line_tokens, tokens_of}
-use Rattle.adp_model.specs.Declarations.{Item, Argument, Named, Spelled, OneOf, RunOf, Alternative, Declaration, Class, Sign, Algebra, Let, Rule, is_word, further_items, items_of, class_of, kind_of, with_kind, kinds_of, sign_of, goal_of, algebra_of, LetTokens, let_tokens, let_of, RuleRest, with_argument, at_close, with_sign, alternatives_of, arguments_of, behind_argument, rule_of, axiom_of, nothing_more, behind_word, declaration_of, HeaderLine, Skipped, Unprintable, Unclosed, Shapeless, Says, and_before, header_line}
-use Rattle.adp_model.specs.TermText.{Part}
+use Rattle.job_texts.specs.JobLines.{is_skipped}
+use Rattle.job_texts.specs.LineTokens.{Token, Word, Quoted, Equals, OpenBracket, CloseBracket, Comma, OpenSquare, CloseSquare, Bar, Minus, Dots, PlacedToken, Offence, StrayByte, OpenQuote, ByteSort, SpaceByte, WordByte, QuoteByte, DotByte, MarkByte, OtherByte, byte_sort, mark_of, marks, is_one_of, QuotedSort, Quote, Backslash, Plain, quoted_sort, QuotedRest, with_letter, with_backslash, quoted_rest, Beginning, Space, Begins, Stops, beginning, with_token, tokens_from, line_tokens, tokens_of}
+use Rattle.job_texts.specs.Declarations.{Item, Argument, Named, Spelled, OneOf, RunOf, Alternative, Declaration, Class, Sign, Algebra, Let, Rule, is_word, further_items, items_of, class_of, kind_of, with_kind, kinds_of, sign_of, goal_of, algebra_of, LetTokens, let_tokens, let_of, RuleRest, with_argument, at_close, with_sign, alternatives_of, arguments_of, behind_argument, rule_of, axiom_of, nothing_more, behind_word, declaration_of, HeaderLine, Skipped, Unprintable, Unclosed, Shapeless, Says, and_before, header_line}
+use Rattle.job_texts.specs.TermText.{Part}
 use Rattle.grammar_text.specs.Building.{is_printable_argument, is_printable_alternative}
-use Rattle.adp_model.specs.TermParts.{parts_of}
+use Rattle.job_texts.specs.TermParts.{parts_of}
 
 -- ---- letters of quoted texts
 

@@ -7,11 +7,11 @@ use Rattle.std.proofs.lemmas.List.Elements.{filter_map-append}
 use lib.Pointwise.{pointwise}
 use Rattle.adp_model.specs.declared.grammar.Kind.{Kind}
 use Rattle.adp_model.specs.declared.grammar.Sign as signs
-use Rattle.adp_model.specs.TermText.{is_among}
-use Rattle.adp_model.specs.Declarations.{Declaration, Class, Sign, Algebra, Let, Rule, Axiom, Words}
-use Rattle.adp_model.specs.DeclaredNames.{sign_names, kinds_given, kinds_of_sign}
-use Rattle.adp_model.specs.TextFaults.{repeats}
-use Rattle.adp_model.specs.JobText.{declared_sign}
+use Rattle.job_texts.specs.TermText.{is_among}
+use Rattle.job_texts.specs.Declarations.{Declaration, Class, Sign, Algebra, Let, Rule, Axiom, Words}
+use Rattle.job_texts.specs.DeclaredNames.{sign_names, kinds_given, kinds_of_sign}
+use Rattle.job_texts.specs.TextFaults.{repeats}
+use Rattle.job_texts.specs.JobText.{declared_sign}
 use Rattle.grammar_text.proofs.Faultless.{Each, each_so}
 use Rattle.grammar_text.proofs.Sorts.{own_text, either_order, each_whole, each_part, place_of}
 

@@ -8,9 +8,9 @@ use Rattle.std.proofs.lemmas.List.Elements.{filter_map-append}
 use Rattle.std.proofs.lemmas.List.Folds.{list_any-append}
 use lib.Pointwise.{pointwise, bytes_decides}
 use Rattle.adp_model.specs.WellFormed.{are_distinct}
-use Rattle.adp_model.specs.TermText.{is_among}
-use Rattle.adp_model.specs.Declarations.{Declaration}
-use Rattle.adp_model.specs.JobText.{number_among}
+use Rattle.job_texts.specs.TermText.{is_among}
+use Rattle.job_texts.specs.Declarations.{Declaration}
+use Rattle.job_texts.specs.JobText.{number_among}
 use Rattle.grammar_text.proofs.Faultless.{Each}
 
 -- ---- texts

@@ -9,7 +9,7 @@ use Rattle.std.proofs.lemmas.Bool.{false_from_ne_true}
 use Rattle.std.proofs.lemmas.Bool.Decides.{nat_tests}
 use Rattle.std.proofs.Math.Dec.{eqb-suc-zero}
 use Rattle.memchr.specs.Find.{IsFirstByte, is_byte}
-use Rattle.adp_model.specs.JobLines.{job_lines}
+use Rattle.job_texts.specs.JobLines.{job_lines}
 
 front_first : (line : List ℕ) (rest : List (List ℕ)) (first : List ℕ) (others : List (List ℕ)) → rest ≡ first ∷ others → lines_of_parts (line ∷ rest) ≡ strip_carriage_return line ∷ lines_of_parts rest
 front_first line rest first others is = rw is refl

@@ -7,9 +7,9 @@ use Rattle.std.specs.Str.Parse.{digits_value}
 use Rattle.std.proofs.lemmas.Bool.{and_parts, and_from, or_parts}
 use lib.Pointwise.{pointwise}
 use Rattle.adp_model.specs.WellFormed.{is_in_range}
-use Rattle.adp_model.specs.TermText.{Part, number_of, signed, total, totals_fit, is_among, factor_after, factors_after}
-use Rattle.adp_model.specs.Declarations.{Item}
-use Rattle.adp_model.specs.TextFaults.{weight_of}
+use Rattle.job_texts.specs.TermText.{Part, number_of, signed, total, totals_fit, is_among, factor_after, factors_after}
+use Rattle.job_texts.specs.Declarations.{Item}
+use Rattle.job_texts.specs.TextFaults.{weight_of}
 use Rattle.grammar_text.proofs.Sorts.{same_text}
 
 -- ---- weights

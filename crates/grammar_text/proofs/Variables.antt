@@ -7,7 +7,7 @@ use Rattle.std.specs.Fmt.{decimal}
 use Rattle.std.specs.List.{flat_map}
 use Rattle.adp_model.specs.declared.grammar.Kind.{Kind}
 use Rattle.adp_model.specs.declared.grammar.Kind.TheVariants.{Score}
-use Rattle.adp_model.specs.Spelling.{separated, variables}
+use Rattle.job_texts.specs.Spelling.{separated, variables}
 use Rattle.grammar_text.proofs.Appends.{appended}
 
 -- what comes after the variables of so many kinds

@@ -1,8 +1,8 @@
 -- A header kept as what its lines are and, apart, what those that have form say.
 use Rattle.std.proofs.Common.{◌≡◌, ℕ, zero, suc, ◌+◌, List, [], ◌∷◌, ◌++◌, length, take, drop, refl, ap, arith}
 use Rattle.std.specs.List.{filter_map}
-use Rattle.adp_model.specs.Declarations as forms
-use Rattle.adp_model.specs.DeclaredNames.{form_of}
+use Rattle.job_texts.specs.Declarations as forms
+use Rattle.job_texts.specs.DeclaredNames.{form_of}
 use Rattle.grammar_text.specs.declared.reader.collected.LineSort.{LineSort}
 use Rattle.grammar_text.specs.declared.reader.collected.LineSort.TheVariants.{Skipped, Unprintable, Unclosed, Shapeless, Says}
 use Rattle.grammar_text.specs.Collecting.{says_in, woven}

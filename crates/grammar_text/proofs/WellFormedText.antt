@@ -10,12 +10,12 @@ use Rattle.adp_model.specs.declared.grammar.Sign as signs
 use Rattle.adp_model.specs.declared.grammar.Algebra as algebras
 use Rattle.adp_model.specs.declared.grammar.Rule as rules
 use Rattle.adp_model.specs.WellFormed.{is_name, is_class, is_sign, is_algebra, is_alternative, is_rule, are_distinct, counts_fit, names_differ, parts_fit, is_well_formed}
-use Rattle.adp_model.specs.TermText.{Part, is_among, are_names, are_numbers, totals_fit, are_declared}
+use Rattle.job_texts.specs.TermText.{Part, is_among, are_names, are_numbers, totals_fit, are_declared}
 use Rattle.adp_model.specs.declared.grammar.Grammar.{Grammar}
-use Rattle.adp_model.specs.Declarations.{Alternative, Declaration, Class, Sign, Algebra, Let, Rule, Axiom, Words}
-use Rattle.adp_model.specs.DeclaredNames.{class_name_of, sign_name_of, algebra_name_of, rule_name_of, class_names, sign_names, algebra_names, rule_names, is_algebra_line}
-use Rattle.adp_model.specs.TextFaults.{misnames, repeats, alternative_names, is_axiom_line, uses_unknown, fits_sign, Counted, limited, counts_of, class_letters}
-use Rattle.adp_model.specs.JobText.{declared_class, declared_sign, declared_rule, declared_algebras, alternative_of, declared_grammar}
+use Rattle.job_texts.specs.Declarations.{Alternative, Declaration, Class, Sign, Algebra, Let, Rule, Axiom, Words}
+use Rattle.job_texts.specs.DeclaredNames.{class_name_of, sign_name_of, algebra_name_of, rule_name_of, class_names, sign_names, algebra_names, rule_names, is_algebra_line}
+use Rattle.job_texts.specs.TextFaults.{misnames, repeats, alternative_names, is_axiom_line, uses_unknown, fits_sign, Counted, limited, counts_of, class_letters}
+use Rattle.job_texts.specs.JobText.{declared_class, declared_sign, declared_rule, declared_algebras, alternative_of, declared_grammar}
 use Rattle.grammar_text.specs.Building.{is_printable_alternative, is_buildable, are_buildable}
 use Rattle.grammar_text.proofs.Nothing.{none_passes}
 use Rattle.grammar_text.proofs.Faultless.{Each, each_so, IsFaultless, is_over}

@@ -7,10 +7,10 @@ use Rattle.std.proofs.lemmas.Bool.{eqb-true}
 use Rattle.std.proofs.lemmas.Bool.Decides.{nat_tests}
 use Rattle.adp_model.specs.WellFormed.{is_word_byte}
 use Rattle.adp_model.specs.Printable.{is_printable_byte}
-use Rattle.adp_model.specs.LineTokens.{Token, Word, Quoted, Equals, OpenBracket, Dots, PlacedToken, Offence, StrayByte, OpenQuote, ByteSort, SpaceByte, WordByte, QuoteByte, DotByte, MarkByte, OtherByte, byte_sort, Space, Begins, Stops, beginning, quoted_rest, QuotedRest, with_token, tokens_from, tokens_of, is_one_of}
-use Rattle.adp_model.specs.TermParts.{parts_of}
-use Rattle.adp_model.specs.JobLines.{is_skipped, is_words_line}
-use Rattle.adp_model.specs.Declarations as forms
+use Rattle.job_texts.specs.LineTokens.{Token, Word, Quoted, Equals, OpenBracket, Dots, PlacedToken, Offence, StrayByte, OpenQuote, ByteSort, SpaceByte, WordByte, QuoteByte, DotByte, MarkByte, OtherByte, byte_sort, Space, Begins, Stops, beginning, quoted_rest, QuotedRest, with_token, tokens_from, tokens_of, is_one_of}
+use Rattle.job_texts.specs.TermParts.{parts_of}
+use Rattle.job_texts.specs.JobLines.{is_skipped, is_words_line}
+use Rattle.job_texts.specs.Declarations as forms
 use Rattle.grammar_text.specs.Collecting.{is_last}
 
 -- ---- what tokens say

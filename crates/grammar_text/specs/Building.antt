@@ -4,8 +4,8 @@ use Rattle.std.specs.List.{list_all}
 use Rattle.adp_model.specs.declared.grammar.Sign as signs
 use Rattle.adp_model.specs.Printable.{is_printable_byte}
 use Rattle.adp_model.specs.WellFormed.{is_name}
-use Rattle.adp_model.specs.TermText.{are_names, are_numbers, totals_fit, are_declared}
-use Rattle.adp_model.specs.Declarations.{Argument, Spelled, Alternative, Declaration, Class, Sign, Algebra, Let, Rule}
+use Rattle.job_texts.specs.TermText.{are_names, are_numbers, totals_fit, are_declared}
+use Rattle.job_texts.specs.Declarations.{Argument, Spelled, Alternative, Declaration, Class, Sign, Algebra, Let, Rule}
 
 -- the letters of a literal are printable
 abbrev pub is_printable_argument : Argument → Bool

@@ -1,6 +1,6 @@
 -- A header that is kept as what its lines are and, apart, what those that have form say.
 use Rattle.std.specs.Prelude.{Bool, true, false, ℕ, suc, List, [], ◌∷◌, map}
-use Rattle.adp_model.specs.Declarations as forms
+use Rattle.job_texts.specs.Declarations as forms
 use Rattle.grammar_text.specs.declared.reader.collected.LineSort.{LineSort}
 use Rattle.grammar_text.specs.declared.reader.collected.LineSort.TheVariants.{Skipped, Unprintable, Unclosed, Shapeless, Says}
 use Rattle.grammar_text.specs.declared.reader.collected.Header.{Header}

@@ -1,9 +1,9 @@
 -- A text as the reader gathers it, seen as its lines.
 use Rattle.std.specs.Prelude.{ℕ, Bool, true, false, Option, Some, None, List, length, if◌then◌else◌}
 use Rattle.std.specs.List.{list_any}
-use Rattle.adp_model.specs.JobLines.{words_of}
-use Rattle.adp_model.specs.Declarations.{Declaration, Words, HeaderLine}
-use Rattle.adp_model.specs.DeclaredNames.{TextLines}
+use Rattle.job_texts.specs.JobLines.{words_of}
+use Rattle.job_texts.specs.Declarations.{Declaration, Words, HeaderLine}
+use Rattle.job_texts.specs.DeclaredNames.{TextLines}
 use Rattle.grammar_text.specs.declared.reader.gathered.Gathered.{Gathered}
 use Rattle.grammar_text.specs.Seen.{words_seen}
 use Rattle.grammar_text.specs.Collecting.{header_seen, is_last}

@@ -3,9 +3,9 @@ use Rattle.std.specs.Prelude.{◌≡◌, ℕ, Bool, true, false, ◌&&◌, not, 
 use Rattle.std.specs.List.{list_all, list_any}
 use Rattle.adp_model.specs.declared.grammar.Linear.{Linear}
 use Rattle.adp_model.specs.WellFormed.{is_name}
-use Rattle.adp_model.specs.TermText.{Part, are_names, are_numbers, totals_fit, are_declared, linear_of}
-use Rattle.adp_model.specs.Declarations.{Alternative, Declaration, Let, Rule}
-use Rattle.adp_model.specs.TextFaults.{name_words, misnumbers, has_crossed_bounds}
+use Rattle.job_texts.specs.TermText.{Part, are_names, are_numbers, totals_fit, are_declared, linear_of}
+use Rattle.job_texts.specs.Declarations.{Alternative, Declaration, Let, Rule}
+use Rattle.job_texts.specs.TextFaults.{name_words, misnumbers, has_crossed_bounds}
 use Rattle.algebra_terms.specs.declared.error.TermError.{TermError}
 use Rattle.algebra_terms.specs.declared.error.TermError.TheVariants as errors
 

@@ -1,9 +1,9 @@
 -- What stands wrong at a line, as the reader holds it.
 use Rattle.std.specs.Prelude.{◌≡◌, ℕ, Bool, true, false, ◌&&◌, not, List, [], ◌∷◌, if◌then◌else◌}
 use Rattle.std.specs.List.{list_any}
-use Rattle.adp_model.specs.Declarations.{Declaration}
-use Rattle.adp_model.specs.DeclaredNames.{TextLines, is_algebra_line}
-use Rattle.adp_model.specs.TextFaults as faults
+use Rattle.job_texts.specs.Declarations.{Declaration}
+use Rattle.job_texts.specs.DeclaredNames.{TextLines, is_algebra_line}
+use Rattle.job_texts.specs.TextFaults as faults
 use Rattle.grammar_text.specs.Names.{first_passing}
 use Rattle.grammar_text.specs.declared.reader.collected.LineSort.{LineSort}
 use Rattle.grammar_text.specs.declared.reader.collected.LineSort.TheVariants.{Unclosed, Shapeless}

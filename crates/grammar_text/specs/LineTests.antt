@@ -1,10 +1,10 @@
 -- The tests of a line, as the reader makes them.
 use Rattle.std.specs.Prelude.{◌≡◌, ℕ, ◌+◌, Bool, true, false, ◌&&◌, not, List, take, drop, get_or}
 use Rattle.std.specs.List.{list_all, list_any}
-use Rattle.adp_model.specs.TermText.{is_among}
-use Rattle.adp_model.specs.Declarations.{Declaration, Words}
-use Rattle.adp_model.specs.DeclaredNames.{is_algebra_line, section_of, let_signs, sign_names}
-use Rattle.adp_model.specs.TextFaults as faults
+use Rattle.job_texts.specs.TermText.{is_among}
+use Rattle.job_texts.specs.Declarations.{Declaration, Words}
+use Rattle.job_texts.specs.DeclaredNames.{is_algebra_line, section_of, let_signs, sign_names}
+use Rattle.job_texts.specs.TextFaults as faults
 use Rattle.grammar_text.specs.Judged.{has_crossed_run}
 use Rattle.grammar_text.specs.Names.{declares_its_variables, first_passing}
 use Rattle.grammar_text.specs.declared.reader.faults.OwnWords.{OwnWords}

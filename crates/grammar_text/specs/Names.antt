@@ -9,10 +9,10 @@ use Rattle.std.specs.BTreeMap.{BTreeMap, get_by}
 use Rattle.std.specs.BTreeSet.{BTreeSet, contains_by}
 use Rattle.adp_model.specs.declared.grammar.Kind.{Kind}
 use lib.Pointwise.{pointwise}
-use Rattle.adp_model.specs.TermText.{are_declared, is_among}
-use Rattle.adp_model.specs.Declarations.{Argument, Declaration, Sign, Algebra, Let, Rule}
-use Rattle.adp_model.specs.DeclaredNames.{class_name_of, sign_name_of, algebra_name_of, rule_name_of, class_names, sign_names, rule_names, kinds_given, let_signs, since_algebra}
-use Rattle.adp_model.specs.TextFaults.{Counted, fits_kind}
+use Rattle.job_texts.specs.TermText.{are_declared, is_among}
+use Rattle.job_texts.specs.Declarations.{Argument, Declaration, Sign, Algebra, Let, Rule}
+use Rattle.job_texts.specs.DeclaredNames.{class_name_of, sign_name_of, algebra_name_of, rule_name_of, class_names, sign_names, rule_names, kinds_given, let_signs, since_algebra}
+use Rattle.job_texts.specs.TextFaults.{Counted, fits_kind}
 use Rattle.grammar_text.specs.declared.reader.names.Names.{Names}
 use Rattle.grammar_text.specs.declared.reader.names.Sort.{Sort}
 use Rattle.grammar_text.specs.declared.reader.names.Sort.TheVariants as sorts

@@ -1,7 +1,7 @@
 -- What the reader of a text answers.
 use Rattle.std.specs.Prelude.{ℕ, Result, Ok, Err, List}
 use Rattle.adp_model.specs.declared.job.Job.{Job}
-use Rattle.adp_model.specs.JobText.{IsText, IsFaultOf}
+use Rattle.job_texts.specs.JobText.{IsText, IsFaultOf}
 use Rattle.grammar_text.specs.declared.error.TextError.{TextError}
 use Rattle.grammar_text.specs.declared.error.TextError.TheVariants.{Fault, Memory}
 

@@ -2,10 +2,10 @@
 use Rattle.std.specs.Prelude.{◌≡◌, ℕ, Bool, true, false, take, ◌+◌, ◌*◌, ◌<◌, ◌≤◌, Option, Some, None, unwrap_or, List, [], ◌∷◌, ◌++◌, map, length, drop, MatchOption}
 use Rattle.std.specs.Borrow.{Bor}
 use Rattle.std.specs.Option.{option_map, option_and_then, option_copied}
-use Rattle.adp_model.specs.TermText.{Part}
-use Rattle.adp_model.specs.TermParts.{term_parts}
-use Rattle.adp_model.specs.LineTokens.{Token, QuotedRest, Bar, CloseBracket, CloseSquare, Comma, Dots, Word}
-use Rattle.adp_model.specs.Declarations as forms
+use Rattle.job_texts.specs.TermText.{Part}
+use Rattle.job_texts.specs.TermParts.{term_parts}
+use Rattle.job_texts.specs.LineTokens.{Token, QuotedRest, Bar, CloseBracket, CloseSquare, Comma, Dots, Word}
+use Rattle.job_texts.specs.Declarations as forms
 use Rattle.algebra_terms.specs.declared.symbols.Symbol.{Symbol}
 use Rattle.algebra_terms.specs.Tokens.{letters_behind, symbol_of}
 use Rattle.adp_model.specs.declared.grammar.Kind.{Kind}

@@ -1,5 +1,5 @@
 ghost use Rattle.std.specs.Prelude.{◌≡◌, ◌^◌, ◌≤◌, length, drop};
-ghost use Rattle.adp_model.specs.JobLines.{words_line_of, words_of};
+ghost use Rattle.job_texts.specs.JobLines.{words_line_of, words_of};
 ghost use Rattle.grammar_text.specs.Reading.{MatchReading};
 ghost use Rattle.grammar_text.specs.Seen.{words_seen};
 

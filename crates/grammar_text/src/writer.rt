@@ -8,9 +8,9 @@ mod signs;
 
 ghost use Rattle.std.specs.Prelude.{◌≡◌, ◌++◌, IfOk, OnOk};
 ghost use Rattle.std.specs.List.{flat_map};
-ghost use Rattle.adp_model.specs.JobText.{IsText};
+ghost use Rattle.job_texts.specs.JobText.{IsText};
 ghost use Rattle.adp_model.specs.Report.{line};
-ghost use Rattle.adp_model.specs.Spelling.{grammar_lines, spelling};
+ghost use Rattle.job_texts.specs.Spelling.{grammar_lines, spelling};
 
 use adp_model::{Grammar, Job, Text};
 use spelled_texts::spellings_are_read_back;

@@ -3,8 +3,8 @@ use Rattle.std.proofs.Common.{◌≡◌, ◌≢◌, ℕ, ◌+◌, ◌-◌, ◌*�
 use mathlib.Core.Logic.{dite}
 use native.Mathlib.Decide.{ℕ_discrete}
 use Rattle.adp_model.specs.declared.cell.Cell.{Cell}
-use Rattle.adp_model.specs.declared.probe.Look.TheVariants.{Going}
-use Rattle.adp_model.specs.declared.probe.Stage.TheVariants as stages
+use Rattle.memo_model.specs.declared.probe.Look.TheVariants.{Going}
+use Rattle.memo_model.specs.declared.probe.Stage.TheVariants as stages
 use Rattle.adp_model.specs.Demand.{IsDemanded, IsDemandedCount}
 use Rattle.memo_words.specs.declared.view.View.{View}
 use Rattle.memo_words.specs.Codes.{HasCellCode, cell_code}

@@ -1,10 +1,10 @@
 -- What the steps of a look tell.
 use Rattle.std.proofs.Common.{◌≡◌, ℕ, ◌+◌, ◌*◌, ◌<◌, ◌≤◌, ◌⊎◌, List, ◌∷◌, [], Contains, Option, ℤ, true, false, sym, subst, ◌∙◌}
 use Rattle.adp_model.specs.declared.cell.Cell.{Cell}
-use Rattle.adp_model.specs.declared.probe.Look.TheVariants.{Going, Found}
-use Rattle.adp_model.specs.declared.probe.Stage.TheVariants as stages
+use Rattle.memo_model.specs.declared.probe.Look.TheVariants.{Going, Found}
+use Rattle.memo_model.specs.declared.probe.Stage.TheVariants as stages
 use Rattle.adp_model.specs.Demand.{IsDemandedCount}
-use Rattle.adp_model.specs.Memos.{IsOnRecordWord, IsScoreOf}
+use Rattle.memo_model.specs.Memos.{IsOnRecordWord, IsScoreOf}
 use Rattle.memo_words.specs.Layout.{Plan, slots_of}
 use Rattle.memo_words.specs.Passes.{view_of, plan_of, problem_of, IsPassOf}
 use Rattle.memo_words.specs.declared.pass.Pass.{Pass}

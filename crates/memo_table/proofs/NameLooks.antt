@@ -1,8 +1,8 @@
 -- What the step of a look on a record word tells.
 use Rattle.std.proofs.Common.{◌≡◌, ◌≢◌, ℕ, zero, suc, ◌+◌, ◌-◌, ◌<◌, ◌⊎◌, inl, inr, List, ◌∷◌, [], Contains, true, refl, sym, ap, subst, ◌∙◌, arith}
 use Rattle.adp_model.specs.declared.cell.Cell.{Cell}
-use Rattle.adp_model.specs.declared.probe.Look.TheVariants.{Going, Unpublished}
-use Rattle.adp_model.specs.Memos.{IsOnRecordWord}
+use Rattle.memo_model.specs.declared.probe.Look.TheVariants.{Going, Unpublished}
+use Rattle.memo_model.specs.Memos.{IsOnRecordWord}
 use Rattle.memo_words.specs.declared.view.Seen.{Seen}
 use Rattle.memo_words.specs.declared.view.View.{View}
 use Rattle.memo_words.specs.Codes.{cell_code}

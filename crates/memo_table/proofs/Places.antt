@@ -3,7 +3,7 @@ use Rattle.std.proofs.Common.{◌≡◌, ℕ, ◌+◌, ◌-◌, ◌*◌, ◌/◌
 use Rattle.std.proofs.Math.Nat.{mod-lt}
 use Rattle.std.proofs.lemmas.Nat.{pow_pos}
 use Rattle.adp_model.specs.declared.cell.Cell.{Cell}
-use Rattle.adp_model.specs.Memos.{Access, IsOnRecordWord}
+use Rattle.memo_model.specs.Memos.{Access, IsOnRecordWord}
 use Rattle.memo_words.specs.Codes.{HasCellCode, cell_code}
 use Rattle.memo_words.specs.CodedCells.{cell_of}
 use Rattle.memo_words.specs.Probes as probes

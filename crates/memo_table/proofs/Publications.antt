@@ -4,10 +4,10 @@ use mathlib.Core.Logic.{dite}
 use native.Mathlib.Decide.{ℕ_discrete}
 use Rattle.adp_model.specs.declared.cell.Answer.{Answer}
 use Rattle.adp_model.specs.declared.cell.Cell.{Cell}
-use Rattle.adp_model.specs.declared.probe.Publish.TheVariants.{Going, Won, Lost}
-use Rattle.adp_model.specs.declared.probe.Stage.TheVariants as stages
+use Rattle.memo_model.specs.declared.probe.Publish.TheVariants.{Going, Won, Lost}
+use Rattle.memo_model.specs.declared.probe.Stage.TheVariants as stages
 use Rattle.adp_model.specs.Answers.{IsAnswer}
-use Rattle.adp_model.specs.Memos.{IsOnRecordWord, IsAdded}
+use Rattle.memo_model.specs.Memos.{IsOnRecordWord, IsAdded}
 use Rattle.memo_words.specs.declared.part.Part.{Part}
 use Rattle.memo_words.specs.declared.part.Part.TheVariants as parts
 use Rattle.memo_words.specs.declared.view.Owned.{Owned}

@@ -3,11 +3,11 @@ use Rattle.std.proofs.Common.{◌≡◌, ◌≢◌, ℕ, ◌+◌, ◌*◌, ◌<�
 use Rattle.adp_model.specs.declared.cell.Answer.{Answer}
 use Rattle.adp_model.specs.declared.cell.Answer.TheVariants.{NoCandidate, Best}
 use Rattle.adp_model.specs.declared.cell.Cell.{Cell}
-use Rattle.adp_model.specs.declared.probe.Look.TheVariants.{Going, Found}
-use Rattle.adp_model.specs.declared.probe.Stage.TheVariants as stages
+use Rattle.memo_model.specs.declared.probe.Look.TheVariants.{Going, Found}
+use Rattle.memo_model.specs.declared.probe.Stage.TheVariants as stages
 use Rattle.adp_model.specs.PosedProblem.{PosedProblem}
 use Rattle.adp_model.specs.Answers.{IsAnswer}
-use Rattle.adp_model.specs.Memos.{IsScoreOf}
+use Rattle.memo_model.specs.Memos.{IsScoreOf}
 use Rattle.memo_words.specs.declared.part.Part.{Part}
 use Rattle.memo_words.specs.declared.part.Part.TheVariants as parts
 use Rattle.memo_words.specs.declared.view.View.{View}

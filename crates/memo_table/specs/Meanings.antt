@@ -1,7 +1,7 @@
 -- What contracts see of the passes and probes of a table.
 use Rattle.std.specs.Prelude.{◌≡◌, ℕ, ◌<◌, Contains, Option, Some, None, List, [], ◌∷◌}
 use Rattle.adp_model.specs.declared.cell.Cell.{Cell}
-use Rattle.adp_model.specs.Memos.{Access, Meaning}
+use Rattle.memo_model.specs.Memos.{Access, Meaning}
 use Rattle.memo_words.specs.declared.view.LastStep.{LastStep}
 use Rattle.memo_words.specs.Codes.{cell_code}
 use Rattle.memo_words.specs.Layout.{Plan, slots_of, record_place}

@@ -1,11 +1,11 @@
 -- What a step of a probe of a table tells: the clauses of the memo, in one record each.
 use Rattle.std.specs.Prelude.{◌≡◌, ◌↔◌, ℕ, ◌<◌, ◌≤◌, true}
-use Rattle.adp_model.specs.declared.probe.Look.{Look}
-use Rattle.adp_model.specs.declared.probe.Look.TheVariants as looks
-use Rattle.adp_model.specs.declared.probe.Publish.{Publish as Publication}
-use Rattle.adp_model.specs.declared.probe.Publish.TheVariants as publishes
+use Rattle.memo_model.specs.declared.probe.Look.{Look}
+use Rattle.memo_model.specs.declared.probe.Look.TheVariants as looks
+use Rattle.memo_model.specs.declared.probe.Publish.{Publish as Publication}
+use Rattle.memo_model.specs.declared.probe.Publish.TheVariants as publishes
 use Rattle.adp_model.specs.Demand.{IsDemandedCount}
-use Rattle.adp_model.specs.Memos.{IsOnRecordWord, StayKnown, IsLook, IsPublish}
+use Rattle.memo_model.specs.Memos.{IsOnRecordWord, StayKnown, IsLook, IsPublish}
 use Rattle.memo_words.specs.Passes.{view_of, problem_of, IsPassOf}
 use Rattle.memo_words.specs.declared.pass.Pass.{Pass}
 use Rattle.memo_words.specs.declared.words.Words.{Words}

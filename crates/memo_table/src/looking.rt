@@ -1,6 +1,6 @@
 ghost use Rattle.std.specs.Prelude.{◌≡◌, ◌+◌, ◌<◌, ℕ};
-ghost use Rattle.adp_model.specs.declared.probe.Stage.TheVariants.{Open};
-ghost use Rattle.adp_model.specs.StepsMade.{steps_made};
+ghost use Rattle.memo_model.specs.declared.probe.Stage.TheVariants.{Open};
+ghost use Rattle.memo_model.specs.StepsMade.{steps_made};
 ghost use Rattle.memo_words.specs.Codes.{HasCellCode, cell_code};
 ghost use Rattle.memo_words.specs.Layout.{probed, slots_of};
 ghost use Rattle.memo_table.specs.declared.probe.Next.TheVariants as next;
@@ -12,7 +12,7 @@ use crate::laws::{answers_have_words, other_cells_are_fewer};
 use crate::probe::{Next, Probe};
 use crate::table::Table;
 use adp_model::laws::order::answer_is_unique;
-use adp_model::{Look, Steps};
+use memo_model::{Look, Steps};
 use memo_words::{NO_CANDIDATE, Part, Pass, cell_code, code_score, nth_position};
 use record_arena::read_step;
 use std::sync::ledger::Ledger;

@@ -1,6 +1,7 @@
 use crate::laws::demanded_cells_have_codes;
 use crate::probe::{Next, Probe};
-use adp_model::{Answer, Cell, Look, Memo, Publish, Steps};
+use adp_model::{Answer, Cell};
+use memo_model::{Look, Memo, Publish, Steps};
 use memo_words::{Pass, Words};
 use std::marker::Model;
 use std::snapshot::Snapshot;

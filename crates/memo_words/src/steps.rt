@@ -9,17 +9,18 @@ use crate::rule::{
 };
 use crate::word_step::{Action, Place, WordStep};
 use crate::words::Words;
+use adp_model::Cell;
 use adp_model::laws::cells::{places_fill_the_bound, places_tell_cells_apart};
 use adp_model::laws::demand::demanded_cells_are_counted;
 use adp_model::laws::well_formed::numbers_fit_together;
-use adp_model::{Cell, Steps};
+use memo_model::Steps;
 use std::sync::ledger::Ledger;
 
 impl Words {
     ghost use Rattle.std.specs.Prelude.{◌≡◌, ◌≢◌, ℕ, ◌+◌, ◌-◌, ◌<◌, ◌≤◌, Some, None, length, Contains, ◌==◌, if◌then◌else◌};
     ghost use Rattle.adp_model.specs.declared.cell.Cell.{Cell};
     ghost use Rattle.adp_model.specs.Demand.{IsDemanded};
-    ghost use Rattle.adp_model.specs.StepsMade.{steps_made};
+    ghost use Rattle.memo_model.specs.StepsMade.{steps_made};
     ghost use Rattle.memo_words.specs.Codes.{HasCellCode, cell_code};
     ghost use Rattle.memo_words.specs.Layout.{slots_of, records_of};
     ghost use Rattle.memo_words.specs.Views.{seen_at, owns, cell_at, key_loaded, key_exchanged, record_loaded, record_exchanged, counter_added, arena_stored, arena_loaded, hand_after};

@@ -3,13 +3,13 @@
 #![tactic(auto)]
 
 ghost use Rattle.std.specs.Prelude.{◌≡◌, ℕ, ◌+◌, ◌<◌, Some, None};
-ghost use Rattle.adp_model.specs.StepsMade.{steps_made};
+ghost use Rattle.memo_model.specs.StepsMade.{steps_made};
 ghost use Rattle.memo_words.specs.Layout.{records_of};
 ghost use Rattle.memo_words.specs.Views.{owns, seen_at, counter_added, arena_stored, arena_loaded};
 ghost use Rattle.memo_words.specs.Steps.{IsNamedAnswer};
 ghost use Rattle.memo_words.specs.Passes.{view_of, hand_of, plan_of, IsPassOf};
 
-use adp_model::Steps;
+use memo_model::Steps;
 use memo_words::{Part, Pass, Words};
 use std::sync::ledger::Ledger;
 

@@ -8,9 +8,9 @@ use Rattle.adp_model.specs.declared.grammar.Sign.{Sign}
 use Rattle.adp_model.specs.declared.grammar.Linear.{Linear}
 use Rattle.adp_model.specs.declared.grammar.Algebra.{Algebra}
 use Rattle.adp_model.specs.WellFormed.{is_sign, is_algebra}
-use Rattle.adp_model.specs.TermText.{is_among}
-use Rattle.adp_model.specs.Declarations.{Declaration}
-use Rattle.adp_model.specs.DeclaredNames.{algebra_name_of, algebra_names, sign_names, section_of, let_sign_of, let_signs}
+use Rattle.job_texts.specs.TermText.{is_among}
+use Rattle.job_texts.specs.Declarations.{Declaration}
+use Rattle.job_texts.specs.DeclaredNames.{algebra_name_of, algebra_names, sign_names, section_of, let_sign_of, let_signs}
 use Rattle.spelled_texts.proofs.Contents.{algebra_declaration, let_declaration, algebra_declarations}
 use Rattle.spelled_texts.proofs.Names.{same_bytes, among-append}
 use Rattle.spelled_texts.proofs.Terms.{TermLaw}

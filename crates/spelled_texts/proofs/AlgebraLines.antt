@@ -5,9 +5,9 @@ use Rattle.adp_model.specs.declared.grammar.Goal.TheVariants.{Least, Greatest}
 use Rattle.adp_model.specs.declared.grammar.Algebra.{Algebra}
 use Rattle.adp_model.specs.declared.grammar.Grammar.{Grammar}
 use Rattle.adp_model.specs.WellFormed.{is_name}
-use Rattle.adp_model.specs.Spelling.{goal_text, rule_name}
-use Rattle.adp_model.specs.LineTokens.{Word}
-use Rattle.adp_model.specs.Declarations.{declaration_of}
+use Rattle.job_texts.specs.Spelling.{goal_text, rule_name}
+use Rattle.job_texts.specs.LineTokens.{Word}
+use Rattle.job_texts.specs.Declarations.{declaration_of}
 use Rattle.spelled_texts.proofs.ReadTokens.{TokenLaws, Reads, IsWord, nothing_reads, name_is_word, word_then, space_then, same_text_reads}
 use Rattle.spelled_texts.proofs.Printing.{Prints, literal_prints, prints-append, word_prints}
 use Rattle.spelled_texts.proofs.Contents.{algebra_content, algebra_declaration, axiom_content, axiom_declaration}

@@ -8,9 +8,9 @@ use Rattle.std.proofs.lemmas.List.Folds.{list_any-append}
 use Rattle.adp_model.specs.declared.grammar.Sign.{Sign}
 use Rattle.adp_model.specs.declared.grammar.Algebra.{Algebra}
 use Rattle.adp_model.specs.declared.grammar.Grammar.{Grammar}
-use Rattle.adp_model.specs.Declarations.{Declaration, Words}
-use Rattle.adp_model.specs.DeclaredNames.{sign_name_of, algebra_name_of, rule_name_of, class_names, sign_names, algebra_names, rule_names, is_algebra_line}
-use Rattle.adp_model.specs.TextFaults.{is_axiom_line}
+use Rattle.job_texts.specs.Declarations.{Declaration, Words}
+use Rattle.job_texts.specs.DeclaredNames.{sign_name_of, algebra_name_of, rule_name_of, class_names, sign_names, algebra_names, rule_names, is_algebra_line}
+use Rattle.job_texts.specs.TextFaults.{is_axiom_line}
 use Rattle.adp_model.specs.WellFormed.{are_distinct}
 use Rattle.spelled_texts.proofs.Contents.{class_declaration, sign_declaration, let_declaration, algebra_declarations, rule_declaration, axiom_declaration}
 use Rattle.spelled_texts.proofs.Terms.{TermLaw}

@@ -4,10 +4,10 @@ use Rattle.std.specs.List.{list_all, AllByRecursion}
 use Rattle.std.proofs.lemmas.Bool.{and_parts, le-ltb}
 use Rattle.adp_model.specs.declared.grammar.Class.{Class}
 use Rattle.adp_model.specs.WellFormed.{is_class}
-use Rattle.adp_model.specs.Spelling.{runs_of}
-use Rattle.adp_model.specs.Declarations.{Declaration}
-use Rattle.adp_model.specs.DeclaredNames.{class_name_of, class_names}
-use Rattle.adp_model.specs.TextFaults.{weight_of}
+use Rattle.job_texts.specs.Spelling.{runs_of}
+use Rattle.job_texts.specs.Declarations.{Declaration}
+use Rattle.job_texts.specs.DeclaredNames.{class_name_of, class_names}
+use Rattle.job_texts.specs.TextFaults.{weight_of}
 use Rattle.spelled_texts.proofs.Contents.{run_item, class_declaration}
 use Rattle.spelled_texts.proofs.Runs.{IsRun, good_runs, weight_of_run, letters_back}
 use Rattle.spelled_texts.proofs.ClassLines.{class_parts}

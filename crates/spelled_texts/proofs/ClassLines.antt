@@ -5,9 +5,9 @@ use Rattle.std.specs.Fmt.{decimal, signed_decimal}
 use Rattle.std.proofs.lemmas.Bool.{and_parts}
 use Rattle.adp_model.specs.declared.grammar.Class.{Class}
 use Rattle.adp_model.specs.WellFormed.{is_name, is_in_range, is_entry, is_class, letters_are_distinct}
-use Rattle.adp_model.specs.Spelling.{runs_of, run_text}
-use Rattle.adp_model.specs.LineTokens.{Token, Word, Quoted, Equals, Minus, begins_word}
-use Rattle.adp_model.specs.Declarations.{further_items, items_of, declaration_of}
+use Rattle.job_texts.specs.Spelling.{runs_of, run_text}
+use Rattle.job_texts.specs.LineTokens.{Token, Word, Quoted, Equals, Minus, begins_word}
+use Rattle.job_texts.specs.Declarations.{further_items, items_of, declaration_of}
 use Rattle.spelled_texts.proofs.ReadTokens.{TokenLaws, Reads, nothing_reads, name_is_word, word_then, mark_then, space_then, quoted_then, same_text_reads}
 use Rattle.spelled_texts.proofs.Printing.{Prints, literal_prints, prints-append, prints-cons, prints-flat_map, word_prints, quoted_prints}
 use Rattle.spelled_texts.proofs.Numbers.{decimal_is_word, signed_prints}

@@ -13,11 +13,11 @@ use Rattle.adp_model.specs.declared.grammar.Alt.{Alt}
 use Rattle.adp_model.specs.declared.grammar.Rule as rules
 use Rattle.adp_model.specs.declared.grammar.Grammar.{Grammar}
 use Rattle.adp_model.specs.Parts.{sign_at}
-use Rattle.adp_model.specs.Spelling.{separated, runs_of, run_text, kind_text, goal_text, variables, term_text, class_name, rule_name, alternative_text}
-use Rattle.adp_model.specs.TermText.{Part}
-use Rattle.adp_model.specs.TermParts.{term_parts}
-use Rattle.adp_model.specs.Declarations as forms
-use Rattle.adp_model.specs.Declarations.{Item, Argument, Named, Spelled, OneOf, RunOf, Alternative, Declaration}
+use Rattle.job_texts.specs.Spelling.{separated, runs_of, run_text, kind_text, goal_text, variables, term_text, class_name, rule_name, alternative_text}
+use Rattle.job_texts.specs.TermText.{Part}
+use Rattle.job_texts.specs.TermParts.{term_parts}
+use Rattle.job_texts.specs.Declarations as forms
+use Rattle.job_texts.specs.Declarations.{Item, Argument, Named, Spelled, OneOf, RunOf, Alternative, Declaration}
 
 -- ---- lines
 

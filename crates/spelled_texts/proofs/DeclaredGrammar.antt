@@ -14,11 +14,11 @@ use Rattle.adp_model.specs.declared.grammar.Alt.{Alt}
 use Rattle.adp_model.specs.declared.grammar.Rule as rules
 use Rattle.adp_model.specs.declared.grammar.Grammar.{Grammar}
 use Rattle.adp_model.specs.WellFormed.{is_class, is_rule}
-use Rattle.adp_model.specs.Spelling.{runs_of, rule_name}
-use Rattle.adp_model.specs.Declarations.{Declaration, Words}
-use Rattle.adp_model.specs.DeclaredNames.{sign_names, rule_names, first_of_list}
-use Rattle.adp_model.specs.TextFaults.{bound_of, class_letters}
-use Rattle.adp_model.specs.JobText.{number_among, declared_class, declared_sign, declared_algebras, argument_of, alternative_of, declared_rule, axiom_name, declared_grammar}
+use Rattle.job_texts.specs.Spelling.{runs_of, rule_name}
+use Rattle.job_texts.specs.Declarations.{Declaration, Words}
+use Rattle.job_texts.specs.DeclaredNames.{sign_names, rule_names, first_of_list}
+use Rattle.job_texts.specs.TextFaults.{bound_of, class_letters}
+use Rattle.job_texts.specs.JobText.{number_among, declared_class, declared_sign, declared_algebras, argument_of, alternative_of, declared_rule, axiom_name, declared_grammar}
 use Rattle.spelled_texts.proofs.Numbers.{bound_of_decimal}
 use Rattle.spelled_texts.proofs.Contents.{run_item, class_declaration, sign_declaration, algebra_declarations, spelled_argument, spelled_alternative, rule_declaration, axiom_declaration}
 use Rattle.spelled_texts.proofs.Runs.{letters_back}

@@ -4,9 +4,9 @@ use Rattle.std.proofs.lemmas.List.{get_or-map, length-map}
 use Rattle.adp_model.specs.declared.grammar.Grammar.{Grammar}
 use Rattle.adp_model.specs.Parts.{sign_at}
 use Rattle.adp_model.specs.WellFormed.{are_distinct}
-use Rattle.adp_model.specs.Spelling.{class_name, rule_name}
-use Rattle.adp_model.specs.DeclaredNames.{class_name_of, sign_name_of, rule_name_of, class_names, sign_names, rule_names}
-use Rattle.adp_model.specs.JobText.{number_among}
+use Rattle.job_texts.specs.Spelling.{class_name, rule_name}
+use Rattle.job_texts.specs.DeclaredNames.{class_name_of, sign_name_of, rule_name_of, class_names, sign_names, rule_names}
+use Rattle.job_texts.specs.JobText.{number_among}
 use Rattle.spelled_texts.proofs.Contents.{sign_declaration, rule_declaration}
 use Rattle.spelled_texts.proofs.Names.{number_of_name}
 use Rattle.spelled_texts.proofs.GrammarParts.{IsFormed, name_of_class, name_of_sign, name_of_rule}

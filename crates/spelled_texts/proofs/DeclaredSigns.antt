@@ -8,10 +8,10 @@ use Rattle.adp_model.specs.declared.grammar.Sign.{Sign}
 use Rattle.adp_model.specs.declared.grammar.Grammar.{Grammar}
 use Rattle.adp_model.specs.Parts.{sign_at}
 use Rattle.adp_model.specs.WellFormed.{are_distinct}
-use Rattle.adp_model.specs.Spelling.{class_name, rule_name}
-use Rattle.adp_model.specs.TermText.{is_among}
-use Rattle.adp_model.specs.Declarations.{Declaration}
-use Rattle.adp_model.specs.DeclaredNames.{class_names, sign_names, rule_names, kinds_given, kinds_of_sign, first_of_list}
+use Rattle.job_texts.specs.Spelling.{class_name, rule_name}
+use Rattle.job_texts.specs.TermText.{is_among}
+use Rattle.job_texts.specs.Declarations.{Declaration}
+use Rattle.job_texts.specs.DeclaredNames.{class_names, sign_names, rule_names, kinds_given, kinds_of_sign, first_of_list}
 use Rattle.spelled_texts.proofs.Contents.{sign_declaration}
 use Rattle.spelled_texts.proofs.Names.{same_bytes, among_at, differs_at, first_is_other}
 use Rattle.spelled_texts.proofs.GrammarParts.{IsFormed, name_of_class, name_of_sign, name_of_rule}

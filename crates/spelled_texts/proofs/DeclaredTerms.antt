@@ -7,11 +7,11 @@ use Rattle.adp_model.specs.declared.grammar.Sign.{Sign}
 use Rattle.adp_model.specs.declared.grammar.Linear.{Linear}
 use Rattle.adp_model.specs.declared.grammar.Algebra.{Algebra}
 use Rattle.adp_model.specs.WellFormed.{are_distinct, is_sign, is_term, is_algebra}
-use Rattle.adp_model.specs.Spelling.{variables}
-use Rattle.adp_model.specs.TermText.{linear_of, is_among}
-use Rattle.adp_model.specs.Declarations.{Declaration}
-use Rattle.adp_model.specs.DeclaredNames.{section_of}
-use Rattle.adp_model.specs.JobText.{term_in, declared_algebras}
+use Rattle.job_texts.specs.Spelling.{variables}
+use Rattle.job_texts.specs.TermText.{linear_of, is_among}
+use Rattle.job_texts.specs.Declarations.{Declaration}
+use Rattle.job_texts.specs.DeclaredNames.{section_of}
+use Rattle.job_texts.specs.JobText.{term_in, declared_algebras}
 use Rattle.spelled_texts.proofs.Contents.{parts_of_term, let_declaration, algebra_declarations}
 use Rattle.spelled_texts.proofs.Names.{same_bytes, first_is_other}
 use Rattle.spelled_texts.proofs.Terms.{TermLaw, term_known, made_parts}

@@ -1,10 +1,10 @@
 -- No kind of fault stands at a declaration, by what stands above and below it.
 use Rattle.std.proofs.Common.{◌≡◌, Bool, false, ◌&&◌, not, nat_lt, None, List, [], ◌∷◌, ◌++◌, sym, append_assoc, append-nil, subst}
 use Rattle.std.specs.List.{list_all, list_any, find}
-use Rattle.adp_model.specs.TermText.{is_among}
-use Rattle.adp_model.specs.Declarations.{Alternative, Declaration, Rule}
-use Rattle.adp_model.specs.DeclaredNames.{sign_names, is_algebra_line, section_of, let_signs}
-use Rattle.adp_model.specs.TextFaults.{misnames, misnumbers, repeats, misletters, is_misplaced, is_axiom_line, uses_unknown, misfits, has_crossed_bounds, Counted, counts_of}
+use Rattle.job_texts.specs.TermText.{is_among}
+use Rattle.job_texts.specs.Declarations.{Alternative, Declaration, Rule}
+use Rattle.job_texts.specs.DeclaredNames.{sign_names, is_algebra_line, section_of, let_signs}
+use Rattle.job_texts.specs.TextFaults.{misnames, misnumbers, repeats, misletters, is_misplaced, is_axiom_line, uses_unknown, misfits, has_crossed_bounds, Counted, counts_of}
 
 abbrev pub is_over : Counted → Bool
 is_over counted = nat_lt counted.limit counted.count

@@ -3,8 +3,8 @@ use Rattle.std.proofs.Common.{◌≡◌, ℕ, ◌+◌, ◌≤◌, true, false, O
 use Rattle.std.specs.List.{filter_map}
 use Rattle.std.proofs.lemmas.List.Elements.{filter_map-append}
 use Rattle.adp_model.specs.WellFormed.{are_distinct}
-use Rattle.adp_model.specs.TermText.{is_among}
-use Rattle.adp_model.specs.Declarations.{Declaration}
+use Rattle.job_texts.specs.TermText.{is_among}
+use Rattle.job_texts.specs.Declarations.{Declaration}
 use Rattle.spelled_texts.proofs.Names.{not_before}
 
 -- later names beside earlier ones

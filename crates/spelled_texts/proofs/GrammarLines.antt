@@ -13,7 +13,7 @@ use Rattle.adp_model.specs.declared.grammar.Grammar.{Grammar}
 use Rattle.adp_model.specs.declared.job.Job.{Job}
 use Rattle.adp_model.specs.Report.{line}
 use Rattle.adp_model.specs.WellFormed.{is_class, is_sign, is_term, is_algebra, is_rule}
-use Rattle.adp_model.specs.Spelling.{class_line, sign_line, let_line, algebra_lines, rule_line, spelling}
+use Rattle.job_texts.specs.Spelling.{class_line, sign_line, let_line, algebra_lines, rule_line, spelling}
 use Rattle.spelled_texts.proofs.ReadTokens.{TokenLaws}
 use Rattle.spelled_texts.proofs.Contents.{class_content, sign_content, let_content, algebra_contents, rule_content, axiom_content, grammar_contents, class_declaration, sign_declaration, let_declaration, algebra_declarations, rule_declaration, axiom_declaration, grammar_declarations}
 use Rattle.spelled_texts.proofs.HeaderOf.{Declare, declare-append, framed}

@@ -14,7 +14,7 @@ use Rattle.adp_model.specs.declared.grammar.Rule as rules
 use Rattle.adp_model.specs.declared.grammar.Grammar.{Grammar}
 use Rattle.adp_model.specs.Printable.{is_printable_byte}
 use Rattle.adp_model.specs.Parts.{class_at, sign_at, rule_at}
-use Rattle.adp_model.specs.Spelling.{class_name, rule_name}
+use Rattle.job_texts.specs.Spelling.{class_name, rule_name}
 use Rattle.adp_model.specs.WellFormed.{is_name, are_distinct, is_class, is_sign, is_algebra, is_term, is_argument, is_alternative, is_rule, is_high_bound, counts_fit, names_differ, parts_fit, is_well_formed}
 use Rattle.spelled_texts.proofs.ClassLines.{class_parts}
 use Rattle.spelled_texts.proofs.SignLines.{sign_parts}

@@ -3,10 +3,10 @@ use Rattle.std.proofs.Common.{◌≡◌, ℕ, suc, ◌+◌, codes, true, false, 
 use Rattle.std.specs.List.{list_all, position_or_len, AllZip}
 use Rattle.std.proofs.Math.Seq.{drop-append-add}
 use Rattle.adp_model.specs.Printable.{is_printable_byte}
-use Rattle.adp_model.specs.LineTokens.{Token}
-use Rattle.adp_model.specs.JobLines.{job_lines, is_skipped, is_words_line, up_to_words_line}
-use Rattle.adp_model.specs.Declarations.{Declaration, Words, Skipped, Says, declaration_of, header_line}
-use Rattle.adp_model.specs.DeclaredNames.{TextLines, text_lines}
+use Rattle.job_texts.specs.LineTokens.{Token}
+use Rattle.job_texts.specs.JobLines.{job_lines, is_skipped, is_words_line, up_to_words_line}
+use Rattle.job_texts.specs.Declarations.{Declaration, Words, Skipped, Says, declaration_of, header_line}
+use Rattle.job_texts.specs.DeclaredNames.{TextLines, text_lines}
 use Rattle.spelled_texts.proofs.ReadTokens.{Reads}
 
 -- a header line that declares this, and is not the `words` line

@@ -1,7 +1,7 @@
 -- The tokens of pieces with a separator between two.
 use Rattle.std.proofs.Common.{◌≡◌, ℕ, false, codes, List, [], ◌∷◌, ◌++◌, refl, append_assoc}
 use Rattle.std.specs.List.{flat_map, join_by, AllByRecursion}
-use Rattle.adp_model.specs.LineTokens.{Token, Comma, Bar, begins_word}
+use Rattle.job_texts.specs.LineTokens.{Token, Comma, Bar, begins_word}
 use Rattle.spelled_texts.proofs.ReadTokens.{TokenLaws, Reads, mark_then, space_then, same_text_reads}
 
 -- the text says these tokens before any further text that begins with no byte of a word

@@ -8,9 +8,9 @@ use Rattle.adp_model.specs.declared.grammar.Kind.{Kind}
 use Rattle.adp_model.specs.declared.grammar.Sign.{Sign}
 use Rattle.adp_model.specs.declared.grammar.Linear.{Linear}
 use Rattle.adp_model.specs.WellFormed.{is_name, are_distinct, is_sign, is_term}
-use Rattle.adp_model.specs.Spelling.{variables}
-use Rattle.adp_model.specs.Declarations.{Declaration}
-use Rattle.adp_model.specs.DeclaredNames.{is_algebra_line, since_algebra, let_sign_of, let_signs}
+use Rattle.job_texts.specs.Spelling.{variables}
+use Rattle.job_texts.specs.Declarations.{Declaration}
+use Rattle.job_texts.specs.DeclaredNames.{is_algebra_line, since_algebra, let_sign_of, let_signs}
 use Rattle.spelled_texts.proofs.Numbers.{variable_word, variable_is_name, other_variable}
 use Rattle.spelled_texts.proofs.Contents.{parts_of_term, let_declaration}
 use Rattle.spelled_texts.proofs.SignLines.{IsSign, sign_parts}

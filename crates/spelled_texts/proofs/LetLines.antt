@@ -4,9 +4,9 @@ use Rattle.std.specs.List.{flat_map, AllByRecursion}
 use Rattle.adp_model.specs.declared.grammar.Kind.{Kind}
 use Rattle.adp_model.specs.declared.grammar.Sign.{Sign}
 use Rattle.adp_model.specs.declared.grammar.Linear.{Linear}
-use Rattle.adp_model.specs.Spelling.{separated, variables, term_text}
-use Rattle.adp_model.specs.LineTokens.{Token, Word, OpenBracket, CloseBracket, Comma, Equals}
-use Rattle.adp_model.specs.Declarations.{let_tokens}
+use Rattle.job_texts.specs.Spelling.{separated, variables, term_text}
+use Rattle.job_texts.specs.LineTokens.{Token, Word, OpenBracket, CloseBracket, Comma, Equals}
+use Rattle.job_texts.specs.Declarations.{let_tokens}
 use Rattle.spelled_texts.proofs.ReadTokens.{TokenLaws, Reads, IsWord, name_is_word, word_then, mark_then, space_then, same_text_reads}
 use Rattle.spelled_texts.proofs.Printing.{Prints, literal_prints, prints-append, prints_joined, word_prints}
 use Rattle.spelled_texts.proofs.Numbers.{variable_is_word}

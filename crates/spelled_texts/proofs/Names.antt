@@ -4,8 +4,8 @@ use Rattle.std.specs.List.{list_any, position_or_len}
 use Rattle.std.proofs.lemmas.Bool.{and_parts, not-true, or_parts, or_right, or_from, lt-ltb}
 use lib.Pointwise.{pointwise}
 use Rattle.adp_model.specs.WellFormed.{are_distinct}
-use Rattle.adp_model.specs.TermText.{is_among}
-use Rattle.adp_model.specs.JobText.{number_among}
+use Rattle.job_texts.specs.TermText.{is_among}
+use Rattle.job_texts.specs.JobText.{number_among}
 
 pub same_bytes : (text : List ℕ) → pointwise nat_eq text text ≡ true
 same_bytes [] = refl

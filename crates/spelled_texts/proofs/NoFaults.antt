@@ -6,11 +6,11 @@ use Rattle.std.proofs.lemmas.Bool.{and_parts, and_right, or_from, le-ltb}
 use Rattle.std.proofs.lemmas.List.Folds.{find-append}
 use Rattle.adp_model.specs.declared.fault.TextFault.{TextFault}
 use Rattle.adp_model.specs.Printable.{is_printable_byte}
-use Rattle.adp_model.specs.Declarations.{Declaration, Words, HeaderLine, Skipped, Says}
-use Rattle.adp_model.specs.DeclaredNames.{TextLines, header_at, form_of, form_at, declarations, above, below, is_algebra_line}
-use Rattle.adp_model.specs.TextFaults as faults
-use Rattle.adp_model.specs.TextFaults.{holds_of_form, is_words_line_number, misnames, misnumbers, repeats, misletters, is_misplaced, is_axiom_line, uses_unknown, misfits, Counted, limited, counts_of, counts_at, words_up_to, is_word_line, FaultKind, fault_kinds}
-use Rattle.adp_model.specs.JobText.{fault_at, first_fault_at, first_fault}
+use Rattle.job_texts.specs.Declarations.{Declaration, Words, HeaderLine, Skipped, Says}
+use Rattle.job_texts.specs.DeclaredNames.{TextLines, header_at, form_of, form_at, declarations, above, below, is_algebra_line}
+use Rattle.job_texts.specs.TextFaults as faults
+use Rattle.job_texts.specs.TextFaults.{holds_of_form, is_words_line_number, misnames, misnumbers, repeats, misletters, is_misplaced, is_axiom_line, uses_unknown, misfits, Counted, limited, counts_of, counts_at, words_up_to, is_word_line, FaultKind, fault_kinds}
+use Rattle.job_texts.specs.JobText.{fault_at, first_fault_at, first_fault}
 use Rattle.spelled_texts.proofs.HeaderOf.{framed, framed_text}
 use Rattle.spelled_texts.proofs.Faultless.{is_over, crosses, lacks, IsFaultless, AreFaultless}
 

@@ -10,8 +10,8 @@ use Rattle.std.proofs.lemmas.Fmt.{decimal_is_IsNumeral, decimal_injective, lengt
 use Rattle.std.proofs.lemmas.Str.Parse.{digit_from_value}
 use lib.Pointwise.{pointwise}
 use Rattle.adp_model.specs.WellFormed.{is_word_byte, is_name, is_in_range}
-use Rattle.adp_model.specs.TermText.{number_of}
-use Rattle.adp_model.specs.TextFaults.{bound_of}
+use Rattle.job_texts.specs.TermText.{number_of}
+use Rattle.job_texts.specs.TextFaults.{bound_of}
 use Rattle.spelled_texts.proofs.ReadTokens.{IsWord}
 use Rattle.spelled_texts.proofs.Printing.{Prints, prints-cons, word_prints}
 

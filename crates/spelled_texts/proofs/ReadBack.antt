@@ -6,10 +6,10 @@ use Rattle.adp_model.specs.declared.grammar.Grammar.{Grammar}
 use Rattle.adp_model.specs.declared.job.Job.{Job}
 use Rattle.adp_model.specs.declared.fault.TextFault.{TextFault}
 use Rattle.adp_model.specs.Printable.{is_printable_byte}
-use Rattle.adp_model.specs.Spelling.{spelling}
-use Rattle.adp_model.specs.JobLines.{job_lines}
-use Rattle.adp_model.specs.DeclaredNames.{TextLines, text_lines, declarations}
-use Rattle.adp_model.specs.JobText.{Accepted, declared_grammar, first_fault, lines_verdict, IsText}
+use Rattle.job_texts.specs.Spelling.{spelling}
+use Rattle.job_texts.specs.JobLines.{job_lines}
+use Rattle.job_texts.specs.DeclaredNames.{TextLines, text_lines, declarations}
+use Rattle.job_texts.specs.JobText.{Accepted, declared_grammar, first_fault, lines_verdict, IsText}
 use Rattle.spelled_texts.proofs.ReadTokens.{TokenLaws}
 use Rattle.spelled_texts.proofs.SplitLines.{lines_of_contents}
 use Rattle.spelled_texts.proofs.HeaderOf.{framed, framed_text, declare_printable, as_many, text_of_framed}

@@ -4,7 +4,7 @@ use Rattle.std.specs.List.{list_all}
 use Rattle.std.proofs.lemmas.Bool.{and_parts}
 use Rattle.adp_model.specs.TreeText.{quoted}
 use Rattle.adp_model.specs.WellFormed.{is_letter_byte, is_word_byte, is_name}
-use Rattle.adp_model.specs.LineTokens.{Token, Word, Quoted, Dots, before_tokens, begins_word, is_one_of, mark_of, tokens_of}
+use Rattle.job_texts.specs.LineTokens.{Token, Word, Quoted, Dots, before_tokens, begins_word, is_one_of, mark_of, tokens_of}
 
 -- the laws of tokens
 pub record TokenLaws : Type 0 where

@@ -13,9 +13,9 @@ use Rattle.adp_model.specs.declared.grammar.Rule as rules
 use Rattle.adp_model.specs.declared.grammar.Grammar.{Grammar}
 use Rattle.adp_model.specs.Parts.{sign_at}
 use Rattle.adp_model.specs.WellFormed.{is_name, is_sign, is_argument, is_rule}
-use Rattle.adp_model.specs.Declarations.{Alternative, Declaration}
-use Rattle.adp_model.specs.DeclaredNames.{rule_name_of, rule_names}
-use Rattle.adp_model.specs.TextFaults.{bound_of, argument_names, alternative_names, argument_bounds, alternative_bounds, is_unknown_argument, is_unknown_alternative, fits_kind, fits_sign, has_crossed_bounds}
+use Rattle.job_texts.specs.Declarations.{Alternative, Declaration}
+use Rattle.job_texts.specs.DeclaredNames.{rule_name_of, rule_names}
+use Rattle.job_texts.specs.TextFaults.{bound_of, argument_names, alternative_names, argument_bounds, alternative_bounds, is_unknown_argument, is_unknown_alternative, fits_kind, fits_sign, has_crossed_bounds}
 use Rattle.spelled_texts.proofs.Numbers.{bound_of_decimal}
 use Rattle.spelled_texts.proofs.Contents.{spelled_argument, spelled_alternative, rule_declaration}
 use Rattle.spelled_texts.proofs.SignLines.{sign_parts}

@@ -10,9 +10,9 @@ use Rattle.adp_model.specs.declared.grammar.Grammar.{Grammar}
 use Rattle.adp_model.specs.Parts.{sign_at}
 use Rattle.adp_model.specs.Printable.{is_printable_byte}
 use Rattle.adp_model.specs.WellFormed.{is_name}
-use Rattle.adp_model.specs.Spelling.{separated, class_name, rule_name, argument_text, alternative_text}
-use Rattle.adp_model.specs.LineTokens.{Token, Word, Quoted, OpenBracket, CloseBracket, Comma, OpenSquare, CloseSquare, Bar, Dots, Equals}
-use Rattle.adp_model.specs.Declarations.{Alternative, with_argument, arguments_of, behind_argument, alternatives_of}
+use Rattle.job_texts.specs.Spelling.{separated, class_name, rule_name, argument_text, alternative_text}
+use Rattle.job_texts.specs.LineTokens.{Token, Word, Quoted, OpenBracket, CloseBracket, Comma, OpenSquare, CloseSquare, Bar, Dots, Equals}
+use Rattle.job_texts.specs.Declarations.{Alternative, with_argument, arguments_of, behind_argument, alternatives_of}
 use Rattle.spelled_texts.proofs.ReadTokens.{TokenLaws, Reads, nothing_reads, name_is_word, word_then, mark_then, space_then, dots_then, quoted_then, same_text_reads}
 use Rattle.spelled_texts.proofs.Printing.{Prints, literal_prints, prints-append, prints_joined, word_prints, quoted_prints}
 use Rattle.spelled_texts.proofs.Numbers.{decimal_is_word, decimal_prints}

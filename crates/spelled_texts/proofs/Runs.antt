@@ -6,8 +6,8 @@ use Rattle.std.proofs.lemmas.Bool.{and_parts}
 use Rattle.std.proofs.lemmas.Bool.Decides.{Decides-int_eq}
 use Rattle.adp_model.specs.Printable.{is_printable_byte}
 use Rattle.adp_model.specs.WellFormed.{is_in_range, is_entry}
-use Rattle.adp_model.specs.Spelling.{join_run, runs_of}
-use Rattle.adp_model.specs.TextFaults.{weight_of, class_letters}
+use Rattle.job_texts.specs.Spelling.{join_run, runs_of}
+use Rattle.job_texts.specs.TextFaults.{weight_of, class_letters}
 use Rattle.spelled_texts.proofs.Numbers.{number_of_decimal}
 use Rattle.spelled_texts.proofs.Contents.{run_item}
 

@@ -4,8 +4,8 @@ use Rattle.std.specs.List.{list_all}
 use Rattle.std.proofs.lemmas.Bool.{and_parts, le-ltb}
 use Rattle.adp_model.specs.declared.grammar.Sign.{Sign}
 use Rattle.adp_model.specs.WellFormed.{is_sign}
-use Rattle.adp_model.specs.Declarations.{Declaration}
-use Rattle.adp_model.specs.DeclaredNames.{sign_name_of, sign_names}
+use Rattle.job_texts.specs.Declarations.{Declaration}
+use Rattle.job_texts.specs.DeclaredNames.{sign_name_of, sign_names}
 use Rattle.spelled_texts.proofs.Contents.{sign_declaration}
 use Rattle.spelled_texts.proofs.SignLines.{sign_parts}
 use Rattle.spelled_texts.proofs.GrammarParts.{name_of_sign}

@@ -6,9 +6,9 @@ use Rattle.adp_model.specs.declared.grammar.Kind.{Kind}
 use Rattle.adp_model.specs.declared.grammar.Kind.TheVariants as kinds
 use Rattle.adp_model.specs.declared.grammar.Sign.{Sign}
 use Rattle.adp_model.specs.WellFormed.{is_name, is_sign}
-use Rattle.adp_model.specs.Spelling.{separated, kind_text}
-use Rattle.adp_model.specs.LineTokens.{Token, Word, OpenBracket, CloseBracket, Comma}
-use Rattle.adp_model.specs.Declarations.{kinds_of}
+use Rattle.job_texts.specs.Spelling.{separated, kind_text}
+use Rattle.job_texts.specs.LineTokens.{Token, Word, OpenBracket, CloseBracket, Comma}
+use Rattle.job_texts.specs.Declarations.{kinds_of}
 use Rattle.spelled_texts.proofs.ReadTokens.{TokenLaws, Reads, IsWord, nothing_reads, name_is_word, word_then, mark_then, space_then, same_text_reads}
 use Rattle.spelled_texts.proofs.Printing.{Prints, literal_prints, prints-append, prints_joined, word_prints}
 use Rattle.spelled_texts.proofs.Contents.{sign_content, sign_declaration}

@@ -8,7 +8,7 @@ use Rattle.adp_model.specs.declared.grammar.Linear.{Linear}
 use Rattle.adp_model.specs.declared.grammar.Algebra.{Algebra}
 use Rattle.adp_model.specs.declared.grammar.Rule as rules
 use Rattle.adp_model.specs.declared.grammar.Grammar.{Grammar}
-use Rattle.adp_model.specs.Declarations.{Declaration, Words}
+use Rattle.job_texts.specs.Declarations.{Declaration, Words}
 use Rattle.spelled_texts.proofs.Contents.{class_declaration, sign_declaration, algebra_declaration, let_declaration, algebra_declarations, rule_declaration, axiom_declaration, grammar_declarations}
 
 -- all declarations of a spelling

@@ -6,7 +6,7 @@ use Rattle.std.specs.Str.Lines.{strip_carriage_return, lines_of_parts}
 use Rattle.std.proofs.lemmas.Bool.{and_parts}
 use Rattle.adp_model.specs.Printable.{is_printable_byte}
 use Rattle.adp_model.specs.Report.{line}
-use Rattle.adp_model.specs.JobLines.{job_lines}
+use Rattle.job_texts.specs.JobLines.{job_lines}
 
 record NotEmpty (parts : List (List ℕ)) : Type 0 where
   first : List ℕ

@@ -7,10 +7,10 @@ use Rattle.adp_model.specs.declared.grammar.Sign.{Sign}
 use Rattle.adp_model.specs.declared.grammar.Linear.{Linear}
 use Rattle.adp_model.specs.Printable.{is_printable_byte}
 use Rattle.adp_model.specs.WellFormed.{is_in_range, is_sign, is_term}
-use Rattle.adp_model.specs.Spelling.{variables, factors_text, term_text}
-use Rattle.adp_model.specs.LineTokens.{Token, Offence, tokens_of}
-use Rattle.adp_model.specs.TermText.{Part, TermFault, Name, Number, Unknown, are_names, are_numbers, totals_fit, are_declared, linear_of, term_of_parts}
-use Rattle.adp_model.specs.TermParts.{parts_of, term_reading}
+use Rattle.job_texts.specs.Spelling.{variables, factors_text, term_text}
+use Rattle.job_texts.specs.LineTokens.{Token, Offence, tokens_of}
+use Rattle.job_texts.specs.TermText.{Part, TermFault, Name, Number, Unknown, are_names, are_numbers, totals_fit, are_declared, linear_of, term_of_parts}
+use Rattle.job_texts.specs.TermParts.{parts_of, term_reading}
 use Rattle.spelled_texts.proofs.ReadTokens.{Reads}
 use Rattle.spelled_texts.proofs.Printing.{Prints, literal_prints, prints-append}
 use Rattle.spelled_texts.proofs.Numbers.{decimal_prints, signed_prints}

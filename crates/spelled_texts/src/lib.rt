@@ -2,14 +2,14 @@
 #![tactic(auto)]
 
 ghost use Rattle.adp_model.specs.declared.job.Job.{Job};
-ghost use Rattle.adp_model.specs.JobText.{IsText};
-ghost use Rattle.adp_model.specs.Spelling.{spelling};
+ghost use Rattle.job_texts.specs.JobText.{IsText};
+ghost use Rattle.job_texts.specs.Spelling.{spelling};
 
-use adp_model::laws::text::{
+use algebra_terms::laws::spelled_terms_are_read;
+use job_texts::laws::{
     dots_are_tokens, marks_are_tokens, quoted_texts_are_tokens, spaces_are_no_tokens,
     words_are_tokens,
 };
-use algebra_terms::laws::spelled_terms_are_read;
 
 /// The canonical spelling of a job is an accepted text, and its job is this one.
 pub fn spellings_are_read_back()

@@ -3,7 +3,7 @@ use Rattle.std.specs.Prelude.{◌≡◌, ◌⊎◌}
 use Rattle.adp_model.specs.declared.cell.Cell.{Cell}
 use Rattle.adp_model.specs.PosedProblem.{PosedProblem, axiom_cell}
 use Rattle.adp_model.specs.Demand.{IsDemanded}
-use Rattle.adp_model.specs.Machines.{IsMachine}
+use Rattle.memo_model.specs.Machines.{IsMachine}
 use Rattle.memo_words.specs.declared.pass.Pass.{Pass}
 use Rattle.memo_words.specs.declared.words.Words.{Words}
 use Rattle.memo_words.specs.Passes.{IsPassOf, view_of, problem_of}

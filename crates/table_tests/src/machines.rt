@@ -1,10 +1,11 @@
 ghost use Rattle.std.specs.Prelude.{◌≡◌, ◌<◌};
-ghost use Rattle.adp_model.specs.Machines.{IsMachine};
+ghost use Rattle.memo_model.specs.Machines.{IsMachine};
 ghost use Rattle.cell_core.specs.MachineViews.{IsNotedIn};
 
 use crate::pairs::{Look, look_at_pairs};
-use adp_model::{Memo, Problem, Steps};
+use adp_model::Problem;
 use cell_core::{Machine, PlainMemo, Turn};
+use memo_model::{Memo, Steps};
 use random_orders::Orders;
 use std::alloc::{AllocError, Global};
 use std::marker::Brand;

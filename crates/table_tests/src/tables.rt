@@ -3,8 +3,9 @@ ghost use Rattle.memo_words.specs.Passes.{IsPassOf, plan_of, problem_of, view_of
 ghost use Rattle.table_tests.specs.AtWork.{IsAtWork, IsLeft, IsWhole};
 
 use crate::pairs::{Look, look_at_pairs};
-use adp_model::{Answer, Answers, Cell, Choice, Problem, Steps};
+use adp_model::{Answer, Answers, Cell, Choice, Problem};
 use cell_core::{Machine, Turn};
+use memo_model::Steps;
 use memo_table::{Closed, Pass, Table};
 use random_orders::Orders;
 use std::alloc::{AllocError, Global};

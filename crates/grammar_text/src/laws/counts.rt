@@ -1,7 +1,7 @@
 //! How much a line can declare.
 
 ghost use Rattle.std.specs.Prelude.{◌≡◌, ℕ, ◌≤◌, List, length};
-ghost use Rattle.adp_model.specs.Declarations.{Declaration, Says, header_line};
+ghost use Rattle.job_texts.specs.Declarations.{Declaration, Says, header_line};
 ghost use Rattle.grammar_text.specs.Names.{part_count};
 
 /// A line declares no more kinds or alternatives than it has bytes.

@@ -1,9 +1,9 @@
 //! What the tokens of a line say, piece by piece.
 
 ghost use Rattle.std.specs.Prelude.{◌≡◌, ◌↔◌, ℕ, IsTrue, Ok, List, ◌∷◌, ◌++◌, drop, map};
-ghost use Rattle.adp_model.specs.LineTokens.{PlacedToken, line_tokens, tokens_of};
-ghost use Rattle.adp_model.specs.JobLines.{is_words_line};
-ghost use Rattle.adp_model.specs.Declarations.{Says, Words, header_line};
+ghost use Rattle.job_texts.specs.LineTokens.{PlacedToken, line_tokens, tokens_of};
+ghost use Rattle.job_texts.specs.JobLines.{is_words_line};
+ghost use Rattle.job_texts.specs.Declarations.{Says, Words, header_line};
 
 /// The bytes of a line behind a token have the tokens behind it.
 pub fn tokens_stand_behind()

@@ -4,8 +4,8 @@ ghost use Rattle.std.specs.Prelude.{◌≡◌, ℕ, ◌⊎◌, None, List, IsTru
 ghost use Rattle.std.specs.List.{list_all};
 ghost use Rattle.adp_model.specs.declared.fault.TextFault.{TextFault};
 ghost use Rattle.adp_model.specs.declared.job.Job.{Job};
-ghost use Rattle.adp_model.specs.DeclaredNames.{text_lines, declarations};
-ghost use Rattle.adp_model.specs.JobText.{IsFaultOf, IsText, declared_grammar, first_fault};
+ghost use Rattle.job_texts.specs.DeclaredNames.{text_lines, declarations};
+ghost use Rattle.job_texts.specs.JobText.{IsFaultOf, IsText, declared_grammar, first_fault};
 ghost use Rattle.adp_model.specs.Printable.{is_printable_byte};
 ghost use Rattle.adp_model.specs.WellFormed.{is_well_formed};
 

@@ -1,10 +1,10 @@
 // The algebras that declarations declare.
 
 ghost use Rattle.std.specs.Prelude.{◌≡◌, true, ℕ, List, map, IfOk};
-ghost use Rattle.adp_model.specs.DeclaredNames as sections;
-ghost use Rattle.adp_model.specs.JobText as texts;
-ghost use Rattle.adp_model.specs.TermText.{linear_of};
-ghost use Rattle.adp_model.specs.Declarations as forms;
+ghost use Rattle.job_texts.specs.DeclaredNames as sections;
+ghost use Rattle.job_texts.specs.JobText as texts;
+ghost use Rattle.job_texts.specs.TermText.{linear_of};
+ghost use Rattle.job_texts.specs.Declarations as forms;
 ghost use Rattle.grammar_text.specs.Building.{are_buildable, is_buildable, sign_names};
 ghost use Rattle.grammar_text.specs.Seen.{declaration_seen, parts_of_text, words_seen};
 

@@ -1,8 +1,8 @@
 // A text cut into lines, with what its header lines say.
 
 ghost use Rattle.std.specs.Prelude.{◌≡◌, ◌≤◌, ◌^◌, ◌∷◌, ◌++◌, [], length, map, All, IfOk, OnOk};
-ghost use Rattle.adp_model.specs.JobLines.{job_lines, up_to_words_line};
-ghost use Rattle.adp_model.specs.Declarations as forms;
+ghost use Rattle.job_texts.specs.JobLines.{job_lines, up_to_words_line};
+ghost use Rattle.job_texts.specs.Declarations as forms;
 ghost use Rattle.grammar_text.specs.Seen.{declaration_seen, line_seen, words_seen};
 ghost use Rattle.grammar_text.specs.Collecting.{header_seen, is_last, says_in, woven};
 

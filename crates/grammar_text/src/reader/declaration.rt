@@ -1,7 +1,7 @@
 // What header lines say, as slices of the input.
 
 ghost use Rattle.std.specs.Prelude.{◌≤◌, ◌^◌, length, IsSome};
-ghost use Rattle.adp_model.specs.TermParts.{term_parts};
+ghost use Rattle.job_texts.specs.TermParts.{term_parts};
 
 use adp_model::{Goal, Kind};
 

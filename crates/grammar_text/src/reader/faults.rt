@@ -1,7 +1,7 @@
 // What stands wrong at a line by what it declares.
 
 ghost use Rattle.std.specs.Prelude.{◌≤◌, ◌≡◌, ◌<◌, ◌+◌, ◌^◌, All, IfOk, get_or, map, length, drop};
-ghost use Rattle.adp_model.specs.Declarations.{Words};
+ghost use Rattle.job_texts.specs.Declarations.{Words};
 ghost use Rattle.grammar_text.specs.LineTests as tests;
 ghost use Rattle.grammar_text.specs.Names.{AreNames, declares_its_variables, part_count};
 ghost use Rattle.grammar_text.specs.Seen.{declaration_seen};

@@ -1,7 +1,7 @@
 // The first fault of a text.
 
 ghost use Rattle.std.specs.Prelude.{◌≡◌, ◌≤◌, ◌+◌, ◌<◌, ◌^◌, ◌∷◌, [], All, IfOk, get_or, length, map, take, true};
-ghost use Rattle.adp_model.specs.JobText.{first_fault};
+ghost use Rattle.job_texts.specs.JobText.{first_fault};
 ghost use Rattle.grammar_text.specs.Collecting.{says_in};
 ghost use Rattle.grammar_text.specs.Gathering.{text_seen};
 ghost use Rattle.grammar_text.specs.JoinedTests.{joined};

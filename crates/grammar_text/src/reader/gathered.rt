@@ -2,7 +2,7 @@
 
 ghost use Rattle.std.specs.Prelude.{◌≡◌, ◌<◌, ◌≤◌, ◌^◌, length, drop, map, All, IfOk};
 ghost use Rattle.std.specs.List.{list_any};
-ghost use Rattle.adp_model.specs.DeclaredNames.{text_lines};
+ghost use Rattle.job_texts.specs.DeclaredNames.{text_lines};
 ghost use Rattle.grammar_text.specs.Collecting.{header_seen, says_in};
 ghost use Rattle.grammar_text.specs.Gathering.{is_words_declaration, text_seen, words_line_in};
 ghost use Rattle.grammar_text.specs.Names.{part_count};

@@ -2,8 +2,8 @@
 
 ghost use Rattle.std.specs.Prelude.{◌≡◌, true, [], map, unwrap_or, IfOk};
 ghost use Rattle.std.specs.List.{filter_map};
-ghost use Rattle.adp_model.specs.DeclaredNames.{rule_names, first_of_list};
-ghost use Rattle.adp_model.specs.JobText.{axiom_name, declared_class, declared_grammar, declared_sign, number_among};
+ghost use Rattle.job_texts.specs.DeclaredNames.{rule_names, first_of_list};
+ghost use Rattle.job_texts.specs.JobText.{axiom_name, declared_class, declared_grammar, declared_sign, number_among};
 ghost use Rattle.grammar_text.specs.Building.{are_buildable, is_buildable};
 ghost use Rattle.grammar_text.specs.Names.{AreNames};
 ghost use Rattle.grammar_text.specs.Seen.{declaration_seen};

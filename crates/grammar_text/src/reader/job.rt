@@ -2,8 +2,8 @@
 
 ghost use Rattle.std.specs.Prelude.{◌≡◌, None, map, IfOk, true};
 ghost use Rattle.std.specs.List.{list_all};
-ghost use Rattle.adp_model.specs.DeclaredNames.{declarations, text_lines};
-ghost use Rattle.adp_model.specs.JobText.{IsText, first_fault};
+ghost use Rattle.job_texts.specs.DeclaredNames.{declarations, text_lines};
+ghost use Rattle.job_texts.specs.JobText.{IsText, first_fault};
 ghost use Rattle.adp_model.specs.Printable.{is_printable_byte};
 ghost use Rattle.grammar_text.specs.Names.{AreNames};
 ghost use Rattle.grammar_text.specs.Seen.{declaration_seen, words_seen};

@@ -2,7 +2,7 @@
 
 ghost use Rattle.std.specs.Prelude.{◌≡◌, true, is_some, map, IfOk};
 ghost use Rattle.std.specs.List.{flat_map, list_all, list_any};
-ghost use Rattle.adp_model.specs.TextFaults as faults;
+ghost use Rattle.job_texts.specs.TextFaults as faults;
 ghost use Rattle.adp_model.specs.WellFormed as words;
 ghost use Rattle.grammar_text.specs.Judged as judged;
 ghost use Rattle.grammar_text.specs.Seen.{alternative_seen, argument_seen, declaration_seen, item_seen, parts_of_text, words_seen};

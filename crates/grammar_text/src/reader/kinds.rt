@@ -1,8 +1,8 @@
 // The least kind of fault at a line.
 
 ghost use Rattle.std.specs.Prelude.{◌≡◌, Some};
-ghost use Rattle.adp_model.specs.DeclaredNames.{TextLines};
-ghost use Rattle.adp_model.specs.JobText.{fault_at};
+ghost use Rattle.job_texts.specs.DeclaredNames.{TextLines};
+ghost use Rattle.job_texts.specs.JobText.{fault_at};
 ghost use Rattle.grammar_text.specs.LineKinds.{AreLineTests};
 
 use adp_model::TextFault;

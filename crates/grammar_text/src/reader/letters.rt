@@ -1,8 +1,8 @@
 // The letters of quoted texts.
 
 ghost use Rattle.std.specs.Prelude.{◌≡◌, ◌++◌, map, false, OnOk, IfOk, pos, unwrap_or};
-ghost use Rattle.adp_model.specs.TextFaults as faults;
-ghost use Rattle.adp_model.specs.LineTokens.{quoted_rest};
+ghost use Rattle.job_texts.specs.TextFaults as faults;
+ghost use Rattle.job_texts.specs.LineTokens.{quoted_rest};
 ghost use Rattle.algebra_terms.specs.Tokens.{letters_behind};
 ghost use Rattle.grammar_text.specs.Seen.{item_seen, IsPushed};
 

@@ -2,10 +2,10 @@
 
 ghost use Rattle.std.specs.Prelude.{◌≡◌, ◌≤◌, ◌+◌, ◌-◌, ◌<◌, ◌^◌, ◌==◌, ◌&&◌, not, get_or, is_none, length, map, Some};
 ghost use Rattle.std.specs.List.{list_all, list_any};
-ghost use Rattle.adp_model.specs.JobLines as job_lines;
+ghost use Rattle.job_texts.specs.JobLines as job_lines;
 ghost use Rattle.adp_model.specs.Printable.{is_printable_byte};
-ghost use Rattle.adp_model.specs.DeclaredNames.{declarations, is_algebra_line};
-ghost use Rattle.adp_model.specs.TextFaults as faults;
+ghost use Rattle.job_texts.specs.DeclaredNames.{declarations, is_algebra_line};
+ghost use Rattle.job_texts.specs.TextFaults as faults;
 ghost use Rattle.grammar_text.specs.Collecting.{says_in};
 ghost use Rattle.grammar_text.specs.Gathering.{text_seen};
 ghost use Rattle.grammar_text.specs.declared.reader.collected.LineSort.TheVariants as sorts;

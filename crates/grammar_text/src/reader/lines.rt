@@ -1,7 +1,7 @@
 // The lines of a text.
 
 ghost use Rattle.std.specs.Prelude.{◌≡◌, ◌<◌, ◌≤◌, ◌∷◌, [], length, MatchOption, IfSome};
-ghost use Rattle.adp_model.specs.JobLines.{job_lines};
+ghost use Rattle.job_texts.specs.JobLines.{job_lines};
 ghost use Rattle.std.specs.Char.{is_newline};
 ghost use Rattle.std.specs.List.{position_or_len};
 ghost use Rattle.std.specs.Str.Lines.{strip_carriage_return};

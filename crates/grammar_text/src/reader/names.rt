@@ -3,11 +3,11 @@
 ghost use Rattle.std.specs.Prelude.{◌≡◌, ◌<◌, ◌≤◌, ◌^◌, map, length, IfOk, List};
 ghost use Rattle.std.specs.List.{list_all, list_any};
 ghost use Rattle.std.specs.Option.{option_copied};
-ghost use Rattle.adp_model.specs.Declarations as forms;
-ghost use Rattle.adp_model.specs.DeclaredNames.{class_names, sign_names, rule_names, kinds_of_sign};
-ghost use Rattle.adp_model.specs.TermText.{is_among};
-ghost use Rattle.adp_model.specs.TextFaults as faults;
-ghost use Rattle.adp_model.specs.JobText.{number_among};
+ghost use Rattle.job_texts.specs.Declarations as forms;
+ghost use Rattle.job_texts.specs.DeclaredNames.{class_names, sign_names, rule_names, kinds_of_sign};
+ghost use Rattle.job_texts.specs.TermText.{is_among};
+ghost use Rattle.job_texts.specs.TextFaults as faults;
+ghost use Rattle.job_texts.specs.JobText.{number_among};
 ghost use Rattle.grammar_text.specs.Seen.{alternative_seen, argument_seen, declaration_seen, words_seen};
 ghost use Rattle.grammar_text.specs.Names.{AreNames, AreNumbers, AreSignPlaces, declares_its_variables, fit_kinds, name_as, names_as};
 

@@ -3,9 +3,9 @@
 ghost use Rattle.std.specs.Prelude.{◌≡◌, ◌<◌, ◌≤◌, ◌^◌, ◌∷◌, [], not, map, length, IfOk};
 ghost use Rattle.std.specs.List.{list_all, list_any};
 ghost use Rattle.adp_model.specs.WellFormed as words;
-ghost use Rattle.adp_model.specs.TermText.{is_among};
-ghost use Rattle.adp_model.specs.DeclaredNames.{sign_names, is_algebra_line, section_of, let_signs};
-ghost use Rattle.adp_model.specs.TextFaults as faults;
+ghost use Rattle.job_texts.specs.TermText.{is_among};
+ghost use Rattle.job_texts.specs.DeclaredNames.{sign_names, is_algebra_line, section_of, let_signs};
+ghost use Rattle.job_texts.specs.TextFaults as faults;
 ghost use Rattle.grammar_text.specs.Names.{AreMembers, first_passing, has_no_place, has_no_place_behind, is_named, lacks_sign, names_as, part_count};
 ghost use Rattle.grammar_text.specs.Seen.{declaration_seen, words_seen};
 

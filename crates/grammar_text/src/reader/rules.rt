@@ -2,8 +2,8 @@
 
 ghost use Rattle.std.specs.Prelude.{◌≡◌, true, List, map, IfOk};
 ghost use Rattle.std.specs.List.{filter_map, list_all};
-ghost use Rattle.adp_model.specs.Declarations as forms;
-ghost use Rattle.adp_model.specs.JobText as texts;
+ghost use Rattle.job_texts.specs.Declarations as forms;
+ghost use Rattle.job_texts.specs.JobText as texts;
 ghost use Rattle.adp_model.specs.Printable.{IsPrintable};
 ghost use Rattle.algebra_terms.specs.Tokens.{letters_behind};
 ghost use Rattle.grammar_text.specs.Building.{are_buildable, is_buildable, is_printable_alternative, is_printable_argument};

@@ -4,10 +4,10 @@ ghost use Rattle.std.specs.Prelude.{◌≡◌, ◌+◌, ◌*◌, ◌≤◌, ◌<
 ghost use Rattle.std.specs.List.{list_all};
 ghost use Rattle.adp_model.specs.Printable.{is_printable_byte};
 ghost use Rattle.std.specs.Option.{option_map};
-ghost use Rattle.adp_model.specs.LineTokens as lines;
-ghost use Rattle.adp_model.specs.JobLines as job_lines;
-ghost use Rattle.adp_model.specs.TermParts.{parts_of, term_parts};
-ghost use Rattle.adp_model.specs.Declarations as forms;
+ghost use Rattle.job_texts.specs.LineTokens as lines;
+ghost use Rattle.job_texts.specs.JobLines as job_lines;
+ghost use Rattle.job_texts.specs.TermParts.{parts_of, term_parts};
+ghost use Rattle.job_texts.specs.Declarations as forms;
 ghost use Rattle.algebra_terms.specs.Tokens.{IsIn, placed};
 ghost use Rattle.algebra_terms.specs.Tokens.{said as token_said};
 ghost use Rattle.grammar_text.specs.Seen.{alternative_seen, declaration_seen, item_seen, let_tokens_seen, line_seen, tokens_seen, behind_class, AreArguments, IsArgumentEnd, IsBehindAlternative, IsBehindArgument, IsBehindKind, IsFirstArgument, IsFirstItem, IsFirstKind, IsFirstSign, IsFirstVariable, IsHighBound};

@@ -2,7 +2,7 @@
 
 ghost use Rattle.std.specs.Prelude.{◌≡◌, ◌++◌, OnOk, codes};
 ghost use Rattle.std.specs.List.{flat_map, zip};
-ghost use Rattle.adp_model.specs.Spelling.{algebra_lines, factor_text, factors_text, goal_text, let_line, separated, term_text, variables};
+ghost use Rattle.job_texts.specs.Spelling.{algebra_lines, factor_text, factors_text, goal_text, let_line, separated, term_text, variables};
 
 use adp_model::{Algebra, Goal, Kind, Linear, Sign, push_decimal, push_signed};
 use std::alloc::AllocError;

@@ -3,7 +3,7 @@
 ghost use Rattle.std.specs.Prelude.{◌≡◌, ◌<◌, ◌++◌, OnOk, length, map, pos, slice_index_or};
 ghost use Rattle.std.specs.List.{flat_map, prefix_len};
 ghost use Rattle.std.specs.Ordering.{int_eq};
-ghost use Rattle.adp_model.specs.Spelling.{class_line, run_text, runs_of};
+ghost use Rattle.job_texts.specs.Spelling.{class_line, run_text, runs_of};
 
 use adp_model::{Class, push_escaped, push_signed};
 use std::alloc::AllocError;

@@ -5,7 +5,7 @@ ghost use Rattle.std.specs.Fmt.{decimal};
 ghost use Rattle.std.specs.List.{flat_map};
 ghost use Rattle.adp_model.specs.Parts.{sign_at};
 ghost use Rattle.adp_model.specs.Report.{line};
-ghost use Rattle.adp_model.specs.Spelling.{alternative_text, argument_text, class_name, high_text, rule_line, rule_name, separated};
+ghost use Rattle.job_texts.specs.Spelling.{alternative_text, argument_text, class_name, high_text, rule_line, rule_name, separated};
 
 use adp_model::{Alt, Arg, Grammar, Rule, push_decimal, push_quoted};
 use std::alloc::AllocError;

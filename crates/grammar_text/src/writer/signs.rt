@@ -2,7 +2,7 @@
 
 ghost use Rattle.std.specs.Prelude.{◌≡◌, ◌++◌, OnOk, codes};
 ghost use Rattle.std.specs.List.{flat_map};
-ghost use Rattle.adp_model.specs.Spelling.{kind_text, separated, sign_line};
+ghost use Rattle.job_texts.specs.Spelling.{kind_text, separated, sign_line};
 
 use adp_model::{Kind, Sign};
 use std::alloc::AllocError;

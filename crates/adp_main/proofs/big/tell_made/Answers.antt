@@ -1,7 +1,7 @@
 use Rattle.std.proofs.Common.{[], inr, sym, subst, arith}
 use Rattle.std.specs.Io.KnownBytes.{Appends}
 use Rattle.std.proofs.lemmas.Result.{err_from_is_err_and}
-use Rattle.adp_model.specs.Command.{Mode}
+use Rattle.verdicts.specs.Command.{Mode}
 use Rattle.adp_main.specs.Commands.{asked_command}
 use Rattle.adp_main.specs.Writing.{HasRun}
 use Rattle.adp_main.proofs.MadeWords.{note_is, unwritten_made}

@@ -1,5 +1,5 @@
 use Rattle.std.proofs.Common.{◌≡◌, map, take}
-use Rattle.adp_model.specs.ScheduleText.{entry_of}
+use Rattle.verdicts.specs.ScheduleText.{entry_of}
 use Rattle.adp_main.proofs.schedule.entries.Given as goal
 
 abbrev pub invariant-loop-byte : goal.invariant-loop-byte

@@ -1,6 +1,6 @@
 use Rattle.std.proofs.Common.{◌≡◌}
 use Rattle.std.proofs.lemmas.Bool.{MatchBool-at_true, MatchBool-at_false}
-use Rattle.adp_model.specs.Command.{Serial}
+use Rattle.verdicts.specs.Command.{Serial}
 use Rattle.adp_main.specs.Commands.{asked_command}
 use Rattle.adp_main.proofs.Running.{swept_word}
 use Rattle.adp_main.proofs.writing.write_word.Goals as goal

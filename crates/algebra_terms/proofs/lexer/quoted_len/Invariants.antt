@@ -1,5 +1,5 @@
 use Rattle.std.proofs.Common.{◌≡◌, false, drop}
-use Rattle.adp_model.specs.LineTokens.{quoted_rest}
+use Rattle.job_texts.specs.LineTokens.{quoted_rest}
 use Rattle.algebra_terms.specs.Tokens.{quoted_bytes}
 use Rattle.algebra_terms.proofs.QuotedTexts.{behind}
 use Rattle.algebra_terms.proofs.lexer.quoted_len.Given as goal

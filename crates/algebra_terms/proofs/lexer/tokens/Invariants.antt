@@ -1,6 +1,6 @@
 use Rattle.std.proofs.Common.{◌≡◌, ◌≤◌, ◌-◌, length, map, drop}
 use Rattle.std.specs.List.{All}
-use Rattle.adp_model.specs.LineTokens.{line_tokens, tokens_from}
+use Rattle.job_texts.specs.LineTokens.{line_tokens, tokens_from}
 use Rattle.algebra_terms.specs.Tokens.{placed, IsIn}
 use Rattle.algebra_terms.proofs.LineTokens.{with_front}
 use Rattle.algebra_terms.proofs.lexer.tokens.Given as goal

@@ -1,6 +1,6 @@
 use Rattle.std.proofs.Common.{◌≡◌, map, length, is_some}
 use Rattle.std.specs.List.{All}
-use Rattle.adp_model.specs.TermParts.{further_parts, parts_of}
+use Rattle.job_texts.specs.TermParts.{further_parts, parts_of}
 use Rattle.algebra_terms.specs.Tokens.{said, IsIn}
 use Rattle.algebra_terms.proofs.part.is_term.Given as goal
 

@@ -1,7 +1,7 @@
 use Rattle.algebra_terms.specs.Tokens.{said}
 use Rattle.std.proofs.Common.{map, ◌≡◌, sym, ◌∙◌, FitsSigned, w64, to_z, of_z, Some, rules}
 use Rattle.std.proofs.lemmas.Int.{to_z-of_z}
-use Rattle.adp_model.specs.TermText.{signed}
+use Rattle.job_texts.specs.TermText.{signed}
 use Rattle.algebra_terms.proofs.Parts.{at_variable, at_number}
 use Rattle.algebra_terms.proofs.part.part_at.Goals as goal
 

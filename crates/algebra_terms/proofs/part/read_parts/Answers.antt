@@ -1,5 +1,5 @@
 use Rattle.std.proofs.Common.{map}
-use Rattle.adp_model.specs.TermParts.{further_parts, parts_of}
+use Rattle.job_texts.specs.TermParts.{further_parts, parts_of}
 use Rattle.algebra_terms.specs.Tokens.{said}
 use Rattle.algebra_terms.proofs.PartLists.{goes_on}
 use Rattle.algebra_terms.proofs.part.read_parts.Goals as goal

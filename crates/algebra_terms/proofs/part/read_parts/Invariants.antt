@@ -1,6 +1,6 @@
 use Rattle.std.proofs.Common.{◌≡◌, map, length}
 use Rattle.std.specs.List.{All}
-use Rattle.adp_model.specs.TermParts.{further_parts, parts_of}
+use Rattle.job_texts.specs.TermParts.{further_parts, parts_of}
 use Rattle.algebra_terms.specs.Tokens.{said, IsIn}
 use Rattle.algebra_terms.specs.Reading.{part_of}
 use Rattle.algebra_terms.proofs.PartLists.{with_front}

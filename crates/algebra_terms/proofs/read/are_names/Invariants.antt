@@ -1,5 +1,5 @@
 use Rattle.std.proofs.Common.{◌≡◌, drop}
-use Rattle.adp_model.specs.TermText as terms
+use Rattle.job_texts.specs.TermText as terms
 use Rattle.algebra_terms.specs.Reading.{parts_seen}
 use Rattle.algebra_terms.proofs.read.are_names.Given as goal
 

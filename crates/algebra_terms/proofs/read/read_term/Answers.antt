@@ -1,7 +1,7 @@
 use Rattle.std.proofs.Common.{◌≡◌, sym, subst, ◌∙◌, true, false, map}
 use Rattle.std.proofs.lemmas.Result.{err_from_is_err_and}
-use Rattle.adp_model.specs.TermText.{term_of_parts, are_names, are_numbers}
-use Rattle.adp_model.specs.TermParts.{parts_of, term_reading}
+use Rattle.job_texts.specs.TermText.{term_of_parts, are_names, are_numbers}
+use Rattle.job_texts.specs.TermParts.{parts_of, term_reading}
 use Rattle.algebra_terms.specs.Tokens.{said}
 use Rattle.algebra_terms.specs.Reading.{parts_seen, IsMissing}
 use Rattle.algebra_terms.proofs.Readings.{reading_is, no_parts, no_names, no_numbers}

@@ -6,7 +6,7 @@ use Rattle.std.specs.BTreeMap.{get_by}
 use Rattle.std.proofs.lemmas.Int.{to_z-of_z}
 use Rattle.std.proofs.lemmas.List.{take_all}
 use Rattle.std.proofs.lemmas.Map.Text.{btree_map_updates_str}
-use Rattle.adp_model.specs.TermText.{factor_after, factors_after, totals_fit, are_declared}
+use Rattle.job_texts.specs.TermText.{factor_after, factors_after, totals_fit, are_declared}
 use Rattle.algebra_terms.specs.Reading.{parts_seen}
 use Rattle.algebra_terms.proofs.Ranges.{total_fits}
 use Rattle.algebra_terms.proofs.Declared.{HasLeft, taken_is, taken_fits, left_step, factors_more, none_left, some_left, none_behind}

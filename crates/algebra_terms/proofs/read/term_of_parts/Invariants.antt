@@ -1,5 +1,5 @@
 use Rattle.std.proofs.Common.{◌≡◌, [], ◌++◌, take, drop}
-use Rattle.adp_model.specs.TermText.{factors_after}
+use Rattle.job_texts.specs.TermText.{factors_after}
 use Rattle.algebra_terms.specs.Reading.{parts_seen}
 use Rattle.algebra_terms.proofs.Declared.{HasLeft}
 use Rattle.algebra_terms.proofs.read.term_of_parts.Given as goal

@@ -1,7 +1,7 @@
 use Rattle.std.proofs.Common.{◌≡◌, ℤ, FitsSigned, pos, Option, Some, None, unwrap_or, sym, ap, ◌∙◌}
 use Rattle.std.specs.Int.{w128}
 use Rattle.std.proofs.lemmas.Int.{to_z-of_z}
-use Rattle.adp_model.specs.TermText.{total}
+use Rattle.job_texts.specs.TermText.{total}
 use Rattle.algebra_terms.specs.Reading.{parts_seen}
 use Rattle.algebra_terms.proofs.Totals.{factor_is, fit_more}
 use Rattle.algebra_terms.proofs.total.totals_fit.Goals as goal

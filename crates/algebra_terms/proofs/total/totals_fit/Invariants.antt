@@ -1,6 +1,6 @@
 use Rattle.std.proofs.Common.{◌≡◌, drop}
 use Rattle.std.specs.List.{list_all}
-use Rattle.adp_model.specs.TermText as terms
+use Rattle.job_texts.specs.TermText as terms
 use Rattle.adp_model.specs.WellFormed.{is_in_range}
 use Rattle.algebra_terms.specs.Reading.{parts_seen}
 use Rattle.algebra_terms.proofs.total.totals_fit.Given as goal

@@ -1,7 +1,7 @@
 use Rattle.std.proofs.Common.{◌≡◌, true, subst, arith}
 use Rattle.adp_model.specs.declared.cell.Cell.{Cell}
 use Rattle.adp_model.specs.SplitArguments.{AsksFor}
-use Rattle.adp_model.specs.Visits.{argument_at, is_behind_position}
+use Rattle.memo_model.specs.Visits.{argument_at, is_behind_position}
 use Rattle.argument_search.proofs.WalkEnds.{positions_fall}
 use Rattle.argument_search.proofs.SeekSteps.{asks_one, walk_to, none_sought, on_more, passed_more, next_sought}
 use Rattle.argument_search.proofs.seeking.seek.Goals as goal

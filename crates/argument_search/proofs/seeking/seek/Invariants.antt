@@ -1,8 +1,8 @@
 use Rattle.std.specs.Prelude.{◌≡◌, true, false}
 use Rattle.adp_model.specs.declared.cell.Cell.{Cell}
 use Rattle.adp_model.specs.SplitArguments.{SplitArgument, AsksFor}
-use Rattle.adp_model.specs.Visits.{is_behind, is_behind_position}
-use Rattle.adp_model.specs.Visits.{IsWalk}
+use Rattle.memo_model.specs.Visits.{is_behind, is_behind_position}
+use Rattle.memo_model.specs.Visits.{IsWalk}
 use Rattle.argument_search.proofs.WalkEnds.{positions_left}
 use Rattle.argument_search.proofs.seeking.seek.Given as goal
 

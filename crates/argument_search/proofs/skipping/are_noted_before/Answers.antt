@@ -1,10 +1,10 @@
 use Rattle.std.proofs.Common.{◌≡◌, ℕ, ◌+◌, inl, inr, sym, subst, arith}
 use Rattle.std.proofs.lemmas.Bool.{cases_lt}
 use Rattle.adp_model.specs.declared.cell.Cell.{Cell}
-use Rattle.adp_model.specs.declared.visit.Position.{Position}
+use Rattle.memo_model.specs.declared.visit.Position.{Position}
 use Rattle.adp_model.specs.PosedProblem.{PosedProblem}
 use Rattle.adp_model.specs.SplitArguments.{AsksFor}
-use Rattle.adp_model.specs.Visits.{argument_at}
+use Rattle.memo_model.specs.Visits.{argument_at}
 use Rattle.argument_search.specs.Skipping.{AreNotedBefore}
 use Rattle.argument_search.proofs.SeekSteps.{asks_one}
 use Rattle.argument_search.proofs.skipping.are_noted_before.Goals as goal

@@ -3,7 +3,7 @@ use Rattle.adp_model.specs.PosedProblem.{PosedProblem, IsSpan}
 use Rattle.adp_model.specs.Parts.{arguments_of}
 use Rattle.adp_model.specs.Splits.{ends_by}
 use Rattle.adp_model.specs.declared.grammar.Arg.{Arg}
-use Rattle.adp_model.specs.declared.visit.Position.{Position}
+use Rattle.memo_model.specs.declared.visit.Position.{Position}
 use Rattle.argument_search.proofs.LineHere.{start_within, few_before}
 use Rattle.argument_search.proofs.skipping.pair_of.Goals as goal
 

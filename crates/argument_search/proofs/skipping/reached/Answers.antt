@@ -4,7 +4,7 @@ use Rattle.std.specs.List.{Contains}
 use Rattle.std.proofs.lemmas.Bool.{true≢false}
 use Rattle.adp_model.specs.declared.grammar.Arg.{Arg}
 use Rattle.adp_model.specs.declared.grammar.Arg.TheVariants.{Rule}
-use Rattle.adp_model.specs.declared.visit.Position.{Position}
+use Rattle.memo_model.specs.declared.visit.Position.{Position}
 use Rattle.adp_model.specs.PosedProblem.{PosedProblem}
 use Rattle.adp_model.specs.Parts.{arguments_of}
 use Rattle.adp_model.specs.Splits.{ends_by, FitsSpan}

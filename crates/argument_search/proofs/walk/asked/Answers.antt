@@ -3,7 +3,7 @@ use Rattle.adp_model.specs.declared.grammar.Arg.{Arg}
 use Rattle.adp_model.specs.declared.grammar.Arg.TheVariants.{Rule}
 use Rattle.adp_model.specs.SplitArguments.{AsksFor}
 use Rattle.adp_model.specs.Splits.{ends_by}
-use Rattle.adp_model.specs.Visits.{argument_at}
+use Rattle.memo_model.specs.Visits.{argument_at}
 use Rattle.argument_search.proofs.PlacedArguments.{length_ends}
 use Rattle.argument_search.proofs.PlacedArguments.{asks_there, asks_rule}
 use Rattle.argument_search.proofs.walk.asked.Goals as goal

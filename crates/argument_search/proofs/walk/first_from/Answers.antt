@@ -1,6 +1,6 @@
 use Rattle.std.proofs.Common.{◌≡◌, ◌<◌, length, sym, subst, ap, arith}
-use Rattle.adp_model.specs.declared.visit.Position.{Position}
-use Rattle.adp_model.specs.Visits.{turned_number}
+use Rattle.memo_model.specs.declared.visit.Position.{Position}
+use Rattle.memo_model.specs.Visits.{turned_number}
 use Rattle.argument_search.specs.Seeking.{turned_of, IsFirstLeft}
 use Rattle.argument_search.proofs.Walks.{first_from_is, noted_more}
 use Rattle.argument_search.proofs.walk.first_from.Goals as goal

@@ -1,5 +1,5 @@
 use Rattle.std.proofs.Common.{◌+◌, length, refl, sym, subst, ap, arith}
-use Rattle.adp_model.specs.declared.visit.Position.{Position}
+use Rattle.memo_model.specs.declared.visit.Position.{Position}
 use Rattle.adp_model.specs.PosedProblem.{PosedProblem}
 use Rattle.adp_model.specs.Splits.{IsViable}
 use Rattle.adp_model.specs.Walk.{IsNextVisited}

@@ -5,7 +5,7 @@ use Rattle.cell_core.specs.Working.{frames_of}
 use Rattle.std.specs.Prelude.{reverse}
 use Rattle.cell_core.proofs.Heights.{heights}
 use Rattle.adp_model.specs.SplitArguments.{AsksFor, IsSplitArgument}
-use Rattle.adp_model.specs.Visits.{argument_at, is_behind}
+use Rattle.memo_model.specs.Visits.{argument_at, is_behind}
 use Rattle.argument_search.specs.Seeking.{IsNextSought, IsNoneSought}
 use Rattle.cell_core.proofs.Worked.{next_demanded, noted_children, next_sound, next_left, ready_sound, room_top}
 use Rattle.cell_core.proofs.work.advance.Given.{Over}

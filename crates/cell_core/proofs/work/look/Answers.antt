@@ -4,7 +4,7 @@ use Rattle.std.proofs.lemmas.Bool.{false≢true}
 use Rattle.std.proofs.lemmas.Option.{none-some}
 use Rattle.adp_model.specs.declared.cell.Cell.{Cell}
 use Rattle.adp_model.specs.Demand.{IsDemanded, IsDemandedCount}
-use Rattle.adp_model.specs.Memos.{IsScoreOf, AddsAtMost, IsAdded, IsOnRecordWord}
+use Rattle.memo_model.specs.Memos.{IsScoreOf, AddsAtMost, IsAdded, IsOnRecordWord}
 use Rattle.cell_core.specs.Working.{frames_of, with_hand}
 use Rattle.cell_core.proofs.Heights.{heights}
 use Rattle.cell_core.proofs.Changes.{few_opened_so, few_of, room_if, frame_added}

@@ -1,7 +1,7 @@
 use Rattle.std.proofs.Common.{◌≡◌, ◌↔◌, ℕ, true, false, Some, None, refl, sym, subst, ap, ◌∙◌}
 use native.Mathlib.Nat.{le_trans}
 use Rattle.adp_model.specs.declared.cell.Cell.{Cell}
-use Rattle.adp_model.specs.Memos.{IsOnRecordWord}
+use Rattle.memo_model.specs.Memos.{IsOnRecordWord}
 use Rattle.cell_core.specs.Working.{frames_of, all_frames}
 use Rattle.cell_core.specs.FrameChanges.{Standing, standing, ChangesFrames}
 use Rattle.cell_core.proofs.Stepped.{falls_then, sound_by_parts, left_by_parts, loads_by_parts}

@@ -4,7 +4,7 @@ use Rattle.std.proofs.lemmas.Option.{none-some}
 use Rattle.adp_model.specs.declared.cell.Cell.{Cell}
 use Rattle.adp_model.specs.Answers.{IsAnswer}
 use Rattle.adp_model.specs.Demand.{IsDemanded, IsDemandedChild, IsDemandedCount}
-use Rattle.adp_model.specs.Memos.{IsAdded, IsOnRecordWord}
+use Rattle.memo_model.specs.Memos.{IsAdded, IsOnRecordWord}
 use Rattle.cell_core.specs.Working.{with_top}
 use Rattle.cell_core.proofs.Heights.{heights}
 use Rattle.cell_core.proofs.Changes.{few_wins_so}

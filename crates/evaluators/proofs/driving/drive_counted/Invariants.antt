@@ -1,7 +1,7 @@
 use Rattle.std.proofs.Common.{ℕ, ◌+◌, ◌-◌, ◌^◌, ◌≤◌, List, length}
 use Rattle.adp_model.specs.Demand.{IsDemandedCount}
 use Rattle.adp_model.specs.SplitArguments.{SplitArgument, AreRuleArguments}
-use Rattle.adp_model.specs.StepBound.{step_bound, remaining_bound}
+use Rattle.memo_model.specs.StepBound.{step_bound, remaining_bound}
 use Rattle.evaluators.specs.Driving.{HasGoneOn}
 use Rattle.evaluators.specs.Watching.{IsToldOn}
 use Rattle.evaluators.proofs.driving.drive_counted.Given as goal

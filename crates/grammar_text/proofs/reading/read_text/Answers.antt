@@ -1,7 +1,7 @@
 use Rattle.std.proofs.Common.{map, refl, sym, ◌∙◌, ap}
 use Rattle.std.proofs.lemmas.List.{length-map}
-use Rattle.adp_model.specs.DeclaredNames.{TextLines, declarations}
-use Rattle.adp_model.specs.JobLines.{words_line_of}
+use Rattle.job_texts.specs.DeclaredNames.{TextLines, declarations}
+use Rattle.job_texts.specs.JobLines.{words_line_of}
 use Rattle.grammar_text.specs.Gathering.{text_seen}
 use Rattle.grammar_text.specs.Seen.{declaration_seen}
 use Rattle.grammar_text.proofs.Placing.{all_is}

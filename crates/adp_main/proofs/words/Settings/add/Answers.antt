@@ -1,5 +1,5 @@
 use Rattle.std.proofs.Common.{refl}
-use Rattle.adp_model.specs.Command.{Algebra, Workers, Seed, Schedule, Size}
+use Rattle.verdicts.specs.Command.{Algebra, Workers, Seed, Schedule, Size}
 use Rattle.adp_main.proofs.Options.{added_if, refused_if, not_workers, not_seed, not_size}
 use Rattle.adp_main.proofs.words.Settings.add.Goals as goal
 

@@ -1,5 +1,5 @@
-use Rattle.adp_model.proofs.ReportExists.{report_in_mode}
+use Rattle.adp_model.proofs.ReportExists.{report_exists}
 use Rattle.adp_model.proofs.laws.report.words_have_reports.Goals as goal
 
 pub returns : goal.returns
-returns c = report_in_mode
+returns c = report_exists

@@ -1,7 +1,7 @@
 use Rattle.std.proofs.Common.{subst}
 use Rattle.std.specs.Prelude.{MatchOption}
 use Rattle.adp_model.specs.SplitArguments.{IsSplitArgument}
-use Rattle.adp_model.specs.Visits.{argument_at}
+use Rattle.memo_model.specs.Visits.{argument_at}
 use Rattle.cell_tables.specs.Noted.{Notes, IsNoted}
 use Rattle.argument_search.specs.Seeking.{IsNextSought, IsNoneSought}
 use Rattle.cell_core.proofs.PassingNone.{nothing_passed}

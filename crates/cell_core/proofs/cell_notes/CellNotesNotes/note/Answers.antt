@@ -1,6 +1,6 @@
 use Rattle.std.proofs.Common.{◌≡◌, ◌↔◌, ◌⊎◌, inl, inr, sym, subst, ap, ◌∙◌}
 use Rattle.adp_model.specs.declared.cell.Cell.{Cell}
-use Rattle.adp_model.specs.Memos.{IsScoreOf}
+use Rattle.memo_model.specs.Memos.{IsScoreOf}
 use Rattle.cell_tables.specs.Noted.{Notes, IsNoted}
 use Rattle.cell_answers.specs.Entries.{HasEntry}
 use Rattle.cell_core.proofs.cell_notes.CellNotesNotes.note.Goals as goal

@@ -2,9 +2,9 @@ use Rattle.std.proofs.Common.{◌≡◌, ◌+◌, ◌-◌, ◌^◌, ◌<◌, ℕ
 use Rattle.std.specs.Prelude.{IfSome}
 use Rattle.adp_model.specs.Demand.{IsDemandedCount}
 use Rattle.adp_model.specs.SplitArguments.{SplitArgument, AreRuleArguments}
-use Rattle.adp_model.specs.StepsMade.{steps_made}
-use Rattle.adp_model.specs.Machines.{IsUnderWay, IsMachine}
-use Rattle.adp_model.specs.StepBound.{remaining_bound}
+use Rattle.memo_model.specs.StepsMade.{steps_made}
+use Rattle.memo_model.specs.Machines.{IsUnderWay, IsMachine}
+use Rattle.memo_model.specs.StepBound.{remaining_bound}
 use Rattle.cell_core.specs.Working.{all_frames, work_left}
 use Rattle.cell_core.specs.FrameChanges.{standing, ChangesFrames, GainsWins}
 use Rattle.cell_core.specs.MachineViews.{MachineView, state_of, IsNotedIn, LoadsAsTold, looked_for, next_loads}

@@ -1,6 +1,6 @@
 use Rattle.std.proofs.Common.{◌≡◌, None, Some, refl, sym, ap, subst, ◌∙◌, arith}
-use Rattle.adp_model.specs.declared.probe.Look.TheVariants as looks
-use Rattle.adp_model.specs.Memos.{IsOnRecordWord, IsScoreOf}
+use Rattle.memo_model.specs.declared.probe.Look.TheVariants as looks
+use Rattle.memo_model.specs.Memos.{IsOnRecordWord, IsScoreOf}
 use Rattle.cell_core.specs.PlainMemos.{HasRecord, FoundAt, value_of, plain_meaning}
 use Rattle.cell_core.proofs.PlainRecords.{on_record, value_is, some_value, none_found, is_known, is_score}
 use Rattle.cell_core.proofs.plain_memo.PlainMemoMemo.look_step.Goals as goal

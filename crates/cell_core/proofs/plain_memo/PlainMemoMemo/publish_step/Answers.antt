@@ -1,6 +1,6 @@
 use Rattle.std.proofs.Common.{◌≡◌, ◌<◌, ℕ, List, Option, None, Some, slice_set, refl, sym, ap, subst, ◌∙◌, arith}
-use Rattle.adp_model.specs.declared.probe.Publish.TheVariants as publishes
-use Rattle.adp_model.specs.Memos.{IsOnRecordWord}
+use Rattle.memo_model.specs.declared.probe.Publish.TheVariants as publishes
+use Rattle.memo_model.specs.Memos.{IsOnRecordWord}
 use Rattle.cell_core.specs.declared.plain_memo.Record.{Record}
 use Rattle.cell_core.specs.PlainMemos.{HasRecord, FoundAt, record_count, value_of, plain_meaning}
 use Rattle.cell_core.proofs.PlainRecords.{on_record, value_is, some_value, is_known, known_kept, known_put, known_only, count_set}

@@ -1,5 +1,5 @@
 use Rattle.std.proofs.Common.{◌≡◌, true, refl, sym, ap, ◌∙◌}
-use Rattle.adp_model.specs.Declarations as forms
+use Rattle.job_texts.specs.Declarations as forms
 use Rattle.grammar_text.specs.Collecting.{is_last}
 use Rattle.grammar_text.proofs.WordsLines.{last_is_words}
 use Rattle.grammar_text.proofs.laws.lines.words_lines_say_words.Goals as goal

@@ -1,5 +1,5 @@
 use Rattle.std.proofs.Common.{◌≡◌, ◌++◌, true, length, map}
-use Rattle.adp_model.specs.JobText as texts
+use Rattle.job_texts.specs.JobText as texts
 use Rattle.grammar_text.specs.Building.{are_buildable, sign_names}
 use Rattle.grammar_text.specs.Seen.{declaration_seen}
 use Rattle.grammar_text.proofs.reader.algebras.algebras.Given as goal

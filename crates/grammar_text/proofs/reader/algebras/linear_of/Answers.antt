@@ -2,7 +2,7 @@ use Rattle.std.proofs.Common.{[], ◌&&◌}
 use Rattle.std.specs.List.{list_all}
 use Rattle.std.proofs.lemmas.Bool.{and_parts}
 use Rattle.adp_model.specs.WellFormed.{is_name}
-use Rattle.adp_model.specs.TermText.{are_names, are_numbers, totals_fit, are_declared}
+use Rattle.job_texts.specs.TermText.{are_names, are_numbers, totals_fit, are_declared}
 use Rattle.grammar_text.specs.Seen.{words_seen, parts_of_text}
 use Rattle.grammar_text.proofs.reader.algebras.linear_of.Goals as goal
 

@@ -1,5 +1,5 @@
 use Rattle.std.proofs.Common.{◌≡◌, true, ap}
-use Rattle.adp_model.specs.DeclaredNames.{is_algebra_line}
+use Rattle.job_texts.specs.DeclaredNames.{is_algebra_line}
 use Rattle.grammar_text.specs.Seen.{declaration_seen}
 use Rattle.grammar_text.proofs.Sections.{end_here, end_later, no_end, no_algebra}
 use Rattle.grammar_text.proofs.reader.algebras.section_of.Goals as goal

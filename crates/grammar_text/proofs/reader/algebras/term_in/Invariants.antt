@@ -1,7 +1,7 @@
 use Rattle.std.proofs.Common.{◌≡◌, map, drop}
 use Rattle.std.specs.List.{filter_map}
-use Rattle.adp_model.specs.DeclaredNames.{first_of_list}
-use Rattle.adp_model.specs.JobText.{term_given}
+use Rattle.job_texts.specs.DeclaredNames.{first_of_list}
+use Rattle.job_texts.specs.JobText.{term_given}
 use Rattle.grammar_text.specs.Seen.{declaration_seen}
 use Rattle.grammar_text.proofs.reader.algebras.term_in.Given as goal
 

@@ -1,6 +1,6 @@
 use Rattle.std.proofs.Common.{map, ◌∙◌, ap}
 use Rattle.adp_model.specs.declared.grammar.Sign as signs
-use Rattle.adp_model.specs.JobText as texts
+use Rattle.job_texts.specs.JobText as texts
 use Rattle.grammar_text.specs.Seen.{declaration_seen}
 use Rattle.grammar_text.proofs.Built.{made_more}
 use Rattle.grammar_text.proofs.reader.algebras.terms.Goals as goal

@@ -1,6 +1,6 @@
 use Rattle.std.proofs.lemmas.Grind.{common_steps}
 use Rattle.std.proofs.Common.{◌∷◌, arith, sym, ◌∙◌}
-use Rattle.adp_model.specs.Declarations as forms
+use Rattle.job_texts.specs.Declarations as forms
 use Rattle.grammar_text.specs.Collecting.{header_seen}
 use Rattle.grammar_text.specs.Seen.{line_seen}
 use Rattle.grammar_text.proofs.Headings.{heading_from, seen_ends, seen_goes_on}

@@ -1,5 +1,5 @@
 use Rattle.std.proofs.Common.{◌≡◌, ◌∷◌, ◌++◌, length}
-use Rattle.adp_model.specs.Declarations as forms
+use Rattle.job_texts.specs.Declarations as forms
 use Rattle.grammar_text.specs.Collecting.{header_seen, says_in}
 use Rattle.grammar_text.proofs.Headings.{heading_from}
 use Rattle.grammar_text.proofs.reader.collected.header_of.Given as goal

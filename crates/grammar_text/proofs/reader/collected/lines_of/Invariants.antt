@@ -1,5 +1,5 @@
 use Rattle.std.proofs.Common.{◌≡◌, ◌+◌, ◌≤◌, ◌^◌, ◌++◌, length, All}
-use Rattle.adp_model.specs.JobLines.{job_lines}
+use Rattle.job_texts.specs.JobLines.{job_lines}
 use Rattle.grammar_text.specs.Seen.{words_seen}
 use Rattle.grammar_text.proofs.reader.collected.lines_of.Given as goal
 

@@ -1,6 +1,6 @@
 use Rattle.std.proofs.Common.{◌≡◌, ◌+◌, map, get_or, sym, ap, ◌∙◌}
 use Rattle.std.proofs.lemmas.List.{take-map, drop-map, get_or-map}
-use Rattle.adp_model.specs.Declarations.{Words}
+use Rattle.job_texts.specs.Declarations.{Words}
 use Rattle.grammar_text.specs.Seen.{declaration_seen}
 use Rattle.grammar_text.proofs.reader.faults.form_tests.Goals as goal
 

@@ -1,6 +1,6 @@
 use Rattle.std.proofs.Common.{◌≡◌, ◌+◌, ◌-◌, length, take}
 use Rattle.std.specs.List.{range_with_len}
-use Rattle.adp_model.specs.JobText.{first_fault, first_fault_at}
+use Rattle.job_texts.specs.JobText.{first_fault, first_fault_at}
 use Rattle.grammar_text.specs.Collecting.{says_in}
 use Rattle.grammar_text.specs.Gathering.{text_seen}
 use Rattle.grammar_text.proofs.reader.first_fault.first_fault.Given as goal

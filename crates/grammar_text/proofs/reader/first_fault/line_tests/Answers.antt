@@ -1,13 +1,13 @@
 use Rattle.std.proofs.Common.{ℕ, subst, ◌≡◌, ◌+◌, ◌<◌, Some, List, length, map, take, drop, get_or, refl, sym, ap, ◌∙◌, arith}
 use Rattle.std.proofs.lemmas.List.{length-map, get_or-map}
-use Rattle.adp_model.specs.Declarations.{Words}
-use Rattle.adp_model.specs.DeclaredNames.{form_at, form_of}
+use Rattle.job_texts.specs.Declarations.{Words}
+use Rattle.job_texts.specs.DeclaredNames.{form_at, form_of}
 use Rattle.grammar_text.specs.declared.reader.collected.LineSort.{LineSort}
 use Rattle.grammar_text.specs.declared.reader.collected.LineSort.TheVariants.{Skipped, Says}
 use Rattle.grammar_text.specs.declared.reader.declaration.Declaration.{Declaration}
 use Rattle.grammar_text.specs.declared.reader.faults.OwnWords.{OwnWords}
 use Rattle.grammar_text.specs.declared.reader.faults.OwnWords.TheVariants.{Misnamed, Misnumbered, Unknown, Right}
-use Rattle.adp_model.specs.TextFaults.{misnames, misnumbers}
+use Rattle.job_texts.specs.TextFaults.{misnames, misnumbers}
 use Rattle.grammar_text.specs.Names.{declares_its_variables}
 use Rattle.grammar_text.specs.LineTests.{AreOwnWords, AreFormTests}
 use Rattle.grammar_text.specs.Collecting.{says_in}

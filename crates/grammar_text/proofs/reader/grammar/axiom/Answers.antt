@@ -1,7 +1,7 @@
 use Rattle.std.proofs.Common.{◌≡◌, None, map, sym, ◌∙◌, ap}
 use Rattle.std.specs.List.{filter_map}
-use Rattle.adp_model.specs.DeclaredNames.{first_of_list}
-use Rattle.adp_model.specs.JobText.{axiom_name}
+use Rattle.job_texts.specs.DeclaredNames.{first_of_list}
+use Rattle.job_texts.specs.JobText.{axiom_name}
 use Rattle.grammar_text.specs.Seen.{declaration_seen}
 use Rattle.grammar_text.proofs.Built.{none_left}
 use Rattle.grammar_text.proofs.reader.grammar.axiom.Goals as goal

@@ -1,5 +1,5 @@
 use Rattle.std.proofs.Common.{◌≡◌, map, ap, ◌∙◌}
-use Rattle.adp_model.specs.JobText.{declared_algebras}
+use Rattle.job_texts.specs.JobText.{declared_algebras}
 use Rattle.grammar_text.specs.Building.{sign_names}
 use Rattle.grammar_text.specs.Seen.{declaration_seen}
 use Rattle.grammar_text.proofs.WellFormedText.{grammar_is}

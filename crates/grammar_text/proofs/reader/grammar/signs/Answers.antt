@@ -1,6 +1,6 @@
 use Rattle.std.proofs.Common.{refl, sym, ◌∙◌, ap}
 use Rattle.std.proofs.lemmas.List.{append-nil}
-use Rattle.adp_model.specs.JobText.{declared_sign}
+use Rattle.job_texts.specs.JobText.{declared_sign}
 use Rattle.grammar_text.specs.Building.{is_buildable}
 use Rattle.grammar_text.specs.Seen.{declaration_seen}
 use Rattle.grammar_text.proofs.Built.{all_at, parts_more}

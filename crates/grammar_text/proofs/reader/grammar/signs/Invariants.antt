@@ -1,6 +1,6 @@
 use Rattle.std.proofs.Common.{◌≡◌, map, take}
 use Rattle.std.specs.List.{filter_map}
-use Rattle.adp_model.specs.JobText.{declared_sign}
+use Rattle.job_texts.specs.JobText.{declared_sign}
 use Rattle.grammar_text.specs.Seen.{declaration_seen}
 use Rattle.grammar_text.proofs.reader.grammar.signs.Given as goal
 

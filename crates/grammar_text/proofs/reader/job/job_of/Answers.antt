@@ -1,5 +1,5 @@
 use Rattle.std.proofs.Common.{ap, ◌∙◌}
-use Rattle.adp_model.specs.JobText.{declared_grammar}
+use Rattle.job_texts.specs.JobText.{declared_grammar}
 use Rattle.grammar_text.proofs.AcceptedTexts.{accepted-buildable, accepted-printable, made}
 use Rattle.grammar_text.proofs.reader.job.job_of.Goals as goal
 

@@ -3,7 +3,7 @@ use Rattle.std.specs.List.{list_all}
 use Rattle.std.proofs.lemmas.Iterator.{YieldsList-from_slice}
 use Rattle.std.proofs.lemmas.Iterator.Search.{all_from_yields_List}
 use Rattle.adp_model.specs.WellFormed.{is_name}
-use Rattle.adp_model.specs.TextFaults as faults
+use Rattle.job_texts.specs.TextFaults as faults
 use Rattle.grammar_text.specs.declared.reader.declaration.Alternative.{Alternative}
 use Rattle.grammar_text.specs.Seen.{alternative_seen}
 use Rattle.grammar_text.proofs.Tests.{list_all-flat_map}

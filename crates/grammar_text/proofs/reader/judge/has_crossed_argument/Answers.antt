@@ -1,7 +1,7 @@
 use Rattle.std.proofs.Common.{sym, ◌∙◌, rules, tests}
 use Rattle.std.proofs.lemmas.Iterator.{YieldsList-from_slice}
 use Rattle.std.proofs.lemmas.Iterator.Search.{any_from_yields_List}
-use Rattle.adp_model.specs.TextFaults.{has_crossed_bounds}
+use Rattle.job_texts.specs.TextFaults.{has_crossed_bounds}
 use Rattle.grammar_text.specs.declared.reader.declaration.Argument.{Argument}
 use Rattle.grammar_text.specs.Seen.{argument_seen}
 use Rattle.grammar_text.proofs.Tests.{list_any-map}

@@ -3,8 +3,8 @@ use Rattle.std.specs.Option.{is_some}
 use Rattle.std.proofs.lemmas.Iterator.{YieldsList-from_slice}
 use Rattle.std.proofs.lemmas.Iterator.Search.{all_from_yields_List}
 use Rattle.std.proofs.lemmas.List.Folds.{list_all-map}
-use Rattle.adp_model.specs.Declarations as forms
-use Rattle.adp_model.specs.TextFaults as faults
+use Rattle.job_texts.specs.Declarations as forms
+use Rattle.job_texts.specs.TextFaults as faults
 use Rattle.grammar_text.specs.declared.reader.declaration.Item.{Item}
 use Rattle.grammar_text.specs.Seen.{item_seen}
 use Rattle.grammar_text.proofs.reader.judge.have_weights.Goals as goal

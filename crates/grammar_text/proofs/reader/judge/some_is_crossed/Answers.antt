@@ -2,8 +2,8 @@ use Rattle.std.proofs.Common.{sym, ◌∙◌, rules, tests}
 use Rattle.std.specs.List.{list_any}
 use Rattle.std.proofs.lemmas.Iterator.{YieldsList-from_slice}
 use Rattle.std.proofs.lemmas.Iterator.Search.{any_from_yields_List}
-use Rattle.adp_model.specs.Declarations as forms
-use Rattle.adp_model.specs.TextFaults as faults
+use Rattle.job_texts.specs.Declarations as forms
+use Rattle.job_texts.specs.TextFaults as faults
 use Rattle.grammar_text.specs.declared.reader.declaration.Alternative.{Alternative}
 use Rattle.grammar_text.specs.Seen.{alternative_seen}
 use Rattle.grammar_text.proofs.Tests.{list_any-map}

@@ -1,7 +1,7 @@
 use Rattle.std.proofs.Common.{◌≡◌, ℕ, true, Some, refl, sym, ◌∙◌}
-use Rattle.adp_model.specs.DeclaredNames.{TextLines}
-use Rattle.adp_model.specs.JobText.{fault_at}
-use Rattle.adp_model.specs.TextFaults.{has_other_first_line}
+use Rattle.job_texts.specs.DeclaredNames.{TextLines}
+use Rattle.job_texts.specs.JobText.{fault_at}
+use Rattle.job_texts.specs.TextFaults.{has_other_first_line}
 use Rattle.grammar_text.proofs.reader.kinds.least_kind.Goals as goal
 
 -- behind another first line no other kind is looked for

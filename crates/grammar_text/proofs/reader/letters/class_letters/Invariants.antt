@@ -1,5 +1,5 @@
 use Rattle.std.proofs.Common.{◌≡◌, map, take}
-use Rattle.adp_model.specs.TextFaults as faults
+use Rattle.job_texts.specs.TextFaults as faults
 use Rattle.grammar_text.specs.Seen.{item_seen}
 use Rattle.grammar_text.proofs.reader.letters.class_letters.Given as goal
 

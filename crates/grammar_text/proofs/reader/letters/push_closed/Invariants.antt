@@ -1,5 +1,5 @@
 use Rattle.std.proofs.Common.{◌≡◌, false, take, drop, length, []}
-use Rattle.adp_model.specs.LineTokens.{quoted_rest}
+use Rattle.job_texts.specs.LineTokens.{quoted_rest}
 use Rattle.grammar_text.proofs.Letters.{letters_first}
 use Rattle.grammar_text.proofs.reader.letters.push_closed.Given as goal
 

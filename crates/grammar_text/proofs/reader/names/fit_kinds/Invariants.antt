@@ -1,6 +1,6 @@
 use Rattle.std.proofs.Common.{◌≡◌, map, drop}
 use Rattle.std.specs.List.{list_all, zip}
-use Rattle.adp_model.specs.TextFaults.{fits_kind}
+use Rattle.job_texts.specs.TextFaults.{fits_kind}
 use Rattle.grammar_text.specs.Seen.{argument_seen}
 use Rattle.grammar_text.proofs.reader.names.fit_kinds.Given as goal
 

@@ -1,5 +1,5 @@
 use Rattle.std.proofs.Common.{map, sym, ◌∙◌}
-use Rattle.adp_model.specs.TextFaults.{fits_sign}
+use Rattle.job_texts.specs.TextFaults.{fits_sign}
 use Rattle.grammar_text.specs.Seen.{alternative_seen, declaration_seen}
 use Rattle.grammar_text.proofs.Scans.{one_fails, one_more_passes}
 use Rattle.grammar_text.proofs.reader.names.fit_signs.Goals as goal

@@ -1,6 +1,6 @@
 use Rattle.std.proofs.Common.{◌≡◌, map, drop}
 use Rattle.std.specs.List.{list_all}
-use Rattle.adp_model.specs.TextFaults.{fits_sign}
+use Rattle.job_texts.specs.TextFaults.{fits_sign}
 use Rattle.grammar_text.specs.Seen.{alternative_seen, declaration_seen}
 use Rattle.grammar_text.proofs.reader.names.fit_signs.Given as goal
 

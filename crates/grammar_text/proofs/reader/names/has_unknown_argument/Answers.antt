@@ -1,5 +1,5 @@
 use Rattle.std.proofs.Common.{sym, ◌∙◌}
-use Rattle.adp_model.specs.TextFaults.{is_unknown_argument}
+use Rattle.job_texts.specs.TextFaults.{is_unknown_argument}
 use Rattle.grammar_text.specs.Seen.{argument_seen}
 use Rattle.grammar_text.proofs.Scans.{one_passes_at, one_more_fails_at, none_passes}
 use Rattle.grammar_text.proofs.reader.names.has_unknown_argument.Goals as goal

@@ -1,7 +1,7 @@
 use Rattle.std.proofs.Common.{◌≡◌, List, map, drop}
 use Rattle.std.specs.List.{list_any}
-use Rattle.adp_model.specs.Declarations.{Declaration}
-use Rattle.adp_model.specs.TextFaults.{is_unknown_argument}
+use Rattle.job_texts.specs.Declarations.{Declaration}
+use Rattle.job_texts.specs.TextFaults.{is_unknown_argument}
 use Rattle.grammar_text.specs.Names.{AreNames}
 use Rattle.grammar_text.specs.Seen.{argument_seen}
 use Rattle.grammar_text.proofs.reader.names.has_unknown_argument.Given as goal

@@ -1,6 +1,6 @@
 use Rattle.std.proofs.Common.{map, sym, ◌∙◌, ap}
 use Rattle.std.specs.List.{list_any}
-use Rattle.adp_model.specs.TextFaults.{is_unknown_argument}
+use Rattle.job_texts.specs.TextFaults.{is_unknown_argument}
 use Rattle.grammar_text.specs.Seen.{argument_seen}
 use Rattle.grammar_text.proofs.reader.names.uses_unknown_in.Goals as goal
 

@@ -1,7 +1,7 @@
 use Rattle.std.proofs.Common.{◌≡◌, ℕ, ◌+◌, true, false, List, [], ◌∷◌, ◌++◌, take, drop, get_or, sym, ◌∙◌, ap, subst}
 use Rattle.std.specs.Borrow.{Bor}
 use Rattle.std.proofs.lemmas.List.{map-append, take-append-drop, drop_more}
-use Rattle.adp_model.specs.TermText.{is_among}
+use Rattle.job_texts.specs.TermText.{is_among}
 use Rattle.adp_model.specs.WellFormed.{are_distinct}
 use Rattle.grammar_text.specs.Seen.{words_seen}
 use Rattle.grammar_text.specs.Names.{AreMembers}

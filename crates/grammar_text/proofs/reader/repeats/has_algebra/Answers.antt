@@ -1,5 +1,5 @@
 use Rattle.std.proofs.Common.{sym, ◌∙◌}
-use Rattle.adp_model.specs.DeclaredNames.{is_algebra_line}
+use Rattle.job_texts.specs.DeclaredNames.{is_algebra_line}
 use Rattle.grammar_text.specs.Seen.{declaration_seen}
 use Rattle.grammar_text.proofs.Scans.{one_passes, one_more_fails, none_passes}
 use Rattle.grammar_text.proofs.reader.repeats.has_algebra.Goals as goal

@@ -1,6 +1,6 @@
 use Rattle.std.proofs.Common.{◌≡◌, map, drop}
 use Rattle.std.specs.List.{list_any}
-use Rattle.adp_model.specs.DeclaredNames.{is_algebra_line}
+use Rattle.job_texts.specs.DeclaredNames.{is_algebra_line}
 use Rattle.grammar_text.specs.Seen.{declaration_seen}
 use Rattle.grammar_text.proofs.reader.repeats.has_algebra.Given as goal
 

@@ -1,7 +1,7 @@
 use Rattle.std.proofs.Common.{◌≡◌, not, map, sym, ◌∙◌}
 use Rattle.std.specs.List.{list_any, list_all}
-use Rattle.adp_model.specs.TermText.{is_among}
-use Rattle.adp_model.specs.DeclaredNames.{let_signs, section_of, sign_names}
+use Rattle.job_texts.specs.TermText.{is_among}
+use Rattle.job_texts.specs.DeclaredNames.{let_signs, section_of, sign_names}
 use Rattle.grammar_text.specs.Names.{lacks_sign}
 use Rattle.grammar_text.specs.Seen.{declaration_seen}
 use Rattle.grammar_text.proofs.Scans.{one_passes, none_passes}

@@ -3,8 +3,8 @@ use Rattle.std.specs.Ordering.{nat_cmp}
 use Rattle.std.specs.Cmp.Lexicographic.{slice_cmp}
 use Rattle.std.specs.BTreeSet.{contains_by}
 use lib.Pointwise.{pointwise}
-use Rattle.adp_model.specs.TermText.{is_among}
-use Rattle.adp_model.specs.DeclaredNames.{is_algebra_line, let_sign_of, let_signs, section_of}
+use Rattle.job_texts.specs.TermText.{is_among}
+use Rattle.job_texts.specs.DeclaredNames.{is_algebra_line, let_sign_of, let_signs, section_of}
 use Rattle.grammar_text.specs.Seen.{declaration_seen}
 use Rattle.grammar_text.proofs.Scans.{at_hand}
 use Rattle.grammar_text.proofs.SectionPlaces.{let_first, other_first, or_moves}

@@ -2,8 +2,8 @@ use Rattle.std.proofs.Common.{◌≡◌, ℕ, ◌||◌, List, map, drop}
 use Rattle.std.specs.Ordering.{nat_cmp}
 use Rattle.std.specs.Cmp.Lexicographic.{slice_cmp}
 use Rattle.std.specs.BTreeSet.{contains_by}
-use Rattle.adp_model.specs.TermText.{is_among}
-use Rattle.adp_model.specs.DeclaredNames.{let_signs, section_of}
+use Rattle.job_texts.specs.TermText.{is_among}
+use Rattle.job_texts.specs.DeclaredNames.{let_signs, section_of}
 use Rattle.grammar_text.specs.Seen.{declaration_seen}
 use Rattle.grammar_text.proofs.reader.repeats.section_signs.Given as goal
 

@@ -1,4 +1,4 @@
-use Rattle.adp_model.specs.JobText as texts
+use Rattle.job_texts.specs.JobText as texts
 use Rattle.grammar_text.specs.Building.{is_printable_alternative}
 use Rattle.grammar_text.specs.Seen.{alternative_seen}
 use Rattle.grammar_text.proofs.Built.{all_at, made_more}

@@ -1,6 +1,6 @@
 use Rattle.std.proofs.Common.{[], map, get_or, ap, ◌∙◌}
 use Rattle.std.proofs.lemmas.List.{take_all}
-use Rattle.adp_model.specs.JobText as texts
+use Rattle.job_texts.specs.JobText as texts
 use Rattle.grammar_text.specs.declared.reader.declaration.Argument.{Argument}
 use Rattle.grammar_text.specs.declared.reader.declaration.Argument.TheVariants.{Named}
 use Rattle.grammar_text.specs.Building.{is_printable_argument}

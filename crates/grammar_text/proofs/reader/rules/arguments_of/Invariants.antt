@@ -1,6 +1,6 @@
 use Rattle.std.proofs.Common.{◌≡◌, List, map, take}
-use Rattle.adp_model.specs.Declarations as forms
-use Rattle.adp_model.specs.JobText as texts
+use Rattle.job_texts.specs.Declarations as forms
+use Rattle.job_texts.specs.JobText as texts
 use Rattle.grammar_text.specs.Names.{AreNames}
 use Rattle.grammar_text.specs.Seen.{argument_seen}
 use Rattle.grammar_text.proofs.reader.rules.arguments_of.Given as goal

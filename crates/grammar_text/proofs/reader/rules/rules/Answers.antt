@@ -1,7 +1,7 @@
 use Rattle.std.proofs.Common.{map, refl, sym, ◌∙◌, ap}
 use Rattle.std.specs.List.{filter_map}
 use Rattle.std.proofs.lemmas.List.{append-nil, take_all}
-use Rattle.adp_model.specs.JobText.{declared_rule}
+use Rattle.job_texts.specs.JobText.{declared_rule}
 use Rattle.grammar_text.specs.Building.{is_buildable}
 use Rattle.grammar_text.specs.Seen.{declaration_seen}
 use Rattle.grammar_text.proofs.Built.{all_at, parts_more}

@@ -1,7 +1,7 @@
 use Rattle.std.proofs.Common.{◌≡◌, List, map, take}
 use Rattle.std.specs.List.{filter_map}
-use Rattle.adp_model.specs.Declarations as forms
-use Rattle.adp_model.specs.JobText as texts
+use Rattle.job_texts.specs.Declarations as forms
+use Rattle.job_texts.specs.JobText as texts
 use Rattle.grammar_text.specs.Names.{AreNames}
 use Rattle.grammar_text.specs.Seen.{declaration_seen}
 use Rattle.grammar_text.proofs.reader.rules.rules.Given as goal

@@ -1,5 +1,5 @@
 use Rattle.std.proofs.Common.{◌≡◌, ◌-◌, ◌≤◌, length, map, drop}
-use Rattle.adp_model.specs.Declarations as forms
+use Rattle.job_texts.specs.Declarations as forms
 use Rattle.grammar_text.specs.Seen.{tokens_seen, alternative_seen}
 use Rattle.grammar_text.proofs.Fronts.{with_front}
 use Rattle.grammar_text.proofs.reader.shape.alternatives.Given as goal

@@ -1,5 +1,5 @@
 use Rattle.std.proofs.Common.{◌≡◌, ◌∷◌, drop, rules}
-use Rattle.adp_model.specs.LineTokens.{Word, Dots}
+use Rattle.job_texts.specs.LineTokens.{Word, Dots}
 use Rattle.grammar_text.specs.Seen.{tokens_seen}
 use Rattle.grammar_text.proofs.ShapeSteps.{rest_of, run_end}
 use Rattle.grammar_text.proofs.reader.shape.behind_class.Goals as goal

@@ -1,5 +1,5 @@
 use Rattle.std.proofs.Common.{◌≡◌, ◌∷◌, drop, rules}
-use Rattle.adp_model.specs.LineTokens.{Word, OpenSquare}
+use Rattle.job_texts.specs.LineTokens.{Word, OpenSquare}
 use Rattle.grammar_text.specs.Seen.{tokens_seen}
 use Rattle.grammar_text.proofs.ShapeSteps.{rest_of, brackets_end, brackets_unended}
 use Rattle.grammar_text.proofs.reader.shape.first_argument.Goals as goal

@@ -1,5 +1,5 @@
 use Rattle.std.proofs.Common.{◌≡◌, ◌+◌, ◌*◌, ◌∷◌, ◌∙◌, sym, length, drop, arith}
-use Rattle.adp_model.specs.LineTokens.{Word, OpenBracket}
+use Rattle.job_texts.specs.LineTokens.{Word, OpenBracket}
 use Rattle.std.proofs.lemmas.Grind.{common_steps}
 use Rattle.grammar_text.specs.Seen.{tokens_seen}
 use Rattle.grammar_text.proofs.ShapeSteps.{rest_of}

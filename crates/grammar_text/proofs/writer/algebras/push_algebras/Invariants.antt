@@ -1,6 +1,6 @@
 use Rattle.std.proofs.Common.{◌≡◌, ◌++◌, take}
 use Rattle.std.specs.List.{flat_map}
-use Rattle.adp_model.specs.Spelling.{algebra_lines}
+use Rattle.job_texts.specs.Spelling.{algebra_lines}
 use Rattle.grammar_text.proofs.writer.algebras.push_algebras.Given as goal
 
 abbrev pub invariant-loop-algebra : goal.invariant-loop-algebra

@@ -1,5 +1,5 @@
 use Rattle.std.proofs.Common.{◌≡◌, ◌++◌, ◌+◌, drop}
-use Rattle.adp_model.specs.Spelling.{factors_text}
+use Rattle.job_texts.specs.Spelling.{factors_text}
 use Rattle.grammar_text.proofs.writer.algebras.push_factors.Given as goal
 
 abbrev pub invariant-loop-index : goal.invariant-loop-index

@@ -1,6 +1,6 @@
 use Rattle.std.proofs.Common.{◌≡◌, ◌++◌, length, take}
 use Rattle.std.specs.List.{flat_map, zip}
-use Rattle.adp_model.specs.Spelling.{let_line}
+use Rattle.job_texts.specs.Spelling.{let_line}
 use Rattle.grammar_text.proofs.writer.algebras.push_lets.Given as goal
 
 abbrev pub invariant-loop-sign : goal.invariant-loop-sign

@@ -1,6 +1,6 @@
 use Rattle.std.proofs.Common.{◌≡◌, ◌++◌, drop}
 use Rattle.std.specs.Prelude.{codes}
-use Rattle.adp_model.specs.Spelling.{separated, variables}
+use Rattle.job_texts.specs.Spelling.{separated, variables}
 use Rattle.grammar_text.proofs.Variables.{further_variables}
 use Rattle.grammar_text.proofs.writer.algebras.push_variables.Given as goal
 

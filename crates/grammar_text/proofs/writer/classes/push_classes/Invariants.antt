@@ -1,6 +1,6 @@
 use Rattle.std.proofs.Common.{◌≡◌, ◌++◌, take}
 use Rattle.std.specs.List.{flat_map}
-use Rattle.adp_model.specs.Spelling.{class_line}
+use Rattle.job_texts.specs.Spelling.{class_line}
 use Rattle.grammar_text.proofs.writer.classes.push_classes.Given as goal
 
 abbrev pub invariant-loop-class : goal.invariant-loop-class

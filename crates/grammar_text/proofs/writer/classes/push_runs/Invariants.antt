@@ -1,6 +1,6 @@
 use Rattle.std.proofs.Common.{◌≡◌, ◌++◌, length}
 use Rattle.std.specs.List.{flat_map}
-use Rattle.adp_model.specs.Spelling.{run_text, runs_of}
+use Rattle.job_texts.specs.Spelling.{run_text, runs_of}
 use Rattle.grammar_text.proofs.writer.classes.push_runs.Given as goal
 
 abbrev pub invariant-loop-rest : goal.invariant-loop-rest

@@ -1,7 +1,7 @@
 use Rattle.std.proofs.Common.{◌≡◌, ◌++◌, take}
 use Rattle.std.specs.Prelude.{codes}
 use Rattle.std.specs.List.{flat_map}
-use Rattle.adp_model.specs.Spelling.{argument_text}
+use Rattle.job_texts.specs.Spelling.{argument_text}
 use Rattle.grammar_text.proofs.writer.rules.push_arguments.Given as goal
 
 abbrev pub invariant-loop-argument : goal.invariant-loop-argument

@@ -1,6 +1,6 @@
 use Rattle.std.proofs.Common.{◌≡◌, ◌++◌, take}
 use Rattle.std.specs.List.{flat_map}
-use Rattle.adp_model.specs.Spelling.{rule_line}
+use Rattle.job_texts.specs.Spelling.{rule_line}
 use Rattle.grammar_text.proofs.writer.rules.push_rules.Given as goal
 
 abbrev pub invariant-loop-rule : goal.invariant-loop-rule

@@ -1,7 +1,7 @@
 use Rattle.std.proofs.Common.{◌≡◌, ◌++◌, take}
 use Rattle.std.specs.Prelude.{codes}
 use Rattle.std.specs.List.{flat_map}
-use Rattle.adp_model.specs.Spelling.{kind_text}
+use Rattle.job_texts.specs.Spelling.{kind_text}
 use Rattle.grammar_text.proofs.writer.signs.push_kinds.Given as goal
 
 abbrev pub invariant-loop-kind : goal.invariant-loop-kind

@@ -1,6 +1,6 @@
 use Rattle.std.proofs.Common.{◌≡◌, ◌++◌, take}
 use Rattle.std.specs.List.{flat_map}
-use Rattle.adp_model.specs.Spelling.{sign_line}
+use Rattle.job_texts.specs.Spelling.{sign_line}
 use Rattle.grammar_text.proofs.writer.signs.push_signs.Given as goal
 
 abbrev pub invariant-loop-sign : goal.invariant-loop-sign

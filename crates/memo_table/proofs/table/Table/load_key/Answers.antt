@@ -1,5 +1,5 @@
 use Rattle.std.proofs.Common.{◌+◌, inl, sym, subst, ◌∙◌, arith}
-use Rattle.adp_model.specs.declared.probe.Look.TheVariants.{Going}
+use Rattle.memo_model.specs.declared.probe.Look.TheVariants.{Going}
 use Rattle.memo_table.specs.declared.probe.Next.{Next}
 use Rattle.memo_table.specs.Stepped.{IsLooked}
 use Rattle.memo_table.proofs.Looks.{moved}

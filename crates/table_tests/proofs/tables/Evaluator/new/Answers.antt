@@ -1,5 +1,5 @@
 use Rattle.std.proofs.Common.{sym, ap, ◌∙◌, subst}
-use Rattle.adp_model.specs.Machines.{IsMachine}
+use Rattle.memo_model.specs.Machines.{IsMachine}
 use Rattle.memo_table.specs.declared.probe.Probe.{Probe}
 use Rattle.memo_table.specs.Meanings.{table_meaning}
 use Rattle.cell_core.specs.MachineViews.{MachineView, IsNotedIn}

@@ -1,4 +1,4 @@
-use Rattle.adp_model.specs.DeclaredNames.{class_names}
+use Rattle.job_texts.specs.DeclaredNames.{class_names}
 use Rattle.grammar_text.proofs.Firsts.{known}
 use Rattle.grammar_text.proofs.reader.names.Names.has_class.Goals as goal
 

@@ -3,8 +3,8 @@ use Rattle.std.specs.List.{position}
 use Rattle.std.specs.Option.{option_copied}
 use Rattle.std.proofs.lemmas.List.{length-map, get_or-map}
 use Rattle.std.proofs.lemmas.List.Quantifiers.{position-Some}
-use Rattle.adp_model.specs.DeclaredNames.{kinds_given}
-use Rattle.adp_model.specs.Declarations.{Sign, Words}
+use Rattle.job_texts.specs.DeclaredNames.{kinds_given}
+use Rattle.job_texts.specs.Declarations.{Sign, Words}
 use Rattle.grammar_text.specs.Names.{gives_kinds}
 use Rattle.grammar_text.specs.Seen.{declaration_seen}
 use Rattle.grammar_text.proofs.Firsts.{none_gives, sign_gives, no_sign}

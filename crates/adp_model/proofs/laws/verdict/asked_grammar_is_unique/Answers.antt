@@ -1,8 +1,0 @@
-use Rattle.adp_model.proofs.OneVerdict.{asked_grammar, asked_algebra}
-use Rattle.adp_model.proofs.laws.verdict.asked_grammar_is_unique.Goals as goal
-
-pub returns-clause-grammar : goal.returns-clause-grammar
-returns-clause-grammar c = asked_grammar
-
-pub returns-clause-algebra : goal.returns-clause-algebra
-returns-clause-algebra c = asked_algebra

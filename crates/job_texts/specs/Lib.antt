@@ -1,0 +1,9 @@
+pub mod LineTokens
+pub mod JobLines
+pub mod TermText
+pub mod TermParts
+pub mod Declarations
+pub mod DeclaredNames
+pub mod TextFaults
+pub mod JobText
+pub mod Spelling

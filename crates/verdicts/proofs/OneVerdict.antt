@@ -1,0 +1,475 @@
+-- A command line and bytes have one verdict.
+use Rattle.std.proofs.Common.{◌≡◌, ℕ, zero, suc, ◌+◌, ◌^◌, ◌<◌, ◌≤◌, ◌⊎◌, inl, inr, Bool, true, false, not, ◌&&◌, IsTrue, nat_eq, Option, Result, Ok, Err, List, [], ◌∷◌, length, map, drop, get_or, slice_index_or, refl, sym, ap, ap₂, subst, ◌∙◌, arith}
+use Rattle.std.specs.List.{list_any}
+use Rattle.std.proofs.lemmas.List.{get_or-map, length-map}
+use Rattle.std.proofs.lemmas.List.Folds.{list_any_at}
+use Rattle.std.proofs.lemmas.Bool.{eq-eqb}
+use lib.Pointwise.{pointwise}
+use Rattle.adp_model.specs.declared.grammar.Algebra.{Algebra}
+use Rattle.adp_model.specs.declared.grammar.Goal.TheVariants.{Least}
+use Rattle.adp_model.specs.declared.grammar.Grammar.{Grammar}
+use Rattle.adp_model.specs.declared.job.Job.{Job}
+use Rattle.adp_model.specs.declared.fault.TextFault.{TextFault}
+use Rattle.adp_model.specs.declared.fault.GrammarFault.{GrammarFault}
+use Rattle.adp_model.specs.declared.fault.LimitFault.{LimitFault}
+use Rattle.adp_model.specs.Parts.{sign_at}
+use Rattle.adp_model.specs.WellFormed.{are_distinct, is_well_formed, counts_fit, names_differ, parts_fit}
+use Rattle.verdicts.specs.Command.{Mode, Best, Serial, Wins, Replay, Big, mode_word, Setting, Algebra as ByAlgebra, Workers, Seed, Schedule, Size, option_word, IsValue, AreSettings, algebra_set, workers_set, seed_set, schedule_set, size_set, greatest_size, Command, IsCommand, HasCommand, ReadsJob, ShowsWins, AsksForJob}
+use Rattle.job_texts.specs.JobText.{Accepted, IsText, IsFaultOf}
+use Rattle.adp_model.specs.Lengths.{IsProductive}
+use Rattle.adp_model.specs.Loops.{IsOnLoop}
+use Rattle.adp_model.specs.GrammarFaults.{rule_name, IsNamed, IsFirstFaulty, IsUnproductive, IsOffLoops, HasMonotoneTerm, HasOtherTerm, IsFaultless, IsGrammarFault, NoAlgebra, Unproductive, Loop, NotMonotone}
+use Rattle.adp_model.specs.Checks.{IsChecked}
+use Rattle.verdicts.specs.CheckableJobs.{AreCheckable}
+use Rattle.adp_model.specs.PosedProblem.{PosedProblem}
+use Rattle.verdicts.specs.Verdict.{AsksFor, AsksUnder, asked_name, greatest_length, KeepLimits, IsFirstLimit, AreReports, Verdict, Usage, TooLong, Text, Grammar as OfGrammar, Limit, Reports, AskForReports, AskForBigReport, AreOfWins, IsLimit, IsReports, IsVerdict}
+use Rattle.std.specs.Cmp.{first_so, second_so}
+use Rattle.adp_model.specs.LimitFaults.{IsLimitFault}
+use Rattle.adp_model.specs.ProblemFields.{KeepsLimits}
+use Rattle.adp_model.specs.Report.{IsReport}
+use Rattle.adp_model.specs.BigReport.{IsBigReport}
+use Rattle.verdicts.specs.Verdict.{IsReportIn}
+
+-- ---- what is known of reports and limits
+
+pub record ModelLaws : Type 0 where
+  pub one_report : (number : ℕ) (p : PosedProblem) (a b : List ℕ) → IsTrue (is_well_formed p.grammar)
+      → IsReport number p a → IsReport number p b → a ≡ b
+  pub one_made : (seed size : ℕ) (a b : List ℕ) → IsBigReport seed size a → IsBigReport seed size b → a ≡ b
+  pub kept : (grammar : Grammar) (algebra : ℕ) (least : List ℕ) (greatest : List (Option ℕ)) (ranks : List ℕ)
+      → IsChecked grammar algebra least greatest ranks → (len : ℕ) (fault : LimitFault)
+      → KeepsLimits grammar algebra len → IsLimitFault grammar algebra len fault → ⊥
+  pub one_limit : (grammar : Grammar) (algebra : ℕ) (least : List ℕ) (greatest : List (Option ℕ)) (ranks : List ℕ)
+      → IsChecked grammar algebra least greatest ranks → (len : ℕ) (a b : LimitFault)
+      → IsLimitFault grammar algebra len a → IsLimitFault grammar algebra len b → a ≡ b
+
+-- ---- the command
+
+-- the words of two options differ at their fourth letter
+setting_unique : (place : ℕ) (value : List ℕ) (a b : Setting) → option_word a ≡ option_word b → IsValue place value a → IsValue place value b → a ≡ b
+setting_unique place value (ByAlgebra m) (ByAlgebra n) e v w = ap ByAlgebra (v.1 ∙ sym w.1)
+setting_unique place value (Workers m) (Workers n) e v w = ap Workers (v.0.1 ∙ sym w.0.1)
+setting_unique place value (Seed m) (Seed n) e v w = ap Seed (v.0.1 ∙ sym w.0.1)
+setting_unique place value (Schedule m) (Schedule n) e v w = ap Schedule (v.1 ∙ sym w.1)
+setting_unique place value (Size m) (Size n) e v w = ap Size (v.0.1 ∙ sym w.0.1)
+setting_unique place value a b e v w = absurd (omega (arith, ap (λ (w : List ℕ). get_or w 3 0) e))
+
+settings_unique : (place : ℕ) (words : List (List ℕ)) (a b : List Setting) → AreSettings place words a → AreSettings place words b → a ≡ b
+settings_unique place [] [] [] h k = refl
+settings_unique place [] [] (t ∷ b) h k = absurd k
+settings_unique place [] (s ∷ a) b h k = absurd h
+settings_unique place (option ∷ []) [] b h k = absurd h
+settings_unique place (option ∷ []) (s ∷ a) b h k = absurd h
+settings_unique place (option ∷ value ∷ words) [] b h k = absurd h
+settings_unique place (option ∷ value ∷ words) (s ∷ a) [] h k = absurd k
+settings_unique place (option ∷ value ∷ words) (s ∷ a) (t ∷ b) h k =
+    ap₂ (λ x xs. x ∷ xs) (setting_unique (place + 1) value s t (sym h.0 ∙ k.0) h.1 k.1) (settings_unique (place + 2) words a b h.2 k.2)
+
+-- the words of two modes differ at their third letter
+mode_unique : (a b : Mode) → mode_word a ≡ mode_word b → a ≡ b
+mode_unique Best Best e = refl
+mode_unique Serial Serial e = refl
+mode_unique Wins Wins e = refl
+mode_unique Replay Replay e = refl
+mode_unique Big Big e = refl
+mode_unique a b e = absurd (omega (arith, ap (λ (w : List ℕ). get_or w 2 0) e))
+
+pub command_unique : (words : List (List ℕ)) (a b : Command) → IsCommand words a → IsCommand words b → a ≡ b
+command_unique words a b h k =
+    let heads : mode_word a.mode ∷ h.options ≡ mode_word b.mode ∷ k.options = sym h.words_are ∙ k.words_are in
+    let mode = mode_unique a.mode b.mode (ap (λ (ws : List (List ℕ)). slice_index_or ws 0 []) heads) in
+    let options : h.options ≡ k.options = ap (λ (ws : List (List ℕ)). drop 1 ws) heads in
+    let settings = settings_unique 1 h.options h.settings k.settings h.set (subst (λ o. AreSettings 1 o k.settings) (sym options) k.set) in
+    let algebra = h.algebra_is ∙ ap algebra_set settings ∙ sym k.algebra_is in
+    let workers = h.workers_are ∙ ap workers_set settings ∙ sym k.workers_are in
+    let seed = h.seed_is ∙ ap seed_set settings ∙ sym k.seed_is in
+    let schedule = h.schedule_is ∙ ap schedule_set settings ∙ sym k.schedule_is in
+    let size = h.size_is ∙ ap size_set settings ∙ sym k.size_is in
+    λ i. record {
+      mode = mode i;
+      algebra = algebra i;
+      workers = workers i;
+      seed = seed i;
+      schedule = schedule i;
+      size = size i;
+    }
+
+-- the numbers of settings are in range
+numbers_in_range : (place : ℕ) (words : List (List ℕ)) (settings : List Setting) → AreSettings place words settings
+    → (1 ≤ workers_set settings) × (workers_set settings ≤ 32) × (seed_set settings < 2 ^ 64)
+    × (size_set settings ≤ greatest_size)
+numbers_in_range place words [] h = (omega arith, omega arith, omega arith, omega arith)
+numbers_in_range place [] (setting ∷ settings) h = absurd h
+numbers_in_range place (option ∷ []) (setting ∷ settings) h = absurd h
+numbers_in_range place (option ∷ value ∷ words) (ByAlgebra named ∷ settings) h =
+    numbers_in_range (place + 2) words settings h.2
+numbers_in_range place (option ∷ value ∷ words) (Workers workers ∷ settings) h =
+    let rest = numbers_in_range (place + 2) words settings h.2 in
+    (h.1.1, h.1.2, rest.2, rest.3)
+numbers_in_range place (option ∷ value ∷ words) (Seed seed ∷ settings) h =
+    let rest = numbers_in_range (place + 2) words settings h.2 in
+    (rest.0, rest.1, h.1.1, rest.3)
+numbers_in_range place (option ∷ value ∷ words) (Schedule named ∷ settings) h =
+    numbers_in_range (place + 2) words settings h.2
+numbers_in_range place (option ∷ value ∷ words) (Size size ∷ settings) h =
+    let rest = numbers_in_range (place + 2) words settings h.2 in
+    (rest.0, rest.1, rest.2, h.1.2)
+
+module _ (words : List (List ℕ)) (command : Command) (is : IsCommand words command) where
+  pub some_workers : 1 ≤ command.workers
+  some_workers = subst (λ n. 1 ≤ n) (sym is.workers_are) (numbers_in_range 1 is.options is.settings is.set).0
+
+  pub few_workers : command.workers ≤ 32
+  few_workers = subst (λ n. n ≤ 32) (sym is.workers_are) (numbers_in_range 1 is.options is.settings is.set).1
+
+  pub seed_in_range : command.seed < 2 ^ 64
+  seed_in_range = subst (λ n. n < 2 ^ 64) (sym is.seed_is) (numbers_in_range 1 is.options is.settings is.set).2
+
+  pub size_in_range : command.size ≤ greatest_size
+  size_in_range = subst (λ n. n ≤ greatest_size) (sym is.size_is) (numbers_in_range 1 is.options is.settings is.set).3
+
+-- ---- the text
+
+abbrev accepted_in : Result Accepted TextFault → Accepted → Accepted
+accepted_in (Ok accepted) other = accepted
+accepted_in (Err fault) other = other
+
+abbrev fault_in : Result Accepted TextFault → TextFault → TextFault
+fault_in (Ok accepted) other = other
+fault_in (Err fault) other = fault
+
+same_grammar : (bytes : List ℕ) (a b : Job) → IsText bytes a → IsText bytes b → a.grammar ≡ b.grammar
+same_grammar bytes a b h k = ap (λ (r : Result Accepted TextFault). (accepted_in r (record { grammar = a.grammar; words = a.words })).grammar) (sym h ∙ k)
+
+same_words : (bytes : List ℕ) (a b : Job) → IsText bytes a → IsText bytes b → a.words ≡ b.words
+same_words bytes a b h k = ap (λ (r : Result Accepted TextFault). (accepted_in r (record { grammar = a.grammar; words = a.words })).words) (sym h ∙ k)
+
+same_fault : (bytes : List ℕ) (a b : TextFault) → IsFaultOf bytes a → IsFaultOf bytes b → a ≡ b
+same_fault bytes a b h k = ap (λ (r : Result Accepted TextFault). fault_in r a) (sym h ∙ k)
+
+text_or_fault : (bytes : List ℕ) (fault : TextFault) (job : Job) → IsFaultOf bytes fault → IsText bytes job → ⊥
+text_or_fault bytes fault job h k = let e = sym h ∙ k in absurd cc
+
+-- ---- the algebra
+
+pointwise-same : (name : List ℕ) → pointwise nat_eq name name ≡ true
+pointwise-same [] = refl
+pointwise-same (c ∷ name) = ap₂ (λ a b. a && b) (eq-eqb c c refl) (pointwise-same name)
+
+not_first : (b c : Bool) → b ≡ true → (not b && c) ≡ true → ⊥
+not_first true c e h = absurd cc
+not_first false c e h = absurd cc
+
+distinct_places : (names : List (List ℕ)) (i j : ℕ) → are_distinct names ≡ true → i < length names → j < length names → slice_index_or names i [] ≡ slice_index_or names j [] → i ≡ j
+distinct_places [] i j distinct low high same = absurd (omega arith)
+distinct_places (name ∷ names) zero zero distinct low high same = refl
+distinct_places (name ∷ names) zero (suc j) distinct low high same =
+    absurd (not_first (list_any (pointwise nat_eq name) names) (are_distinct names) (list_any_at (pointwise nat_eq name) names j [] (omega arith) (subst (λ n. pointwise nat_eq name n ≡ true) same (pointwise-same name))) distinct)
+distinct_places (name ∷ names) (suc i) zero distinct low high same =
+    absurd (not_first (list_any (pointwise nat_eq name) names) (are_distinct names) (list_any_at (pointwise nat_eq name) names i [] (omega arith) (subst (λ n. pointwise nat_eq name n ≡ true) (sym same) (pointwise-same name))) distinct)
+distinct_places (name ∷ names) (suc i) (suc j) distinct low high same = ap suc (distinct_places names i j (second_so (not (list_any (pointwise nat_eq name) names)) (are_distinct names) distinct) (omega arith) (omega arith) same)
+
+algebras_differ : (grammar : Grammar) → IsTrue (is_well_formed grammar) → are_distinct (map (λ (algebra : Algebra). algebra.name) grammar.algebras) ≡ true
+algebras_differ grammar formed =
+    let differ = second_so (counts_fit grammar) (names_differ grammar) (first_so (counts_fit grammar && names_differ grammar) (parts_fit grammar) formed) in
+    second_so _ _ (first_so _ _ differ)
+
+named_unique : (grammar : Grammar) → IsTrue (is_well_formed grammar) → (name : List ℕ) (a b : ℕ) → IsNamed grammar name a → IsNamed grammar name b → a ≡ b
+named_unique grammar formed name a b h k =
+    distinct_places (map (λ (algebra : Algebra). algebra.name) grammar.algebras) a b (algebras_differ grammar formed)
+    (omega (arith, length-map grammar.algebras (λ (algebra : Algebra). algebra.name), h.in_range)) (omega (arith, length-map grammar.algebras (λ (algebra : Algebra). algebra.name), k.in_range))
+    (get_or-map (λ (algebra : Algebra). algebra.name) grammar.algebras a (record { name = []; goal = Least; terms = [] }) [] h.in_range ∙ h.name_is ∙ sym k.name_is
+    ∙ sym (get_or-map (λ (algebra : Algebra). algebra.name) grammar.algebras b (record { name = []; goal = Least; terms = [] }) [] k.in_range))
+
+-- ---- the grammar
+
+order : (a b : ℕ) → (a < b) ⊎ ((a ≡ b) ⊎ (b < a))
+order a b = grind arith
+
+first_unique : (IsFaulty IsSound : ℕ → Type 0) (count a b : ℕ) → ((n : ℕ) → IsFaulty n → IsSound n → ⊥) → IsFirstFaulty IsFaulty IsSound count a → IsFirstFaulty IsFaulty IsSound count b → a ≡ b
+first_unique IsFaulty IsSound count a b apart h k = by (order a b)
+  where
+    by : (a < b) ⊎ ((a ≡ b) ⊎ (b < a)) → a ≡ b
+    by (inl less) = absurd (apart a h.faulty (k.before a less))
+    by (inr (inl same)) = same
+    by (inr (inr more)) = absurd (apart b k.faulty (h.before b more))
+
+module _ (grammar : Grammar) (formed : IsTrue (is_well_formed grammar)) (name : List ℕ) where
+  abbrev of_rule : ℕ → ℕ → GrammarFault
+  of_rule kind rule = record { kind = kind; name = rule_name grammar rule }
+
+  abbrev of_sign : ℕ → GrammarFault
+  of_sign sign = record { kind = 4; name = (sign_at grammar sign).name }
+
+  grammar_fault_unique : (a b : GrammarFault) → IsGrammarFault grammar name a → IsGrammarFault grammar name b → a ≡ b
+  grammar_fault_unique a b (NoAlgebra none) (NoAlgebra none') = refl
+  grammar_fault_unique a b (NoAlgebra none) (Unproductive algebra rule named first) = absurd (none algebra named)
+  grammar_fault_unique a b (NoAlgebra none) (Loop algebra rule named productive first) = absurd (none algebra named)
+  grammar_fault_unique a b (NoAlgebra none) (NotMonotone algebra sign named productive off first) = absurd (none algebra named)
+  grammar_fault_unique a b (Unproductive algebra rule named first) (NoAlgebra none) = absurd (none algebra named)
+  grammar_fault_unique a b (Unproductive algebra rule named first) (Unproductive algebra' rule' named' first') =
+      ap (of_rule 2) (first_unique (IsUnproductive grammar) (IsProductive grammar) (length grammar.rules) rule rule' (λ n faulty sound. faulty sound) first first')
+  grammar_fault_unique a b (Unproductive algebra rule named first) (Loop algebra' rule' named' productive first') = absurd (first.faulty (productive rule first.in_range))
+  grammar_fault_unique a b (Unproductive algebra rule named first) (NotMonotone algebra' sign named' productive off first') = absurd (first.faulty (productive rule first.in_range))
+  grammar_fault_unique a b (Loop algebra rule named productive first) (NoAlgebra none) = absurd (none algebra named)
+  grammar_fault_unique a b (Loop algebra rule named productive first) (Unproductive algebra' rule' named' first') = absurd (first'.faulty (productive rule' first'.in_range))
+  grammar_fault_unique a b (Loop algebra rule named productive first) (Loop algebra' rule' named' productive' first') =
+      ap (of_rule 3) (first_unique (IsOnLoop grammar) (IsOffLoops grammar) (length grammar.rules) rule rule' (λ n faulty sound. sound faulty) first first')
+  grammar_fault_unique a b (Loop algebra rule named productive first) (NotMonotone algebra' sign named' productive' off first') = absurd (off rule first.in_range first.faulty)
+  grammar_fault_unique a b (NotMonotone algebra sign named productive off first) (NoAlgebra none) = absurd (none algebra named)
+  grammar_fault_unique a b (NotMonotone algebra sign named productive off first) (Unproductive algebra' rule' named' first') = absurd (first'.faulty (productive rule' first'.in_range))
+  grammar_fault_unique a b (NotMonotone algebra sign named productive off first) (Loop algebra' rule' named' productive' first') = absurd (off rule' first'.in_range first'.faulty)
+  grammar_fault_unique a b (NotMonotone algebra sign named productive off first) (NotMonotone algebra' sign' named' productive' off' first') =
+      ap of_sign (first_unique (HasOtherTerm grammar algebra) (HasMonotoneTerm grammar algebra) (length grammar.signs) sign sign' (λ n faulty sound. faulty sound) first
+      (subst (λ n. IsFirstFaulty (HasOtherTerm grammar n) (HasMonotoneTerm grammar n) (length grammar.signs) sign') (named_unique grammar formed name algebra' algebra named' named) first'))
+
+  faultless_or_fault : (algebra : ℕ) (fault : GrammarFault) → IsFaultless grammar name algebra → IsGrammarFault grammar name fault → ⊥
+  faultless_or_fault algebra fault sound (NoAlgebra none) = none algebra sound.named
+  faultless_or_fault algebra fault sound (Unproductive other rule named first) = first.faulty (sound.productive rule first.in_range)
+  faultless_or_fault algebra fault sound (Loop other rule named productive first) = sound.no_loop rule first.in_range first.faulty
+  faultless_or_fault algebra fault sound (NotMonotone other sign named productive off first) =
+      subst (λ n. HasOtherTerm grammar n sign) (named_unique grammar formed name other algebra named sound.named) first.faulty (sound.monotone sign first.in_range)
+
+-- ---- the words
+
+module _ (laws : ModelLaws) (grammar : Grammar) (algebra : ℕ) (least : List ℕ) (greatest : List (Option ℕ)) (ranks : List ℕ) (checked : IsChecked grammar algebra least greatest ranks) where
+  limit_unique : (number : ℕ) (words : List (List ℕ)) (a b : ℕ) (fault fault' : LimitFault) → IsFirstLimit grammar algebra number words a fault → IsFirstLimit grammar algebra number words b fault' → Limit a fault ≡ Limit b fault'
+  limit_unique number [] a b fault fault' h k = absurd h
+  limit_unique number (word ∷ words) a b fault fault' (inl h) (inl k) = ap₂ Limit (h.0 ∙ sym k.0) (laws.one_limit grammar algebra least greatest ranks checked (length word) fault fault' h.1 k.1)
+  limit_unique number (word ∷ words) a b fault fault' (inl h) (inr k) = absurd (laws.kept grammar algebra least greatest ranks checked (length word) fault k.0 h.1)
+  limit_unique number (word ∷ words) a b fault fault' (inr h) (inl k) = absurd (laws.kept grammar algebra least greatest ranks checked (length word) fault' h.0 k.1)
+  limit_unique number (word ∷ words) a b fault fault' (inr h) (inr k) = limit_unique (number + 1) words a b fault fault' h.1 k.1
+
+  kept_or_limit : (number : ℕ) (words : List (List ℕ)) (first : ℕ) (fault : LimitFault) → KeepLimits grammar algebra words → IsFirstLimit grammar algebra number words first fault → ⊥
+  kept_or_limit number [] first fault kept h = h
+  kept_or_limit number (word ∷ words) first fault kept (inl h) = laws.kept grammar algebra least greatest ranks checked (length word) fault kept.0 h.1
+  kept_or_limit number (word ∷ words) first fault kept (inr h) = kept_or_limit (number + 1) words first fault kept.1 h.1
+
+-- reports of one mode that tells no wins are the same, and so they are of two modes
+abbrev PlainOrWins : Mode → Type 0
+PlainOrWins mode = ShowsWins mode ⊎ ((workers number : ℕ) (p : PosedProblem) (report : List ℕ)
+    → IsReportIn mode workers number p report → IsReport number p report)
+
+plain_or_wins : (mode : Mode) → PlainOrWins mode
+plain_or_wins Best = inr (λ workers number p report is. is)
+plain_or_wins Serial = inr (λ workers number p report is. is)
+plain_or_wins Wins = inl (inl refl)
+plain_or_wins Replay = inl (inr refl)
+plain_or_wins Big = inr (λ workers number p report is. absurd is)
+
+module _ (laws : ModelLaws) (command : Command) (plain : (workers number : ℕ) (p : PosedProblem) (report : List ℕ)
+    → IsReportIn command.mode workers number p report → IsReport number p report) where
+  reports_unique : (grammar : Grammar) → IsTrue (is_well_formed grammar) → (algebra number : ℕ)
+      (words a b : List (List ℕ)) → AreReports command grammar algebra number words a
+      → AreReports command grammar algebra number words b → a ≡ b
+  reports_unique grammar formed algebra number [] [] [] h k = refl
+  reports_unique grammar formed algebra number [] [] (y ∷ b) h k = absurd k
+  reports_unique grammar formed algebra number [] (x ∷ a) b h k = absurd h
+  reports_unique grammar formed algebra number (word ∷ words) [] b h k = absurd h
+  reports_unique grammar formed algebra number (word ∷ words) (x ∷ a) [] h k = absurd k
+  reports_unique grammar formed algebra number (word ∷ words) (x ∷ a) (y ∷ b) h k =
+      let p : PosedProblem = record { grammar = grammar; algebra = algebra; word = word } in
+      ap₂ (λ r rs. r ∷ rs)
+      (laws.one_report number p x y formed (plain command.workers number p x h.0) (plain command.workers number p y k.0))
+      (reports_unique grammar formed algebra (number + 1) words a b h.1 k.1)
+
+-- ---- the verdict
+
+module _ (words : List (List ℕ)) (bytes : List ℕ) where
+  names_same : (c d : Command) (a b : Job) → AsksFor words bytes c a → AsksFor words bytes d b → asked_name words d b.grammar ≡ asked_name words c a.grammar
+  names_same c d a b h k = ap₂ (λ e g. asked_name words e g) (command_unique words d c k.is_command h.is_command) (same_grammar bytes b a k.is_text h.is_text)
+
+  -- what is asked of one job is asked of the other
+  fault_of_first : (c d : Command) (a b : Job) (fault : GrammarFault) → AsksFor words bytes c a → AsksFor words bytes d b → IsGrammarFault b.grammar (asked_name words d b.grammar) fault → IsGrammarFault a.grammar (asked_name words c a.grammar) fault
+  fault_of_first c d a b fault h k is =
+      subst (λ n. IsGrammarFault a.grammar n fault) (names_same c d a b h k) (subst (λ g. IsGrammarFault g (asked_name words d b.grammar) fault) (same_grammar bytes b a k.is_text h.is_text) is)
+
+  faultless_of_first : (c : Command) (a b : Job) (algebra : ℕ) → AsksFor words bytes c a → AsksUnder words bytes b algebra → IsFaultless a.grammar (asked_name words c a.grammar) algebra
+  faultless_of_first c a b algebra h k =
+      subst (λ n. IsFaultless a.grammar n algebra) (names_same c k.command a b h k.asks) (subst (λ g. IsFaultless g (asked_name words k.command b.grammar) algebra) (same_grammar bytes b a k.asks.is_text h.is_text) k.faultless)
+
+  same_algebra : (a b : Job) (m n : ℕ) → AsksUnder words bytes a m → AsksUnder words bytes b n → n ≡ m
+  same_algebra a b m n h k = named_unique a.grammar a.well_formed (asked_name words h.command a.grammar) n m (faultless_of_first h.command a b n h.asks k).named h.faultless.named
+
+  has_command : (c : Command) (a : Job) → AsksFor words bytes c a → HasCommand words
+  has_command c a h = (c, h.is_command)
+
+  -- a word is made by no command that reads a job
+  not_made : AsksForJob words → (reports : List (List ℕ)) → AskForBigReport words reports → ⊥
+  not_made h reports k = subst (λ (c : Command). ReadsJob c.mode) (command_unique words h.0 k.0 h.1 k.1) h.2 k.2
+
+  for_job : (c : Command) (a : Job) → AsksFor words bytes c a → AsksForJob words
+  for_job c a h = (c, h.is_command, h.reads)
+
+  pub asked_grammar : (a b : Job) (m n : ℕ) → AsksUnder words bytes a m → AsksUnder words bytes b n → a.grammar ≡ b.grammar
+  asked_grammar a b m n h k = same_grammar bytes a b h.asks.is_text k.asks.is_text
+
+  pub asked_algebra : (a b : Job) (m n : ℕ) → AsksUnder words bytes a m → AsksUnder words bytes b n → m ≡ n
+  asked_algebra a b m n h k = sym (same_algebra a b m n h k)
+
+  limit_of_first : (a b : Job) (m n word : ℕ) (fault : LimitFault) → AsksUnder words bytes a m → AsksUnder words bytes b n → IsFirstLimit b.grammar n 1 b.words word fault → IsFirstLimit a.grammar m 1 a.words word fault
+  limit_of_first a b m n word fault h k is =
+      subst (λ algebra. IsFirstLimit a.grammar algebra 1 a.words word fault) (same_algebra a b m n h k)
+      (subst (λ (ws : List (List ℕ)). IsFirstLimit a.grammar n 1 ws word fault) (same_words bytes b a k.asks.is_text h.asks.is_text)
+      (subst (λ g. IsFirstLimit g n 1 b.words word fault) (same_grammar bytes b a k.asks.is_text h.asks.is_text) is))
+
+  reports_of_first : (command : Command) (a b : Job) (m n : ℕ) (reports : List (List ℕ)) → AsksUnder words bytes a m
+      → AsksUnder words bytes b n → AreReports command b.grammar n 1 b.words reports
+      → AreReports command a.grammar m 1 a.words reports
+  reports_of_first command a b m n reports h k is =
+      subst (λ algebra. AreReports command a.grammar algebra 1 a.words reports) (same_algebra a b m n h k)
+      (subst (λ (ws : List (List ℕ)). AreReports command a.grammar n 1 ws reports)
+      (same_words bytes b a k.asks.is_text h.asks.is_text)
+      (subst (λ g. AreReports command g n 1 b.words reports) (same_grammar bytes b a k.asks.is_text h.asks.is_text) is))
+
+module _ (laws : ModelLaws) (words : List (List ℕ)) (bytes : List ℕ) where
+  both_reported : (a b : List (List ℕ)) → AskForReports words bytes a → AskForReports words bytes b
+      → (Reports a ≡ Reports b) ⊎ AreOfWins words (Reports a) (Reports b)
+  both_reported a b h k = by (plain_or_wins h.2.command.mode)
+    where
+      same : h.2.command ≡ k.2.command
+      same = command_unique words h.2.command k.2.command h.2.asks.is_command k.2.asks.is_command
+
+      others : AreReports h.2.command h.0.grammar h.1 1 h.0.words b
+      others = reports_of_first words bytes h.2.command h.0 k.0 h.1 k.1 b h.2 k.2
+          (subst (λ (c : Command). AreReports c k.0.grammar k.1 1 k.0.words b) (sym same) k.4)
+
+      by : PlainOrWins h.2.command.mode → (Reports a ≡ Reports b) ⊎ AreOfWins words (Reports a) (Reports b)
+      by (inl wins) = inr (h.2.command, h.2.asks.is_command, wins)
+      by (inr plain) =
+          inl (ap Reports (reports_unique laws h.2.command plain h.0.grammar h.0.well_formed h.1 1 h.0.words a b h.4 others))
+
+  both_made : (a b : List (List ℕ)) → AskForBigReport words a → AskForBigReport words b → Reports a ≡ Reports b
+  both_made a b h k =
+      let same = command_unique words k.0 h.0 k.1 h.1 in
+      let other = subst (λ (c : Command). IsBigReport c.seed c.size k.3) same k.4 in
+      ap Reports (h.5 ∙ ap (λ r. r ∷ []) (laws.one_made h.0.seed h.0.size h.3 k.3 h.4 other) ∙ sym k.5)
+
+  too_long : greatest_length < length bytes → length bytes ≤ greatest_length → ⊥
+  too_long long short = omega arith
+
+  made_or_not : (verdict : Verdict) (reports : List (List ℕ)) → AskForBigReport words reports → IsVerdict words bytes verdict
+      → (HasCommand words → ⊥) ⊎ (AsksForJob words ⊎ ((others : List (List ℕ)) × (verdict ≡ Reports others) × AskForBigReport words others))
+  made_or_not Usage reports big h = inl h
+  made_or_not TooLong reports big h = inr (inl h.0)
+  made_or_not (Text fault) reports big h = inr (inl h.0)
+  made_or_not (OfGrammar fault) reports big h = inr (inl (for_job words bytes h.0 h.1 h.2))
+  made_or_not (Limit word fault) reports big h = inr (inl (for_job words bytes h.2.command h.0 h.2.asks))
+  made_or_not (Reports others) reports big (inl h) = inr (inl (for_job words bytes h.2.command h.0 h.2.asks))
+  made_or_not (Reports others) reports big (inr h) = inr (inr (others, refl, h))
+
+  -- a word is made in one way, and nothing else is asked then
+  of_made : (verdict : Verdict) (reports : List (List ℕ)) → AskForBigReport words reports → IsVerdict words bytes verdict
+      → Reports reports ≡ verdict
+  of_made verdict reports big h = by (made_or_not verdict reports big h)
+    where
+      by : (HasCommand words → ⊥) ⊎ (AsksForJob words ⊎ ((others : List (List ℕ)) × (verdict ≡ Reports others) × AskForBigReport words others))
+          → Reports reports ≡ verdict
+      by (inl none) = absurd (none (big.0, big.1))
+      by (inr (inl job)) = absurd (not_made words bytes job reports big)
+      by (inr (inr it)) = both_made reports it.0 big it.2 ∙ sym it.1
+
+  pub one_verdict : AreCheckable words bytes → (a b : Verdict) → IsVerdict words bytes a → IsVerdict words bytes b
+      → (a ≡ b) ⊎ AreOfWins words a b
+  one_verdict checks Usage Usage h k =
+      inl refl
+  one_verdict checks Usage TooLong h k =
+      absurd (h (k.0.0, k.0.1))
+  one_verdict checks Usage (Text fault) h k =
+      absurd (h (k.0.0, k.0.1))
+  one_verdict checks Usage (OfGrammar fault) h k =
+      absurd (h (has_command words bytes k.0 k.1 k.2))
+  one_verdict checks Usage (Limit word fault) h k =
+      absurd (h (has_command words bytes k.2.command k.0 k.2.asks))
+  one_verdict checks Usage (Reports reports) h (inl k) =
+      absurd (h (has_command words bytes k.2.command k.0 k.2.asks))
+  one_verdict checks Usage (Reports reports) h (inr k) = inl (sym (of_made Usage reports k h))
+  one_verdict checks TooLong Usage h k =
+      absurd (k (h.0.0, h.0.1))
+  one_verdict checks TooLong TooLong h k =
+      inl refl
+  one_verdict checks TooLong (Text fault) h k =
+      absurd (too_long h.1 k.1)
+  one_verdict checks TooLong (OfGrammar fault) h k =
+      absurd (too_long h.1 k.2.short_enough)
+  one_verdict checks TooLong (Limit word fault) h k =
+      absurd (too_long h.1 k.2.asks.short_enough)
+  one_verdict checks TooLong (Reports reports) h (inl k) =
+      absurd (too_long h.1 k.2.asks.short_enough)
+  one_verdict checks TooLong (Reports reports) h (inr k) = inl (sym (of_made TooLong reports k h))
+  one_verdict checks (Text fault) Usage h k =
+      absurd (k (h.0.0, h.0.1))
+  one_verdict checks (Text fault) TooLong h k =
+      absurd (too_long k.1 h.1)
+  one_verdict checks (Text fault) (Text fault') h k =
+      inl (ap Text (same_fault bytes fault fault' h.2 k.2))
+  one_verdict checks (Text fault) (OfGrammar fault') h k =
+      absurd (text_or_fault bytes fault k.1 h.2 k.2.is_text)
+  one_verdict checks (Text fault) (Limit word fault') h k =
+      absurd (text_or_fault bytes fault k.0 h.2 k.2.asks.is_text)
+  one_verdict checks (Text fault) (Reports reports) h (inl k) =
+      absurd (text_or_fault bytes fault k.0 h.2 k.2.asks.is_text)
+  one_verdict checks (Text fault) (Reports reports) h (inr k) = inl (sym (of_made (Text fault) reports k h))
+  one_verdict checks (OfGrammar fault) Usage h k =
+      absurd (k (has_command words bytes h.0 h.1 h.2))
+  one_verdict checks (OfGrammar fault) TooLong h k =
+      absurd (too_long k.1 h.2.short_enough)
+  one_verdict checks (OfGrammar fault) (Text fault') h k =
+      absurd (text_or_fault bytes fault' h.1 k.2 h.2.is_text)
+  one_verdict checks (OfGrammar fault) (OfGrammar fault') h k =
+      inl (ap OfGrammar (grammar_fault_unique h.1.grammar h.1.well_formed (asked_name words h.0 h.1.grammar) fault fault' h.3 (fault_of_first words bytes h.0 k.0 h.1 k.1 fault' h.2 k.2 k.3)))
+  one_verdict checks (OfGrammar fault) (Limit word fault') h k =
+      absurd (faultless_or_fault h.1.grammar h.1.well_formed (asked_name words h.0 h.1.grammar) k.1 fault (faultless_of_first words bytes h.0 h.1 k.0 k.1 h.2 k.2) h.3)
+  one_verdict checks (OfGrammar fault) (Reports reports) h (inl k) =
+      absurd (faultless_or_fault h.1.grammar h.1.well_formed (asked_name words h.0 h.1.grammar) k.1 fault (faultless_of_first words bytes h.0 h.1 k.0 k.1 h.2 k.2) h.3)
+  one_verdict checks (OfGrammar fault) (Reports reports) h (inr k) = inl (sym (of_made (OfGrammar fault) reports k h))
+  one_verdict checks (Limit word fault) Usage h k =
+      absurd (k (has_command words bytes h.2.command h.0 h.2.asks))
+  one_verdict checks (Limit word fault) TooLong h k =
+      absurd (too_long k.1 h.2.asks.short_enough)
+  one_verdict checks (Limit word fault) (Text fault') h k =
+      absurd (text_or_fault bytes fault' h.0 k.2 h.2.asks.is_text)
+  one_verdict checks (Limit word fault) (OfGrammar fault') h k =
+      absurd (faultless_or_fault k.1.grammar k.1.well_formed (asked_name words k.0 k.1.grammar) h.1 fault' (faultless_of_first words bytes k.0 k.1 h.0 h.1 k.2 h.2) k.3)
+  one_verdict checks (Limit word fault) (Limit word' fault') h k =
+      let found = checks h.0 h.1 h.2 in
+      inl (limit_unique laws h.0.grammar h.1 found.0 found.1 found.2 found.3 1 h.0.words word word' fault fault' h.3 (limit_of_first words bytes h.0 k.0 h.1 k.1 word' fault' h.2 k.2 k.3))
+  one_verdict checks (Limit word fault) (Reports reports) h (inl k) =
+      let found = checks k.0 k.1 k.2 in
+      absurd (kept_or_limit laws k.0.grammar k.1 found.0 found.1 found.2 found.3 1 k.0.words word fault k.3 (limit_of_first words bytes k.0 h.0 k.1 h.1 word fault k.2 h.2 h.3))
+  one_verdict checks (Limit word fault) (Reports reports) h (inr k) = inl (sym (of_made (Limit word fault) reports k h))
+  one_verdict checks (Reports reports) Usage (inl h) k =
+      absurd (k (has_command words bytes h.2.command h.0 h.2.asks))
+  one_verdict checks (Reports reports) TooLong (inl h) k =
+      absurd (too_long k.1 h.2.asks.short_enough)
+  one_verdict checks (Reports reports) (Text fault') (inl h) k =
+      absurd (text_or_fault bytes fault' h.0 k.2 h.2.asks.is_text)
+  one_verdict checks (Reports reports) (OfGrammar fault') (inl h) k =
+      absurd (faultless_or_fault k.1.grammar k.1.well_formed (asked_name words k.0 k.1.grammar) h.1 fault' (faultless_of_first words bytes k.0 k.1 h.0 h.1 k.2 h.2) k.3)
+  one_verdict checks (Reports reports) (Limit word fault) (inl h) k =
+      let found = checks h.0 h.1 h.2 in
+      absurd (kept_or_limit laws h.0.grammar h.1 found.0 found.1 found.2 found.3 1 h.0.words word fault h.3 (limit_of_first words bytes h.0 k.0 h.1 k.1 word fault h.2 k.2 k.3))
+  one_verdict checks (Reports reports) (Reports reports') (inl h) (inl k) = both_reported reports reports' h k
+  one_verdict checks (Reports reports) (Reports reports') (inl h) (inr k) =
+      inl (sym (of_made (Reports reports) reports' k (inl h)))
+  one_verdict checks (Reports reports) Usage (inr h) k = inl (of_made Usage reports h k)
+  one_verdict checks (Reports reports) TooLong (inr h) k = inl (of_made TooLong reports h k)
+  one_verdict checks (Reports reports) (Text fault) (inr h) k = inl (of_made (Text fault) reports h k)
+  one_verdict checks (Reports reports) (OfGrammar fault) (inr h) k = inl (of_made (OfGrammar fault) reports h k)
+  one_verdict checks (Reports reports) (Limit word fault) (inr h) k = inl (of_made (Limit word fault) reports h k)
+  one_verdict checks (Reports reports) (Reports reports') (inr h) k = inl (of_made (Reports reports') reports h k)
+
+  pub only_reports : (reports : List (List ℕ)) (verdict : Verdict) → IsVerdict words bytes (Reports reports)
+      → IsVerdict words bytes verdict → (IsLimit verdict → AreCheckable words bytes) → IsReports verdict
+  only_reports reports (Reports others) h k checks = tt
+  only_reports reports verdict (inr h) k checks = subst IsReports (of_made verdict reports h k) tt
+  only_reports reports Usage (inl h) k checks = absurd (k (has_command words bytes h.2.command h.0 h.2.asks))
+  only_reports reports TooLong (inl h) k checks = absurd (too_long k.1 h.2.asks.short_enough)
+  only_reports reports (Text fault) (inl h) k checks = absurd (text_or_fault bytes fault h.0 k.2 h.2.asks.is_text)
+  only_reports reports (OfGrammar fault) (inl h) k checks =
+      absurd (faultless_or_fault k.1.grammar k.1.well_formed (asked_name words k.0 k.1.grammar) h.1 fault
+      (faultless_of_first words bytes k.0 k.1 h.0 h.1 k.2 h.2) k.3)
+  only_reports reports (Limit word fault) (inl h) k checks =
+      let found = checks tt h.0 h.1 h.2 in
+      absurd (kept_or_limit laws h.0.grammar h.1 found.0 found.1 found.2 found.3 1 h.0.words word fault h.3
+      (limit_of_first words bytes h.0 k.0 h.1 k.1 word fault h.2 k.2 k.3))

@@ -1,0 +1,13 @@
+-- Command lines and bytes whose grammar, where it has no fault, has sizes and ranks: that is what the checks of a
+-- grammar find, so it holds wherever these come to an end.
+use Rattle.std.specs.Prelude.{ℕ, Option, List}
+use Rattle.adp_model.specs.declared.job.Job.{Job}
+use Rattle.adp_model.specs.Checks.{IsChecked}
+use Rattle.verdicts.specs.Verdict.{AsksUnder}
+
+-- where the words and the bytes ask for a job under an algebra, its grammar has sizes and ranks
+abbrev pub AreCheckable : List (List ℕ) → List ℕ → Type 0
+AreCheckable words bytes =
+    (job : Job) (algebra : ℕ) → AsksUnder words bytes job algebra
+    → (least : List ℕ) × (greatest : List (Option ℕ)) × (ranks : List ℕ)
+    × IsChecked job.grammar algebra least greatest ranks

@@ -1,0 +1,4 @@
+pub mod ScheduleText
+pub mod Command
+pub mod Verdict
+pub mod CheckableJobs

@@ -1,0 +1,125 @@
+-- The verdict: what the program has to answer to the words of its command line and the bytes of its input.
+use Rattle.std.specs.Prelude.{◌≡◌, ℕ, ◌+◌, ◌<◌, ◌≤◌, ◌⊎◌, Option, None, Some, List, [], ◌∷◌, length, slice_index_or}
+use Rattle.adp_model.specs.declared.grammar.Grammar as grammars
+use Rattle.adp_model.specs.declared.job.Job.{Job}
+use Rattle.adp_model.specs.declared.fault.TextFault.{TextFault}
+use Rattle.adp_model.specs.declared.fault.GrammarFault.{GrammarFault}
+use Rattle.adp_model.specs.declared.fault.LimitFault.{LimitFault}
+use Rattle.adp_model.specs.Parts.{algebra_at}
+use Rattle.job_texts.specs.JobText.{IsText, IsFaultOf}
+use Rattle.adp_model.specs.GrammarFaults.{IsFaultless, IsGrammarFault}
+use Rattle.adp_model.specs.LimitFaults.{IsLimitFault}
+use Rattle.adp_model.specs.ProblemFields.{KeepsLimits}
+use Rattle.adp_model.specs.PosedProblem.{PosedProblem}
+use Rattle.adp_model.specs.Report.{IsReport, IsWinsReport}
+use Rattle.adp_model.specs.BigReport.{IsBigReport}
+use Rattle.verdicts.specs.Command.{Mode, ShowsWins, Best, Serial, Wins, Replay, Big, Command, IsCommand, HasCommand, ReadsJob, AsksForJob}
+
+-- a job has at most this many bytes
+abbrev pub greatest_length : ℕ
+greatest_length = 4194304
+
+-- what the program answers: that the words are no command; that the input is too long; the fault of its text; the fault
+-- of its grammar; the number of the first word that passes a limit, with the limit; or the reports of all words, or of
+-- the word that is made
+pub data Verdict : Type 0 where
+  Usage : Verdict
+  TooLong : Verdict
+  Text : (fault : TextFault) → Verdict
+  Grammar : (fault : GrammarFault) → Verdict
+  Limit : (word : ℕ) → (fault : LimitFault) → Verdict
+  Reports : (reports : List (List ℕ)) → Verdict
+
+-- the words are the command, which reads a job, and the bytes are a text of the job
+pub record AsksFor (words : List (List ℕ)) (bytes : List ℕ) (command : Command) (job : Job) : Type 0 where
+  pub is_command : IsCommand words command
+  pub reads : ReadsJob command.mode
+  pub short_enough : length bytes ≤ greatest_length
+  pub is_text : IsText bytes job
+
+-- the name of the algebra that a command asks for, or of the grammar's first
+abbrev pub asked_name : List (List ℕ) → Command → grammars.Grammar → List ℕ
+asked_name words command grammar = named command.algebra
+  where
+    named : Option ℕ → List ℕ
+    named None = (algebra_at grammar 0).name
+    named (Some place) = slice_index_or words place []
+
+-- the words and the bytes ask for the job's words under this algebra, and the grammar has no fault under it
+pub record AsksUnder (words : List (List ℕ)) (bytes : List ℕ) (job : Job) (algebra : ℕ) : Type 0 where
+  pub command : Command
+  pub asks : AsksFor words bytes command job
+  pub faultless : IsFaultless job.grammar (asked_name words command job.grammar) algebra
+
+-- all of these words keep the limits
+abbrev pub KeepLimits : grammars.Grammar → ℕ → List (List ℕ) → Type 0
+KeepLimits grammar algebra [] = Unit {0}
+KeepLimits grammar algebra (word ∷ words) = KeepsLimits grammar algebra (length word) × KeepLimits grammar algebra words
+
+-- the first word that passes a limit has this number, counted on from the first of these words, and this is its fault
+abbrev pub IsFirstLimit : grammars.Grammar → ℕ → ℕ → List (List ℕ) → ℕ → LimitFault → Type 0
+IsFirstLimit grammar algebra number [] first fault = ⊥
+IsFirstLimit grammar algebra number (word ∷ words) first fault =
+    ((first ≡ number) × IsLimitFault grammar algebra (length word) fault)
+    ⊎ (KeepsLimits grammar algebra (length word) × IsFirstLimit grammar algebra (number + 1) words first fault)
+
+-- the report of the word with this number, with the wins of so many evaluators
+abbrev pub IsReportOfWins : ℕ → ℕ → PosedProblem → List ℕ → Type 0
+IsReportOfWins workers number p report = (wins : List ℕ) × (length wins ≡ workers) × IsWinsReport number p wins report
+
+-- the report that a mode asks for of the word with this number: the plain one, or one with the wins of so many
+-- evaluators
+abbrev pub IsReportIn : Mode → ℕ → ℕ → PosedProblem → List ℕ → Type 0
+IsReportIn Best workers number p report = IsReport number p report
+IsReportIn Serial workers number p report = IsReport number p report
+IsReportIn Wins workers number p report = IsReportOfWins workers number p report
+IsReportIn Replay workers number p report = IsReportOfWins workers number p report
+IsReportIn Big workers number p report = ⊥
+
+-- the reports of these words in order, the first of which has this number, as the command asks for them
+abbrev pub AreReports : Command → grammars.Grammar → ℕ → ℕ → List (List ℕ) → List (List ℕ) → Type 0
+AreReports command grammar algebra number [] [] = Unit {0}
+AreReports command grammar algebra number (word ∷ words) (report ∷ reports) =
+    IsReportIn command.mode command.workers number (record { grammar = grammar; algebra = algebra; word = word }) report
+    × AreReports command grammar algebra (number + 1) words reports
+AreReports command grammar algebra number words reports = ⊥
+
+-- the words and the bytes ask for these reports of the words of a job
+abbrev pub AskForReports : List (List ℕ) → List ℕ → List (List ℕ) → Type 0
+AskForReports words bytes reports =
+    (job : Job) × (algebra : ℕ) × (asked : AsksUnder words bytes job algebra) × KeepLimits job.grammar algebra job.words
+    × AreReports asked.command job.grammar algebra 1 job.words reports
+
+-- the words ask for this report of the word that is made, alone
+abbrev pub AskForBigReport : List (List ℕ) → List (List ℕ) → Type 0
+AskForBigReport words reports =
+    (command : Command) × IsCommand words command × (command.mode ≡ Big)
+    × (report : List ℕ) × IsBigReport command.seed command.size report × (reports ≡ report ∷ [])
+
+-- faulty words come first, then an input that is too long, then the faults of its text, of its grammar and of the
+-- lengths of its words, and then the reports; where a word is made, no input is judged
+abbrev pub IsVerdict : List (List ℕ) → List ℕ → Verdict → Type 0
+IsVerdict words bytes Usage = HasCommand words → ⊥
+IsVerdict words bytes TooLong = AsksForJob words × (greatest_length < length bytes)
+IsVerdict words bytes (Text fault) = AsksForJob words × (length bytes ≤ greatest_length) × IsFaultOf bytes fault
+IsVerdict words bytes (Grammar fault) =
+    (command : Command) × (job : Job) × AsksFor words bytes command job
+    × IsGrammarFault job.grammar (asked_name words command job.grammar) fault
+IsVerdict words bytes (Limit word fault) =
+    (job : Job) × (algebra : ℕ) × AsksUnder words bytes job algebra
+    × IsFirstLimit job.grammar algebra 1 job.words word fault
+IsVerdict words bytes (Reports reports) = AskForReports words bytes reports ⊎ AskForBigReport words reports
+
+abbrev pub IsReports : Verdict → Type 0
+IsReports (Reports reports) = Unit {0}
+IsReports verdict = ⊥
+
+abbrev pub IsLimit : Verdict → Type 0
+IsLimit (Limit word fault) = Unit {0}
+IsLimit verdict = ⊥
+
+-- both are reports with the wins of evaluators
+abbrev pub AreOfWins : List (List ℕ) → Verdict → Verdict → Type 0
+AreOfWins words (Reports reports) (Reports others) =
+    (command : Command) × IsCommand words command × ShowsWins command.mode
+AreOfWins words verdict other = ⊥

@@ -1,0 +1,4 @@
+//! What the words of a command line and the bytes of an input ask for: the command, and the one verdict on both.
+#![tactic(auto)]
+
+pub mod laws;
