@@ -16,7 +16,7 @@ use Rattle.rand_pcg.specs.Lcg.{Lcg}
 use Rattle.random_orders.specs.Draws.{drawn_turns}
 use Rattle.cell_core.specs.declared.work.Work.{Work}
 use Rattle.cell_core.specs.Working.{frames_of}
-use Rattle.cell_core.specs.FrameChanges.{Opening, opening_of, standing, turn_bounds, IsFrameAdded, IsFrameGone}
+use Rattle.cell_core.specs.FrameChanges.{Opening, opening_of, standing, turn_bounds, EndsPublication, IsFrameAdded, IsFrameGone}
 
 -- ---- how many
 
@@ -106,12 +106,12 @@ module _ {Pass Probe : Type 0} (memo : Meaning Pass Probe) (p : PosedProblem) (p
 
   pub frame_gone : (top : Frame Probe) (frames frames' : List (Frame Probe)) (opened opened' : ℕ) (orders : Lcg)
       → frames ≡ top ∷ frames' → opened' ≡ opened
-      → ((found : ℕ) × IsOnRecordWord memo pass' top.visit.cell found) → memo.known pass' top.visit.cell
-      → IsFrameGone memo pass' (standing frames opened orders) (standing frames' opened' orders)
-  frame_gone top frames frames' opened opened' orders are number on known = record {
+      → EndsPublication memo pass pass' top.visit.cell → memo.known pass' top.visit.cell
+      → IsFrameGone memo pass pass' (standing frames opened orders) (standing frames' opened' orders)
+  frame_gone top frames frames' opened opened' orders are number ends known = record {
     opening = opening_of top;
     gone = ap (map opening_of) are;
-    published = on;
+    published = ends;
     known = known;
     opened = number;
     orders = refl;

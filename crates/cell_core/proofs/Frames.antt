@@ -34,12 +34,15 @@ module _ {Probe : Type 0} (p : PosedProblem) (known Noted : Cell → Type 0) whe
       Child frame.visit.cell cell (sought_demanded frame.visit.cell below are.1 demanded) (sought_child cell frame are.0)
 
   module _ (height : Cell → ℕ) (falls : (cell child : Cell) → IsDemandedChild p cell child → height child < height cell) where
-    higher : (a b : ℕ) → a < b → (frames : List (Frame Probe)) → AllByRecursion (λ (frame : Frame Probe). b < height frame.visit.cell) frames → AllByRecursion (λ (frame : Frame Probe). a < height frame.visit.cell) frames
+    higher : (a b : ℕ) → a < b → (frames : List (Frame Probe))
+        → AllByRecursion (λ (frame : Frame Probe). b < height frame.visit.cell) frames
+        → AllByRecursion (λ (frame : Frame Probe). a < height frame.visit.cell) frames
     higher a b l [] all = tt
     higher a b l (frame ∷ below) all = ((let m : b < height frame.visit.cell = all.0 in omega arith), higher a b l below all.1)
 
     -- what is sought lies below all frames
-    pub sought_below : (cell : Cell) (frames : List (Frame Probe)) → AreFrames p known Noted (Some cell) frames → AllByRecursion (λ (frame : Frame Probe). height cell < height frame.visit.cell) frames
+    pub sought_below : (cell : Cell) (frames : List (Frame Probe)) → AreFrames p known Noted (Some cell) frames
+        → AllByRecursion (λ (frame : Frame Probe). height cell < height frame.visit.cell) frames
     sought_below cell [] are = tt
     sought_below cell (frame ∷ below) are =
         let l = falls frame.visit.cell cell (sought_child cell frame are.0) in

@@ -61,7 +61,8 @@ module _ {Pass Probe : Type 0} (memo : Meaning Pass Probe) (p : PosedProblem) (n
     where
       go : (ended : Bool) → work.ended ≡ ended → steps_left memo p m arguments work.ended work.hand (frames_of work.top work.below.items) pass ≤ step_bound m (length arguments)
       go true e =
-          let f : steps_left memo p m arguments work.ended work.hand (frames_of work.top work.below.items) pass ≡ steps_left memo p m arguments true work.hand (frames_of work.top work.below.items) pass =
+          let f : steps_left memo p m arguments work.ended work.hand (frames_of work.top work.below.items) pass
+          ≡ steps_left memo p m arguments true work.hand (frames_of work.top work.below.items) pass =
           λ i. steps_left memo p m arguments (e i) work.hand (frames_of work.top work.below.items) pass in
           omega arith
       go false e =

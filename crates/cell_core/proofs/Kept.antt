@@ -5,10 +5,10 @@ use Rattle.std.proofs.lemmas.Option.{slice_get_read, same_Some, none-some}
 use Rattle.adp_model.specs.declared.grammar.Arg.TheVariants.{Rule}
 use Rattle.adp_model.specs.declared.cell.Answer.{Answer}
 use Rattle.adp_model.specs.declared.cell.Cell.{Cell}
-use Rattle.adp_model.specs.PosedProblem.{PosedProblem, axiom_cell}
+use Rattle.adp_model.specs.PosedProblem.{PosedProblem}
 use Rattle.adp_model.specs.Answers.{IsAnswer}
 use Rattle.adp_model.specs.Splits.{Placed, placed}
-use Rattle.adp_model.specs.Demand.{IsDemanded, IsDemandedChild}
+use Rattle.adp_model.specs.Demand.{IsDemandedChild}
 use Rattle.memo_model.specs.declared.visit.Position.{Position}
 use Rattle.memo_model.specs.declared.visit.Visit.{Visit}
 use Rattle.memo_model.specs.declared.visit.Frame.{Frame}
@@ -133,7 +133,8 @@ visit_found p Known Noted cell visit noted is = record {
     on child (inl h) = inl h
     on child (inr e) = inl (subst Noted (same_Some cell child e) noted)
 
-module _ {Pass Probe : Type 0} (memo : Meaning Pass Probe) (p : PosedProblem) (height : Cell → ℕ) (falls : (cell child : Cell) → IsDemandedChild p cell child → height child < height cell) where
+module _ {Pass Probe : Type 0} (memo : Meaning Pass Probe) (p : PosedProblem) (height : Cell → ℕ)
+    (falls : (cell child : Cell) → IsDemandedChild p cell child → height child < height cell) where
   -- all frames lie above the cell
   abbrev Above : Cell → List (Frame Probe) → Type 0
   Above cell frames = AllByRecursion (λ (frame : Frame Probe). height cell < height frame.visit.cell) frames
@@ -189,28 +190,7 @@ module _ {Pass Probe : Type 0} (memo : Meaning Pass Probe) (p : PosedProblem) (h
     abbrev Going : Option (Hand Probe) → List (Frame Probe) → Option Answer → Pass → Type 0
     Going = IsGoing memo p Noted
 
-    -- ---- a fresh machine, and any pass
-
-    pub fresh_going : (pass : Pass) → IsDemanded p (axiom_cell p) → Going None [] None pass
-    fresh_going pass demanded = record {
-      demanded = demanded;
-      visits = λ child e. absurd (none-some child e);
-      in_hand = λ it e. absurd (none-some it e);
-      probes = tt;
-      ready_is = tt;
-    }
-
     -- ---- a probe is taken in hand
-
-    pub first_begun : (pass : Pass) (hand : Hand Probe) → hand.cell ≡ axiom_cell p → IsInHand memo pass hand
-        → Going None [] None pass → Going (Some hand) [] None pass
-    first_begun pass hand root own is = record {
-      demanded = is.demanded;
-      visits = λ child e. sym (same_Some hand.cell child e) ∙ root;
-      in_hand = λ it e. subst (IsInHand memo pass) (same_Some hand it e) own;
-      probes = tt;
-      ready_is = tt;
-    }
 
     pub begun : (pass : Pass) (hand : Hand Probe) (top : Frame Probe) (below : List (Frame Probe)) (position : Position)
         → IsSplitArgument p (argument_at top.visit.cell position) → IsNextSought p Noted top.visit position hand.cell

@@ -109,7 +109,3 @@ module _ {Pass Probe : Type 0} (memo : Meaning Pass Probe) (p : PosedProblem) (p
       subst (λ e. LoadsAsTold memo pass (looked_for p hand ready) (loads_at memo fresh e hand ready)) (sym at_end)
       (subst (λ h. LoadsAsTold memo pass (looked_for p h ready) (loads_at memo fresh ended' h ready)) (sym in_hand)
       (subst (λ r. LoadsAsTold memo pass (looked_for p hand' r) (loads_at memo fresh ended' hand' r)) (sym answered) told))
-
--- there is room as before
-pub room_moved : {Probe : Type 0} (p : PosedProblem) (work : Work Probe) (moves : ℕ) → HasRoom p work → HasRoom p (with_moves work moves)
-room_moved p work moves room = record { room = room.room; nothing_below = room.nothing_below }

@@ -36,11 +36,6 @@ module _ {Pass Probe : Type 0} (memo : Meaning Pass Probe) (p : PosedProblem) (m
       let e : (length arguments + 1) * c ≡ c + c * length arguments = grind arith in
       omega arith
 
-  -- the axiom's probe is taken in hand
-  pub first_begun : (pass : Pass) (hand : Hand Probe) → memo.remaining m hand.probe ≡ 2 * m + 5
-      → left (Some hand) [] pass ≤ left None [] pass
-  first_begun pass hand e = omega arith
-
   -- the position of the top frame moves on to an argument, for which a probe is taken in hand
   pub begun : (pass : Pass) (hand : Hand Probe) (top top' : Frame Probe) (below : List (Frame Probe))
       (argument : SplitArgument) → top'.visit.cell ≡ top.visit.cell → own top' ≡ own top

@@ -1,5 +1,5 @@
 -- What a step does to a machine's frames, and to its wins.
-use Rattle.std.specs.Prelude.{◌≡◌, ℕ, ◌+◌, ◌-◌, ◌≤◌, ◌⊎◌, List, [], ◌∷◌, map, length}
+use Rattle.std.specs.Prelude.{◌≡◌, ℕ, ◌+◌, ◌-◌, ◌<◌, ◌≤◌, ◌⊎◌, List, [], ◌∷◌, map, length}
 use Rattle.std.specs.List.{Contains}
 use Rattle.adp_model.specs.declared.cell.Cell.{Cell}
 use Rattle.memo_model.specs.declared.visit.Frame.{Frame}
@@ -46,11 +46,19 @@ module _ {Pass Probe : Type 0} (memo : Meaning Pass Probe) where
     pub turns : (opening.first ∷ opening.turns, after.orders) ≡ drawn_turns (turn_bounds p opening.cell) before.orders
     pub opened : after.opened ≡ before.opened + 1
 
+  -- the step was the last one of a publication: it was on the cell's record word, and the wins of the pass rose by one
+  -- where it found 0 there, and not where it found another value
+  pub record EndsPublication (pass pass' : Pass) (cell : Cell) : Type 0 where
+    pub found : ℕ
+    pub on_word : IsOnRecordWord memo pass' cell found
+    pub won : found ≡ 0 → memo.wins pass' ≡ memo.wins pass + 1
+    pub lost : 0 < found → memo.wins pass' ≡ memo.wins pass
+
   -- the top frame has left: its cell is published and known
-  pub record IsFrameGone (pass' : Pass) (before after : Standing) : Type 0 where
+  pub record IsFrameGone (pass pass' : Pass) (before after : Standing) : Type 0 where
     pub opening : Opening
     pub gone : before.openings ≡ opening ∷ after.openings
-    pub published : (found : ℕ) × IsOnRecordWord memo pass' opening.cell found
+    pub published : EndsPublication pass pass' opening.cell
     pub known : memo.known pass' opening.cell
     pub opened : after.opened ≡ before.opened
     pub orders : after.orders ≡ before.orders
@@ -58,7 +66,7 @@ module _ {Pass Probe : Type 0} (memo : Meaning Pass Probe) where
   -- all is as it was, or one of these two
   abbrev pub ChangesFrames : PosedProblem → Pass → Pass → Standing → Standing → Type 0
   ChangesFrames p pass pass' before after =
-      (after ≡ before) ⊎ (IsFrameAdded p pass pass' before after ⊎ IsFrameGone pass' before after)
+      (after ≡ before) ⊎ (IsFrameAdded p pass pass' before after ⊎ IsFrameGone pass pass' before after)
 
   -- the wins of the pass and those of the machine rise by the same number, 0 or 1
   abbrev pub GainsWins : Pass → Pass → ℕ → ℕ → Type 0

@@ -127,7 +127,6 @@ plain_meaning = record {
   share = λ pass. [];
   last = λ pass. access_of pass.last;
   record_word = λ pass. IsPlaceOf pass.problem.grammar (length pass.problem.word);
-  published = λ pass. HasRecord pass.records;
   cell = λ probe. probe.cell;
   stage = λ probe. probe.stage;
   follows = Follows;

@@ -1,6 +1,6 @@
 //! A machine: a top-down computation of the answer of the axiom's cell that shares its results by a memo.
 
-ghost use Rattle.std.specs.Prelude.{◌≡◌, ◌+◌, ◌-◌, ◌<◌, ◌≤◌, ◌^◌, ℕ, List, IfOk, false, length, if◌then◌else◌, min};
+ghost use Rattle.std.specs.Prelude.{◌≡◌, ◌+◌, ◌-◌, ◌<◌, ◌≤◌, ◌^◌, ℕ, List, IfOk, true, false, length, if◌then◌else◌, min};
 ghost use Rattle.std.specs.Arc.{arc_value};
 ghost use Rattle.adp_model.specs.Demand.{IsDemandedCount};
 ghost use Rattle.adp_model.specs.SplitArguments.{SplitArgument, AreRuleArguments};
@@ -93,7 +93,8 @@ impl<'a, M: Memo> Machine<'a, M> {
         })
     }
 
-    /// Makes one step of the memo, or none where the machine has ended. Takes no memory.
+    /// Makes one step of the memo, and counts it; or none where the machine has ended, which is then as before. Takes no
+    /// memory.
     pub fn step<L: Ledger>(&mut self, memo: &M, pass: &mut M::Pass, steps: &mut Steps<L>) -> Turn
         requires memo { M.problem memo.now ≡ self.old.machine.problem }
         requires own { M.is_of memo.now pass.old }
@@ -102,6 +103,7 @@ impl<'a, M: Memo> Machine<'a, M> {
         ensures own { M.is_of memo.now pass.new }
         ensures share { M.meaning.share pass.new ≡ M.meaning.share pass.old }
         ensures known { StayKnown (M.meaning.known pass.old) (M.meaning.known pass.new) }
+        ensures stays { self.old.machine.ended ≡ true → self.new ≡ self.old }
         ensures machine { IsMachine M.meaning IsNotedIn self.new.machine pass.new }
         ensures steps { steps_made steps.new
             ≡ (if self.old.machine.ended then steps_made steps.old else steps_made steps.old + 1) }
@@ -186,7 +188,7 @@ impl<'a, M: Memo> Machine<'a, M> {
         self.work.wins
     }
 
-    /// How many steps of the memo it made; it stays at 2^64 - 1 once it is there. Takes no memory.
+    /// How many steps of the memo it counted; it stays at 2^64 - 1 once it is there. Takes no memory.
     pub fn moves(&self) -> u64
         ensures { result ≡ self.now.machine.moves }
     {

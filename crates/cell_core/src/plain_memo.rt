@@ -248,8 +248,6 @@ impl<'a> Memo for PlainMemo<'a> {
         }
     }
 
-    ghost known_is_published = { λ pass cell known. known };
-
     ghost probe_is_demanded = { plain_probe_is_demanded };
 
     ghost follows_on = { plain_probe_follows_on };

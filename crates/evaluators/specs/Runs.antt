@@ -1,8 +1,10 @@
 -- What evaluators leave, and how a run is remembered.
-use Rattle.std.specs.Prelude.{◌≡◌, ℕ, suc, Bool, true, Option, Some, None, Result, Ok, Err, List, [], ◌∷◌, ◌++◌, map, sum, All}
+use Rattle.std.specs.Prelude.{◌≡◌, ◌↔◌, ℕ, suc, Bool, true, Option, Some, None, Result, Ok, Err, List, [], ◌∷◌, ◌++◌, map, sum, All}
+use Rattle.adp_model.specs.declared.cell.Cell.{Cell}
 use Rattle.adp_model.specs.PosedProblem.{PosedProblem, axiom_cell}
 use Rattle.adp_model.specs.Answers.{IsAnswer}
-use Rattle.adp_model.specs.Demand.{IsDemandedCount}
+use Rattle.adp_model.specs.Demand.{IsDemanded, IsDemandedCount}
+use Rattle.memo_words.specs.Kept.{IsPublished}
 use Rattle.memo_table.specs.declared.probe.Probe.{Probe}
 use Rattle.cell_core.specs.MachineViews.{MachineView}
 use Rattle.evaluators.specs.declared.finished.Finished.{Finished}
@@ -31,8 +33,9 @@ HasFirstEnded (machine ∷ machines) = ended_of machine ≡ true
 
 -- what evaluators leave when they have run for this problem under this seed
 pub record IsFinished (p : PosedProblem) (seed : ℕ) (finished : Finished) : Type 0 where
-  -- the closed table is the problem's: it has exactly the demanded cells, with their answers
+  -- the closed table is the problem's, and has exactly the demanded cells
   pub closed : finished.closed.plan.problem ≡ p
+  pub exactly : (cell : Cell) → IsPublished finished.closed.plan finished.closed.words cell ↔ IsDemanded p cell
   pub answer : IsAnswer p (axiom_cell p) finished.answer
   pub machines : AreMachinesFrom p seed 0 finished.machines.items
   pub first : HasFirstEnded finished.machines.items

@@ -14,7 +14,8 @@ use random_orders::draws_advance_the_generator;
 use std::marker::Brand;
 use std::sync::ledger::{Blank, Ledger};
 
-/// What a worker passes before each step that loads a record word.
+/// What a worker passes before each step that loads a record word. It isn't a gate itself: what is run in a thread of its
+/// own may call no function over a gate, whose bound speaks of threads.
 pub(crate) trait Door {
     fn pass(&self, worker: u32);
 }

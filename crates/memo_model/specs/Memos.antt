@@ -26,12 +26,10 @@ pub record Meaning (Pass Probe : Type 0) : Type 1 where
   pub wins : Pass → ℕ
   -- numbers of a pass that no step changes
   pub share : Pass → List ℕ
-  -- the pass's last step
+  -- the pass's last step, as the pass tells it
   pub last : Pass → Option Access
   -- as far as the pass has found, this word is the record word of the cell
   pub record_word : Pass → Cell → ℕ → Type 0
-  -- as far as the pass has found, an answer of the cell is published
-  pub published : Pass → Cell → Type 0
   -- a probe's cell, and how far it has come
   pub cell : Probe → Cell
   pub stage : Probe → Stage

@@ -3,9 +3,9 @@ use crate::steps::Steps;
 use adp_model::{Answer, Cell};
 use std::sync::ledger::Ledger;
 
-/// A memo of the answers of a problem's demanded cells, shared by those who have a pass. Each step of a probe is one
-/// step on one word of the memo. An answer is put once, by an exchange of its cell's record word from 0, and then
-/// stays. None of the calls takes memory.
+/// A memo of the answers of a problem's demanded cells, shared by those who have a pass. Each step of a probe counts
+/// exactly one step. An answer is put once, by an exchange of its cell's record word from 0, and then stays; that one is
+/// published of each cell that a pass knows is for the rule of the memo to keep. None of the calls takes memory.
 pub trait Memo {
     ghost use Rattle.std.specs.Prelude.{◌≡◌, ◌≢◌, ◌↔◌, ℕ, ◌+◌, ◌*◌, ◌<◌, ◌≤◌, ◌⊎◌, Bool, true};
     ghost use Rattle.adp_model.specs.declared.cell.Cell.{Cell};
@@ -116,10 +116,6 @@ pub trait Memo {
         ensures some_left { (m : ℕ) → IsDemandedCount (problem self.now) m → result ≡ Publish.Going
             → 0 < meaning.remaining m probe.new }
         ensures steps { steps_made steps.new ≡ steps_made steps.old + 1 };
-
-    /// A known cell is published.
-    ghost known_is_published: { (pass : Self.Pass) (cell : Cell) → meaning.known pass cell
-        → meaning.published pass cell };
 
     /// A probe's cell is demanded.
     ghost probe_is_demanded: { (memo : Self) (pass : Self.Pass) (probe : Self.Probe) → is_of memo pass

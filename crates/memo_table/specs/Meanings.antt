@@ -33,7 +33,7 @@ pub record IsRecordWord (pass : Pass) (cell : Cell) (word : ℕ) : Type 0 where
 abbrev pub knows : Pass → Cell → Type 0
 knows pass cell = Contains (view_of pass).known cell
 
--- of each cell that a pass knows the rule of the table says that an answer is published
+-- the rule of the table says that an answer is published of each cell that a pass knows
 abbrev pub table_meaning : Meaning Pass Probe
 table_meaning = record {
   known = knows;
@@ -42,7 +42,6 @@ table_meaning = record {
   share = share_of;
   last = λ pass. access_of (view_of pass).last;
   record_word = IsRecordWord;
-  published = knows;
   cell = λ probe. probe.cell;
   stage = λ probe. stage_of probe.next;
   follows = Follows;

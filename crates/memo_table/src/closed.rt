@@ -132,6 +132,7 @@ impl Answers for Closed {
     fn answer(&self, cell: Cell) -> Option<Answer>
         ensures told { IfSome result (λ answer. IsAnswer self.now.plan.problem cell answer) }
         ensures demanded { IsDemanded self.now.plan.problem cell → IsSome result }
+        ensures only { IsSome result → IsDemanded self.now.plan.problem cell }
         ensures published { IsSome result ↔ IsPublished self.now.plan self.now.words cell }
     {
         self.settled();

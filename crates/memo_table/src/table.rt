@@ -95,8 +95,6 @@ impl Memo for Table {
         self.publish(pass, probe, answer, steps)
     }
 
-    ghost known_is_published = { λ pass cell known. known };
-
     ghost probe_is_demanded = { demanded_by };
 
     ghost follows_on = { follows_on };

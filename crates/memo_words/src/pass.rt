@@ -6,8 +6,8 @@ use crate::view::View;
 use crate::word_step::WordStep;
 use atomic_table::Seat;
 
-/// What one evaluator knows of the words, its right to step on them, the record that it has in hand, and its last step.
-/// Contracts see its view (`view_of`), the number of that record (`hand_of`) and the step (`made_of`).
+/// What one evaluator knows of the words, its right to step on them, the record that it has in hand, and its last step
+/// as that was told. Contracts see its view (`view_of`), the number of that record (`hand_of`) and the step (`made_of`).
 #[derive(Drop)]
 pub struct Pass {
     pub(crate) seat: Seat<u8, View>,
@@ -33,7 +33,7 @@ impl Pass {
     }
 
     /// The last step, `None` where it made none yet: the word that it was on, what it did with it, and the value that
-    /// it found there, or stored in it.
+    /// it told, or stored in it.
     pub fn last_step(&self) -> Option<WordStep>
         ensures made { result ≡ made_of self.now }
         ensures last { IsLast result (view_of self.now) }

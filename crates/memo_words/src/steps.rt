@@ -1,4 +1,6 @@
-//! The steps of a pass on the words. Each is one load, store, exchange or addition on one word.
+//! The steps of a pass on the words: one load, store, exchange or addition on one word each. A clause says that each
+//! counts exactly one step, and what it tells the pass. That it makes no other, and that a load which tells 0 found 0,
+//! is shown by this file alone.
 
 use crate::codes::cell_code;
 use crate::part::Part;

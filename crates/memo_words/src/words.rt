@@ -38,8 +38,8 @@ impl Words {
     ghost use Rattle.memo_words.specs.Steps.{IsClosing};
     ghost use Rattle.memo_words.specs.Passes.{view_of, hand_of, plan_of, problem_of, rest_slots, rest_records, rest_words, IsPassOf};
 
-    /// Words that are all 0, and the first pass. It knows nothing and owns nothing; of the seats it has one, and may
-    /// split off the others.
+    /// Words that are all 0, as the rule asks of new ones (`unbegun`), and the first pass. It knows nothing and owns
+    /// nothing; of the seats it has one, and may split off the others.
     pub fn new(
         alloc: Global,
         problem: &Problem<'_>,

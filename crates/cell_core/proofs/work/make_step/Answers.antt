@@ -55,7 +55,8 @@ look-requires-clause-no_hand g c = c.take.ensures.after
 
 pub look-requires-clause-sound : goal.look-requires-clause-sound
 look-requires-clause-sound g c =
-    sound_by_parts g.M.Memo.meaning c.args.problem.now c.args.pass.now (g.N.Notes.noted c.args.notes.now) c.args.work.now _ _ (sym c.take.ensures.value ∙ c.in-Some.is) refl c.requires.sound
+    sound_by_parts g.M.Memo.meaning c.args.problem.now c.args.pass.now (g.N.Notes.noted c.args.notes.now) c.args.work.now _ _
+    (sym c.take.ensures.value ∙ c.in-Some.is) refl c.requires.sound
 
 pub settle-requires-clause-memo : goal.settle-requires-clause-memo
 settle-requires-clause-memo g c = c.requires.memo
@@ -95,7 +96,9 @@ publish-requires-clause-taken g c = c.take-in-Some-ready.ensures.after
 
 pub publish-requires-clause-sound : goal.publish-requires-clause-sound
 publish-requires-clause-sound g c =
-    sound_by_parts g.M.Memo.meaning c.args.problem.now c.args.pass.now (g.N.Notes.noted c.args.notes.now) c.args.work.now _ _ (sym c.take.ensures.value ∙ c.in-None.is ∙ sym c.take.ensures.after) (sym c.take-in-Some-ready.ensures.value ∙ c.in-Some-take.is) c.requires.sound
+    sound_by_parts g.M.Memo.meaning c.args.problem.now c.args.pass.now (g.N.Notes.noted c.args.notes.now) c.args.work.now _ _
+    (sym c.take.ensures.value ∙ c.in-None.is ∙ sym c.take.ensures.after)
+    (sym c.take-in-Some-ready.ensures.value ∙ c.in-Some-take.is) c.requires.sound
 
 pub settle-requires-in-Some-take-clause-memo : goal.settle-requires-in-Some-take-clause-memo
 settle-requires-in-Some-take-clause-memo g c = c.requires.memo
@@ -129,7 +132,8 @@ first_look-hand-requires-clause-no_answer g c = c.in-None-ready.is
 
 pub first_look-hand-requires-clause-sound : goal.first_look-hand-requires-clause-sound
 first_look-hand-requires-clause-sound g c =
-    sound_by_parts g.M.Memo.meaning c.args.problem.now c.args.pass.now (g.N.Notes.noted c.args.notes.now) c.args.work.now _ _ (sym c.take.ensures.value ∙ c.in-None.is ∙ sym c.take.ensures.after) refl c.requires.sound
+    sound_by_parts g.M.Memo.meaning c.args.problem.now c.args.pass.now (g.N.Notes.noted c.args.notes.now) c.args.work.now _ _
+    (sym c.take.ensures.value ∙ c.in-None.is ∙ sym c.take.ensures.after) refl c.requires.sound
 
 pub look-requires-in-None-ready-clause-memo : goal.look-requires-in-None-ready-clause-memo
 look-requires-in-None-ready-clause-memo g c = c.requires.memo
@@ -197,13 +201,15 @@ returns-in-Some-clause-sound g c = c.settle.ensures.sound
 
 pub returns-in-Some-clause-loads : goal.returns-in-Some-clause-loads
 returns-in-Some-clause-loads g c =
-    loads_by_parts g.M.Memo.meaning c.args.problem.now c.look.new.pass (g.M.Memo.fresh_loads c.args.memo.now) _ false _ _ _ _ c.requires.going (sym c.take.ensures.value ∙ c.in-Some.is) refl
+    loads_by_parts g.M.Memo.meaning c.args.problem.now c.look.new.pass (g.M.Memo.fresh_loads c.args.memo.now) _
+    false _ _ _ _ c.requires.going (sym c.take.ensures.value ∙ c.in-Some.is) refl
     c.look.ensures.loads
 
 pub returns-in-Some-clause-lower : goal.returns-in-Some-clause-lower
 returns-in-Some-clause-lower g c = λ m arguments counted all.
     falls_then _ _ _ _ (c.settle.ensures.lower m arguments counted all) (c.look.ensures.lower m arguments counted)
-    (left_by_parts g.M.Memo.meaning c.args.problem.now c.args.pass.now m arguments c.args.work.now _ _ (sym c.take.ensures.value ∙ c.in-Some.is) refl)
+    (left_by_parts g.M.Memo.meaning c.args.problem.now c.args.pass.now m arguments c.args.work.now _ _
+    (sym c.take.ensures.value ∙ c.in-Some.is) refl)
 
 pub returns-in-Some-take-clause-notes : goal.returns-in-Some-take-clause-notes
 returns-in-Some-take-clause-notes g c = c.publish.ensures.notes
@@ -235,12 +241,16 @@ returns-in-Some-take-clause-sound g c = c.settle-in-Some-take.ensures.sound
 
 pub returns-in-Some-take-clause-loads : goal.returns-in-Some-take-clause-loads
 returns-in-Some-take-clause-loads g c =
-    loads_by_parts g.M.Memo.meaning c.args.problem.now c.publish.new.pass (g.M.Memo.fresh_loads c.args.memo.now) _ false _ None _ _ c.requires.going (sym c.take.ensures.value ∙ c.in-None.is) c.in-Some-ready.is refl
+    loads_by_parts g.M.Memo.meaning c.args.problem.now c.publish.new.pass (g.M.Memo.fresh_loads c.args.memo.now) _
+    false _ None _ _ c.requires.going (sym c.take.ensures.value ∙ c.in-None.is) c.in-Some-ready.is refl
 
 pub returns-in-Some-take-clause-lower : goal.returns-in-Some-take-clause-lower
 returns-in-Some-take-clause-lower g c = λ m arguments counted all.
-    falls_then _ _ _ _ (c.settle-in-Some-take.ensures.lower m arguments counted all) (c.publish.ensures.lower m arguments counted)
-    (left_by_parts g.M.Memo.meaning c.args.problem.now c.args.pass.now m arguments c.args.work.now _ _ (sym c.take.ensures.value ∙ c.in-None.is ∙ sym c.take.ensures.after) (sym c.take-in-Some-ready.ensures.value ∙ c.in-Some-take.is))
+    falls_then _ _ _ _ (c.settle-in-Some-take.ensures.lower m arguments counted all)
+    (c.publish.ensures.lower m arguments counted)
+    (left_by_parts g.M.Memo.meaning c.args.problem.now c.args.pass.now m arguments c.args.work.now _ _
+    (sym c.take.ensures.value ∙ c.in-None.is ∙ sym c.take.ensures.after)
+    (sym c.take-in-Some-ready.ensures.value ∙ c.in-Some-take.is))
 
 pub returns-in-None-ready-clause-notes : goal.returns-in-None-ready-clause-notes
 returns-in-None-ready-clause-notes g c = c.look-in-None-ready.ensures.notes
@@ -273,12 +283,16 @@ returns-in-None-ready-clause-sound g c = c.settle-in-None-ready.ensures.sound
 pub returns-in-None-ready-clause-loads : goal.returns-in-None-ready-clause-loads
 returns-in-None-ready-clause-loads g c =
     let seen = λ (cell : Cell). (found : ℕ) × IsOnRecordWord g.M.Memo.meaning c.look-in-None-ready.new.pass cell found in
-    loads_by_parts g.M.Memo.meaning c.args.problem.now c.look-in-None-ready.new.pass (g.M.Memo.fresh_loads c.args.memo.now) _ false _ None _ None c.requires.going (sym c.take.ensures.value ∙ c.in-None.is) c.in-None-ready.is
+    loads_by_parts g.M.Memo.meaning c.args.problem.now c.look-in-None-ready.new.pass (g.M.Memo.fresh_loads c.args.memo.now) _
+    false _ None _ None c.requires.going (sym c.take.ensures.value ∙ c.in-None.is) c.in-None-ready.is
     (subst (λ (cell : Cell). (g.M.Memo.fresh_loads c.args.memo.now ≡ true) ↔ seen cell) c.first_look-hand.ensures.cell
     (subst (λ told. (told ≡ true) ↔ seen c.first_look-hand.result.cell) c.first_look-hand.ensures.loads
     c.look-in-None-ready.ensures.loads))
 
 pub returns-in-None-ready-clause-lower : goal.returns-in-None-ready-clause-lower
 returns-in-None-ready-clause-lower g c = λ m arguments counted all.
-    falls_then _ _ _ _ (c.settle-in-None-ready.ensures.lower m arguments counted all) (c.look-in-None-ready.ensures.lower m arguments counted)
-    (le_trans (c.first_look-hand.ensures.lower m arguments counted) (left_by_parts g.M.Memo.meaning c.args.problem.now c.args.pass.now m arguments c.args.work.now _ _ (sym c.take.ensures.value ∙ c.in-None.is ∙ sym c.take.ensures.after) refl))
+    falls_then _ _ _ _ (c.settle-in-None-ready.ensures.lower m arguments counted all)
+    (c.look-in-None-ready.ensures.lower m arguments counted)
+    (le_trans (c.first_look-hand.ensures.lower m arguments counted)
+    (left_by_parts g.M.Memo.meaning c.args.problem.now c.args.pass.now m arguments c.args.work.now _ _
+    (sym c.take.ensures.value ∙ c.in-None.is ∙ sym c.take.ensures.after) refl))

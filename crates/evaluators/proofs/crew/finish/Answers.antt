@@ -1,6 +1,7 @@
-use Rattle.std.proofs.Common.{◌≡◌, sum, sym, ap, ◌∙◌, subst}
+use Rattle.std.proofs.Common.{◌≡◌, ◌↔◌, sum, sym, ap, ◌∙◌, subst}
 use Rattle.adp_model.specs.PosedProblem.{PosedProblem}
-use Rattle.adp_model.specs.Demand.{IsDemandedCount}
+use Rattle.adp_model.specs.Demand.{IsDemanded, IsDemandedCount}
+use Rattle.memo_words.specs.Kept.{IsPublished}
 use Rattle.memo_words.specs.Layout.{Plan}
 use Rattle.memo_words.specs.Passes.{problem_of}
 use Rattle.evaluators.specs.Runs.{AreMachinesFrom}
@@ -17,6 +18,9 @@ returns-clause-finished c =
     sym (c.close-closed.ensures.wins counted.0 there) ∙ joined.wins in
     record {
       closed = ap (λ (plan : Plan). plan.problem) c.close-closed.ensures.plan ∙ c.requires.same;
+      exactly = λ cell.
+          subst (λ (q : PosedProblem). IsPublished c.close-closed.result.plan c.close-closed.result.words cell ↔ IsDemanded q cell)
+          c.requires.same (c.close-closed.ensures.published cell);
       answer = c.axiom_answer-answer.ensures;
       machines = subst (λ (q : PosedProblem). AreMachinesFrom q c.args.seed 0 c.args.left.machines.items)
           c.requires.same joined.machines;
