@@ -10,7 +10,7 @@ use Rattle.memo_model.specs.declared.visit.Frame.{Frame}
 use Rattle.adp_model.specs.PosedProblem.{PosedProblem}
 use Rattle.adp_model.specs.ProblemFields.{most_cells}
 use Rattle.adp_model.specs.Demand.{IsDemandedCount}
-use Rattle.memo_model.specs.Memos.{Meaning, IsOnRecordWord, AddsNothing}
+use Rattle.memo_model.specs.Memos.{Meaning, HasLoaded, AddsNothing}
 use Rattle.memo_model.specs.Machines.{is_known, AreFewOpened, KnowsSoMany}
 use Rattle.rand_pcg.specs.Lcg.{Lcg}
 use Rattle.random_orders.specs.Draws.{drawn_turns}
@@ -91,13 +91,13 @@ module _ {Pass Probe : Type 0} (memo : Meaning Pass Probe) (p : PosedProblem) (p
   pub frame_added : (height : Cell → ℕ) (cell : Cell) (frames frames' : List (Frame Probe)) (opened opened' : ℕ)
       (orders orders' : Lcg) (top : Frame Probe) → frames' ≡ top ∷ frames → top.visit.cell ≡ cell
       → AllByRecursion (λ (frame : Frame Probe). height cell < height frame.visit.cell) frames
-      → IsOnRecordWord memo pass' cell 0 → AddsNothing (memo.known pass) (memo.known pass') → (memo.known pass cell → ⊥)
+      → HasLoaded memo pass' cell 0 → AddsNothing (memo.known pass) (memo.known pass') → (memo.known pass cell → ⊥)
       → (top.visit.first ∷ top.visit.turns, orders') ≡ drawn_turns (turn_bounds p cell) orders → opened' ≡ opened + 1
       → IsFrameAdded memo p pass pass' (standing frames opened orders) (standing frames' opened' orders')
   frame_added height cell frames frames' opened opened' orders orders' top are here above on nothing unknown drawn number = record {
     opening = opening_of top;
     added = ap (map opening_of) are;
-    unpublished = subst (λ c. IsOnRecordWord memo pass' c 0) (sym here) on;
+    unpublished = subst (λ c. HasLoaded memo pass' c 0) (sym here) on;
     not_known = λ h. unknown (subst (memo.known pass) here (nothing top.visit.cell h));
     in_no_frame = λ other has same. no_frame_so height cell frames above other has (same ∙ here);
     turns = subst (λ c. (top.visit.first ∷ top.visit.turns, orders') ≡ drawn_turns (turn_bounds p c) orders) (sym here) drawn;

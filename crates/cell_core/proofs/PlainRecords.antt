@@ -1,5 +1,5 @@
 -- Records at their places, and what a new one changes.
-use Rattle.std.proofs.Common.{◌≡◌, ℕ, pos, negsuc, zero, suc, ◌+◌, ◌<◌, ◌⊎◌, inl, inr, Option, Some, None, List, [], ◌∷◌, length, slice_get, slice_set, replicate, refl, sym, ap, subst, ◌∙◌, arith}
+use Rattle.std.proofs.Common.{◌≡◌, ℕ, pos, negsuc, zero, suc, ◌+◌, ◌<◌, ◌⊎◌, inl, inr, Bool, Option, Some, None, List, [], ◌∷◌, length, slice_get, slice_set, replicate, refl, sym, ap, subst, ◌∙◌, arith}
 use Rattle.std.proofs.lemmas.List.{length-replicate}
 use Rattle.std.proofs.lemmas.Option.{same_Some}
 use Rattle.adp_model.specs.declared.cell.Answer.{Answer}
@@ -10,9 +10,12 @@ use Rattle.adp_model.specs.PosedProblem.{PosedProblem}
 use Rattle.adp_model.specs.Answers.{IsAnswer}
 use Rattle.adp_model.specs.Cells.{IsCounted, IsCellBound, IsPlaceOf}
 use Rattle.cell_core.specs.declared.plain_memo.Record.{Record}
-use Rattle.memo_model.specs.Memos.{Access, IsOnRecordWord, IsScoreOf}
+use Rattle.memo_model.specs.Memos.{IsOnRecordWord, IsScoreOf}
+use Rattle.history_table.specs.declared.history.Deed.{Deed}
+use Rattle.history_table.specs.declared.history.Event.{Event}
+use Rattle.history_table.specs.History.{event}
 use Rattle.cell_core.specs.PlainScores.{score_in}
-use Rattle.cell_core.specs.PlainMemos.{PlainState, AreRecords, HasRecord, FoundAt, record_count, value_of, access_of, plain_meaning}
+use Rattle.cell_core.specs.PlainMemos.{PlainState, AreRecords, HasRecord, FoundAt, record_count, value_of, deed_of, step_of, plain_meaning}
 
 set_same : {X : Type 0} (xs : List X) (k : ℕ) (x : X) → k < length xs → slice_get (slice_set xs k x) k ≡ Some x
 set_same [] k x inside = absurd (omega arith)
@@ -102,34 +105,29 @@ known_only records k it inside cell (j, other, e, same) differ = go (set_cases r
     go (inl found) = absurd (differ (sym same ∙ ap (λ (x : Record). x.cell) (sym found.1)))
     go (inr there) = (j, other, there, same)
 
--- ---- what a load tells
+-- ---- what a step tells
 
--- the pass's last load was at the cell's place
-pub on_record : (p : PosedProblem) (pass : PlainState) (cell : Cell) (place : ℕ) (found : Option Answer)
-    → pass.problem ≡ p → IsPlaceOf p.grammar (length p.word) cell place
-    → pass.last ≡ Some (record { place = place; found = found })
-    → IsOnRecordWord plain_meaning pass cell (value_of found)
-on_record p pass cell place found same at last = (
+-- the pass's last step was at the cell's place
+pub on_record : (p : PosedProblem) (pass : PlainState) (cell : Cell) (place : ℕ) (exchanges : Bool)
+    (found : Option Answer) → pass.problem ≡ p → IsPlaceOf p.grammar (length p.word) cell place
+    → pass.last ≡ Some (record { place = place; exchanges = exchanges; found = found })
+    → IsOnRecordWord plain_meaning pass cell (deed_of exchanges) (value_of found)
+on_record p pass cell place exchanges found same at last = (
   place,
   subst (λ (q : PosedProblem). IsPlaceOf q.grammar (length q.word) cell place)
       (sym same) at,
-  ap access_of last,
+  ap step_of last,
 )
 
--- what the last step found is what the last load found
-pub value_is : (pass : PlainState) (cell : Cell) (place value : ℕ) (found : Option Answer)
-    → pass.last ≡ Some (record { place = place; found = found })
-    → IsOnRecordWord plain_meaning pass cell value → value ≡ value_of found
-value_is pass cell place value found last (word, at, access) = same word value (sym access ∙ ap access_of last)
-  where
-    same : (word value : ℕ) → Some (record { word = word; found = value }) ≡ access_of
-        (Some (record { place = place; found = found }))
-        → value ≡ value_of found
-    same word value e =
-        let it : Access = record { word = word; found = value } in
-        let other : Access = record { word = place; found = value_of found } in
-        let f : it ≡ other = same_Some it other e in
-        ap (λ (x : Access). x.found) f
+-- what the last step found is the answer that was found
+pub value_is : (pass : PlainState) (cell : Cell) (place : ℕ) (exchanges : Bool) (deed : Deed) (value : ℕ)
+    (found : Option Answer) → pass.last ≡ Some (record { place = place; exchanges = exchanges; found = found })
+    → IsOnRecordWord plain_meaning pass cell deed value → value ≡ value_of found
+value_is pass cell place exchanges deed value found last (word, at, step) =
+    let it : Event = event word deed value in
+    let other : Event = event place (deed_of exchanges) (value_of found) in
+    let f : it ≡ other = same_Some it other (sym step ∙ ap step_of last) in
+    ap (λ (x : Event). x.found) f
 
 pub some_value : (answer : Answer) → 0 < value_of (Some answer)
 some_value NoCandidate = omega arith

@@ -15,7 +15,7 @@ use Rattle.adp_model.specs.Answers.{IsAnswer}
 use Rattle.adp_model.specs.Demand.{IsDemanded, IsDemandedChild}
 use Rattle.adp_model.specs.SplitArguments.{SplitArgument, AsksFor, IsSplitArgument, AreRuleArguments}
 use Rattle.memo_model.specs.Visits.{argument_at, is_behind, IsWalk}
-use Rattle.memo_model.specs.Memos.{Meaning, IsOnRecordWord, IsScoreOf, StayKnown, AddsNothing, AddsAtMost, IsAdded}
+use Rattle.memo_model.specs.Memos.{Meaning, HasLoaded, IsScoreOf, StayKnown, AddsNothing, AddsAtMost, IsAdded}
 use Rattle.memo_model.specs.Machines.{AreFrames, IsInHand, IsFollowing, IsWaiting, IsGoing, AreFewOpened, KnowsSoMany}
 use Rattle.memo_model.specs.StepBound.{steps_left}
 use Rattle.cell_core.specs.declared.work.Work.{Work}
@@ -139,11 +139,11 @@ module _ {Pass Probe : Type 0} {memo : Meaning Pass Probe} {p : PosedProblem} wh
 
       -- on which word the step was is told of the cell
       pub loads_told : {pass' : Pass}
-          → ((memo.loads hand.probe ≡ true) ↔ ((found : ℕ) × IsOnRecordWord memo pass' (memo.cell hand.probe) found))
-          → ((memo.loads hand.probe ≡ true) ↔ ((found : ℕ) × IsOnRecordWord memo pass' hand.cell found))
+          → ((memo.loads hand.probe ≡ true) ↔ ((found : ℕ) × HasLoaded memo pass' (memo.cell hand.probe) found))
+          → ((memo.loads hand.probe ≡ true) ↔ ((found : ℕ) × HasLoaded memo pass' hand.cell found))
       loads_told {pass'} told =
           subst (λ (cell : Cell).
-          (memo.loads hand.probe ≡ true) ↔ ((found : ℕ) × IsOnRecordWord memo pass' cell found)) hand_is_in.cell told
+          (memo.loads hand.probe ≡ true) ↔ ((found : ℕ) × HasLoaded memo pass' cell found)) hand_is_in.cell told
 
       -- while its probe has a step left, so has the work
       pub some_left : {probe' : Probe} (m : ℕ) (arguments : List SplitArgument)

@@ -5,7 +5,7 @@ use Rattle.adp_model.specs.declared.cell.Cell.{Cell}
 use Rattle.memo_model.specs.declared.visit.Frame.{Frame}
 use Rattle.adp_model.specs.PosedProblem.{PosedProblem}
 use Rattle.adp_model.specs.Parts.{alternatives_of}
-use Rattle.memo_model.specs.Memos.{Meaning, IsOnRecordWord}
+use Rattle.memo_model.specs.Memos.{Meaning, HasLoaded, HasExchanged}
 use Rattle.rand_pcg.specs.Lcg.{Lcg}
 use Rattle.random_orders.specs.Draws.{drawn_turns}
 
@@ -40,17 +40,17 @@ module _ {Pass Probe : Type 0} (memo : Meaning Pass Probe) where
   pub record IsFrameAdded (p : PosedProblem) (pass pass' : Pass) (before after : Standing) : Type 0 where
     pub opening : Opening
     pub added : after.openings ≡ opening ∷ before.openings
-    pub unpublished : IsOnRecordWord memo pass' opening.cell 0
+    pub unpublished : HasLoaded memo pass' opening.cell 0
     pub not_known : memo.known pass' opening.cell → ⊥
     pub in_no_frame : (other : Opening) → Contains before.openings other → other.cell ≡ opening.cell → ⊥
     pub turns : (opening.first ∷ opening.turns, after.orders) ≡ drawn_turns (turn_bounds p opening.cell) before.orders
     pub opened : after.opened ≡ before.opened + 1
 
-  -- the step was the last one of a publication: it was on the cell's record word, and the wins of the pass rose by one
-  -- where it found 0 there, and not where it found another value
+  -- the step was the last one of a publication: it exchanged the cell's record word, and the wins of the pass rose by
+  -- one where it found 0 there, and not where it found another value
   pub record EndsPublication (pass pass' : Pass) (cell : Cell) : Type 0 where
     pub found : ℕ
-    pub on_word : IsOnRecordWord memo pass' cell found
+    pub on_word : HasExchanged memo pass' cell found
     pub won : found ≡ 0 → memo.wins pass' ≡ memo.wins pass + 1
     pub lost : 0 < found → memo.wins pass' ≡ memo.wins pass
 

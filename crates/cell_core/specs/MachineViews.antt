@@ -5,7 +5,7 @@ use Rattle.adp_model.specs.declared.cell.Cell.{Cell}
 use Rattle.memo_model.specs.declared.visit.Hand.{Hand}
 use Rattle.adp_model.specs.PosedProblem.{PosedProblem, axiom_cell}
 use Rattle.adp_model.specs.Demand.{IsDemanded}
-use Rattle.memo_model.specs.Memos.{Meaning, IsOnRecordWord}
+use Rattle.memo_model.specs.Memos.{Meaning, HasLoaded}
 use Rattle.memo_model.specs.Machines.{MachineState}
 use Rattle.cell_tables.specs.Noted.{Notes, IsNoted}
 use Rattle.rand_pcg.specs.Lcg.{Lcg}
@@ -72,4 +72,4 @@ looked_for p None None = Some (axiom_cell p)
 -- a step that looked for this cell loaded its record word exactly where that was told
 abbrev pub LoadsAsTold : {Pass Probe : Type 0} → Meaning Pass Probe → Pass → Option Cell → Bool → Type 0
 LoadsAsTold memo pass None told = told ≡ false
-LoadsAsTold memo pass (Some cell) told = (told ≡ true) ↔ ((found : ℕ) × IsOnRecordWord memo pass cell found)
+LoadsAsTold memo pass (Some cell) told = (told ≡ true) ↔ ((found : ℕ) × HasLoaded memo pass cell found)

@@ -1,6 +1,6 @@
 -- A plain memo: what contracts see of its pass and its probes. The places of the counted cells number its records.
 use Rattle.std.proofs.Common.{refl, ap, sym, subst, ◌∙◌, arith}
-use Rattle.std.specs.Prelude.{◌≡◌, ℕ, ◌+◌, ◌*◌, ℤ, pos, negsuc, zero, suc, ◌⊎◌, true, Option, Some, None, List, [], ◌∷◌, length, slice_get}
+use Rattle.std.specs.Prelude.{◌≡◌, ℕ, ◌+◌, ◌*◌, ℤ, pos, negsuc, zero, suc, ◌⊎◌, Bool, true, false, Option, Some, None, List, [], ◌∷◌, length, slice_get}
 use mathlib.Core.Logic.{inl, inr}
 use Rattle.adp_model.specs.declared.cell.Answer.{Answer}
 use Rattle.adp_model.specs.declared.cell.Answer.TheVariants.{NoCandidate, Best}
@@ -11,16 +11,20 @@ use Rattle.adp_model.specs.PosedProblem.{PosedProblem}
 use Rattle.adp_model.specs.Answers.{IsAnswer}
 use Rattle.adp_model.specs.Cells.{IsCounted, IsCellBound, IsPlaceOf}
 use Rattle.adp_model.specs.Demand.{IsDemanded}
-use Rattle.memo_model.specs.Memos.{Access, Meaning}
+use Rattle.history_table.specs.declared.history.Deed.{Deed}
+use Rattle.history_table.specs.declared.history.Deed.TheVariants as deeds
+use Rattle.history_table.specs.declared.history.Event.{Event}
+use Rattle.history_table.specs.History.{event}
+use Rattle.memo_model.specs.Memos.{Meaning}
+use Rattle.cell_core.specs.declared.plain_memo.Access.{Access}
 use Rattle.cell_core.specs.declared.plain_memo.Record.{Record}
-use Rattle.cell_core.specs.declared.plain_memo.Load.{Load}
 use Rattle.cell_core.specs.declared.plain_memo.PlainProbe.{PlainProbe}
 
--- the records by their places, and the last one that was loaded
+-- the records by their places, and the last step on one
 pub record PlainState : Type 0 where
   pub problem : PosedProblem
   pub records : List (Option Record)
-  pub last : Option Load
+  pub last : Option Access
 
 -- each place has a record or none, and a record has the answer of the cell whose place it stands at
 pub record AreRecords (p : PosedProblem) (records : List (Option Record)) : Type 0 where
@@ -83,9 +87,9 @@ record_count [] = 0
 record_count (None ∷ records) = record_count records
 record_count (Some it ∷ records) = record_count records + 1
 
--- ---- loads
+-- ---- steps
 
--- what a load at the place finds: the answer of its record, or none
+-- what a step at the place finds: the answer of its record, or none
 abbrev pub FoundAt : List (Option Record) → ℕ → Option Answer → Type 0
 FoundAt records place None = slice_get records place ≡ Some None
 FoundAt records place (Some answer) =
@@ -96,15 +100,19 @@ abbrev pub score_number : ℤ → ℕ
 score_number (pos n) = 2 + 2 * n
 score_number (negsuc n) = 3 + 2 * n
 
--- the value that a load found: 0 where there is no record, 1 where there is no candidate
+-- the value that a step found: 0 where there is no record, 1 where there is no candidate
 abbrev pub value_of : Option Answer → ℕ
 value_of None = 0
 value_of (Some NoCandidate) = 1
 value_of (Some (Best score choice)) = score_number score
 
-abbrev pub access_of : Option Load → Option Access
-access_of None = None
-access_of (Some load) = Some (record { word = load.place; found = value_of load.found })
+abbrev pub deed_of : Bool → Deed
+deed_of false = deeds.Load
+deed_of true = deeds.Exchange 0 1
+
+abbrev pub step_of : Option Access → Option Event
+step_of None = None
+step_of (Some access) = Some (event access.place (deed_of access.exchanges) (value_of access.found))
 
 -- ---- passes and probes
 
@@ -125,7 +133,7 @@ plain_meaning = record {
   known_or_not = λ pass. has_record_or_not pass.records;
   wins = λ pass. record_count pass.records;
   share = λ pass. [];
-  last = λ pass. access_of pass.last;
+  last = λ pass. step_of pass.last;
   record_word = λ pass. IsPlaceOf pass.problem.grammar (length pass.problem.word);
   cell = λ probe. probe.cell;
   stage = λ probe. probe.stage;

@@ -93,14 +93,16 @@ impl<'a, M: Memo> Machine<'a, M> {
         })
     }
 
-    /// Makes one step of the memo, and counts it; or none where the machine has ended, which is then as before. Takes no
-    /// memory.
+    /// Makes exactly one step of the memo, and counts it; or none where the machine has ended, and then pass and
+    /// machine are as before. Takes no memory.
     pub fn step<L: Ledger>(&mut self, memo: &M, pass: &mut M::Pass, steps: &mut Steps<L>) -> Turn
         requires memo { M.problem memo.now ≡ self.old.machine.problem }
         requires own { M.is_of memo.now pass.old }
         requires machine { IsMachine M.meaning IsNotedIn self.old.machine pass.old }
         ensures problem { self.new.machine.problem ≡ self.old.machine.problem }
         ensures own { M.is_of memo.now pass.new }
+        ensures on { self.old.machine.ended ≡ false → M.goes_on pass.old pass.new }
+        ensures still { self.old.machine.ended ≡ true → pass.new ≡ pass.old }
         ensures share { M.meaning.share pass.new ≡ M.meaning.share pass.old }
         ensures known { StayKnown (M.meaning.known pass.old) (M.meaning.known pass.new) }
         ensures stays { self.old.machine.ended ≡ true → self.new ≡ self.old }

@@ -19,10 +19,11 @@ pub struct Record {
     pub answer: Answer,
 }
 
-/// A load of a record: its place, and the answer that was found there.
+/// A step on a record: its place, whether a record was to be put there, and the answer that was found there.
 #[derive(Clone, Copy)]
-pub struct Load {
+pub struct Access {
     pub place: u32,
+    pub exchanges: bool,
     pub found: Option<Answer>,
 }
 
@@ -45,12 +46,12 @@ impl<'a> Model for PlainMemo<'a> {
 }
 
 /// The one pass of a plain memo: for each place of a counted cell the cell's record, once it is published. Contracts
-/// see it as the problem, the records and the last load.
+/// see it as the problem, the records and the last step.
 #[derive(Drop)]
 pub struct PlainPass<'a> {
     problem: &'a Problem<'a>,
     records: Vec<Option<Record>>,
-    last: Option<Load>,
+    last: Option<Access>,
 }
 
 impl<'a> Model for PlainPass<'a> {
@@ -129,19 +130,23 @@ impl<'a> PlainPass<'a> {
         let _ = &self.problem;
     }
 
-    /// Loads the record at a place.
-    fn load(&mut self, place: u32) -> Option<Answer>
+    /// Finds the record at a place, where a record is to be put or not.
+    fn find(&mut self, place: u32, exchanges: bool) -> Option<Answer>
         requires { place < length self.old.records }
         ensures problem { self.new.problem ≡ self.old.problem }
         ensures records { self.new.records ≡ self.old.records }
-        ensures last { self.new.last ≡ Some (record { place = place; found = result }) }
+        ensures last { self.new.last ≡ Some (record { place = place; exchanges = exchanges; found = result }) }
         ensures found { FoundAt self.old.records place result }
     {
         let found = match self.records[place as usize] {
             Some(it) => Some(it.answer),
             None => None,
         };
-        self.last = Some(Load { place, found });
+        self.last = Some(Access {
+            place,
+            exchanges,
+            found,
+        });
         found
     }
 
@@ -209,7 +214,7 @@ impl<'a> Memo for PlainMemo<'a> {
         places_tell_cells_apart();
         let place = self.place(pass, probe);
         steps.count();
-        match pass.load(place) {
+        match pass.find(place, false) {
             None => {
                 probe.stage = Stage::Unpublished;
                 Look::Unpublished
@@ -233,7 +238,7 @@ impl<'a> Memo for PlainMemo<'a> {
         let place = self.place(pass, probe);
         steps.count();
         probe.stage = Stage::Done;
-        match pass.load(place) {
+        match pass.find(place, true) {
             Some(_) => Publish::Lost,
             None => {
                 pass.put(

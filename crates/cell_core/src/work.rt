@@ -6,7 +6,7 @@ ghost use Rattle.adp_model.specs.Demand.{IsDemanded, IsDemandedCount};
 ghost use Rattle.adp_model.specs.SplitArguments.{SplitArgument, AreRuleArguments};
 ghost use Rattle.memo_model.specs.StepsMade.{steps_made};
 ghost use Rattle.memo_model.specs.Visits.{IsWalk};
-ghost use Rattle.memo_model.specs.Memos.{IsOnRecordWord, IsScoreOf, StayKnown};
+ghost use Rattle.memo_model.specs.Memos.{HasLoaded, IsScoreOf, StayKnown};
 ghost use Rattle.memo_model.specs.Machines.{IsUnderWay};
 ghost use Rattle.rand_pcg.specs.Lcg.{Lcg};
 ghost use Rattle.random_orders.specs.Draws.{drawn_turns};
@@ -232,6 +232,7 @@ fn look<M: Memo, N: Notes, L: Ledger>(
     requires sound { IsSound M.meaning problem.now (N.noted notes.old) (with_hand work.old hand) pass.old }
     ensures notes { N.problem notes.new ≡ problem.now }
     ensures own { M.is_of memo.now pass.new }
+    ensures on { M.goes_on pass.old pass.new }
     ensures share { M.meaning.share pass.new ≡ M.meaning.share pass.old }
     ensures known { StayKnown (M.meaning.known pass.old) (M.meaning.known pass.new) }
     ensures wins { GainsWins M.meaning pass.old pass.new work.old.wins work.new.wins }
@@ -242,7 +243,7 @@ fn look<M: Memo, N: Notes, L: Ledger>(
     ensures next { (work.new.hand ≡ None) → work.new.ended ≡ false → work.new.top ≢ None }
     ensures no_answer { work.new.ready ≡ None }
     ensures loads { (M.meaning.loads hand.probe ≡ true)
-        ↔ ((found : ℕ) × IsOnRecordWord M.meaning pass.new hand.cell found) }
+        ↔ ((found : ℕ) × HasLoaded M.meaning pass.new hand.cell found) }
     ensures steps { steps_made steps.new ≡ steps_made steps.old + 1 }
     ensures sound { IsSound M.meaning problem.now (N.noted notes.new) work.new pass.new }
     ensures lower { (m : ℕ) (arguments : List SplitArgument) → IsDemandedCount problem.now m
@@ -331,6 +332,7 @@ fn publish<M: Memo, N: Notes, L: Ledger>(
     requires sound { IsSound M.meaning problem.now (N.noted notes.old) (with_top work.old top) pass.old }
     ensures notes { N.problem notes.new ≡ problem.now }
     ensures own { M.is_of memo.now pass.new }
+    ensures on { M.goes_on pass.old pass.new }
     ensures share { M.meaning.share pass.new ≡ M.meaning.share pass.old }
     ensures known { StayKnown (M.meaning.known pass.old) (M.meaning.known pass.new) }
     ensures wins { GainsWins M.meaning pass.old pass.new work.old.wins work.new.wins }
@@ -414,6 +416,7 @@ pub fn make_step<M: Memo, N: Notes, L: Ledger>(
     requires sound { IsSound M.meaning problem.now (N.noted notes.old) work.old pass.old }
     ensures notes { N.problem notes.new ≡ problem.now }
     ensures own { M.is_of memo.now pass.new }
+    ensures on { M.goes_on pass.old pass.new }
     ensures share { M.meaning.share pass.new ≡ M.meaning.share pass.old }
     ensures known { StayKnown (M.meaning.known pass.old) (M.meaning.known pass.new) }
     ensures wins { GainsWins M.meaning pass.old pass.new work.old.wins work.new.wins }

@@ -12,11 +12,14 @@ use Rattle.memo_words.specs.declared.pass.Pass.{Pass}
 use Rattle.memo_words.specs.declared.view.View.{View}
 use Rattle.memo_words.specs.declared.words.Words.{Words}
 use Rattle.memo_words.specs.Views.{joined}
-use Rattle.memo_words.specs.Passes.{IsPassOf, view_of, problem_of}
+use Rattle.memo_words.specs.Passes.{IsPassOf, view_of, marks_of, plan_of, problem_of}
 use Rattle.memo_table.specs.declared.probe.Probe.{Probe}
 use Rattle.memo_table.specs.Meanings.{table_meaning, knows}
 use Rattle.cell_core.specs.MachineViews.{MachineView}
 use Rattle.evaluators.specs.Posts.{Post, post, posts_of}
+use Rattle.history_table.specs.declared.history.Mark.{Mark}
+use Rattle.memo_words.specs.Layout.{slots_of}
+use Rattle.evaluators.specs.Steps.{AreStepsOfEach, together}
 use Rattle.evaluators.specs.Working.{TableWorker, IsAtWork, IsOf, post_of}
 use Rattle.evaluators.specs.Runs.{AreMachinesFrom, HasFirstEnded, wins_of, ended_of}
 use Rattle.evaluators.specs.Joined.{IsJoined}
@@ -164,6 +167,9 @@ pub record IsGathered {A : Type 0} (worker_of : A → TableWorker) (words : Word
   pub machines_are : AreMachinesFrom (problem_of words) seed (length left) (reverse machines)
   pub wins : (view_of pass).wins ≡ sum won
   pub wins_are : won ≡ map wins_of machines
+  pub lists : List (List Mark)
+  pub steps : AreStepsOfEach (slots_of (plan_of words)) (reverse machines) lists
+  pub marks : marks_of pass ≡ together lists
   pub kept : map (λ one. (worker_of one).machine) left ++ reverse machines
       ≡ map (λ one. (worker_of one).machine) workers
   -- the first worker is left, or the pass is whole
@@ -216,6 +222,13 @@ module _ {A : Type 0} (worker_of : A → TableWorker) (words : Words) (seed : �
         is_of_post words (worker_of last) (problem_of words) seed (length left) both_at_work.1 last_is.here,
         subst (λ n. AreMachinesFrom (problem_of words) seed n (reverse machines)) next behind,
       )
+
+  steps_from : (lists : List (List Mark)) → AreStepsOfEach (slots_of (plan_of words)) (reverse machines) lists
+      → AreStepsOfEach (slots_of (plan_of words)) (reverse machines') (marks_of (worker_of last).pass ∷ lists)
+  steps_from lists behind =
+      subst (λ ms. AreStepsOfEach (slots_of (plan_of words)) ms (marks_of (worker_of last).pass ∷ lists))
+      (sym (reverse_pushed machines machines' (worker_of last).machine taken.machines_are))
+      (both_at_work.1.steps, behind)
 
   more_wins : sum won' ≡ sum won + (view_of (worker_of last).pass).wins
   more_wins =
@@ -276,6 +289,10 @@ module _ {A : Type 0} (worker_of : A → TableWorker) (words : Words) (seed : �
             (subst (λ ms. AreMachinesFrom (problem_of words) seed (length all) (reverse ms)) (sym no_machines) tt);
         wins = omega (arith, more_wins, nothing);
         wins_are = wins_map (no_wins ∙ ap (map wins_of) (sym no_machines));
+        lists = marks_of (worker_of last).pass ∷ [];
+        steps = steps_from []
+            (subst (λ ms. AreStepsOfEach (slots_of (plan_of words)) (reverse ms) []) (sym no_machines) tt);
+        marks = refl;
         kept = kept_on ∙ ap (λ ms. machines_of all ++ reverse ms) no_machines ∙ append-nil (machines_of all);
         whole = first_on first;
       }
@@ -284,8 +301,9 @@ module _ {A : Type 0} (worker_of : A → TableWorker) (words : Words) (seed : �
   pub gathered_next : (count : ℕ) (workers : List A) (pass pass' : Pass)
       → IsGathered worker_of words seed count workers all pass won machines → IsPassOf words pass'
       → view_of pass' ≡ joined (view_of pass) (view_of (worker_of last).pass)
+      → marks_of pass' ≡ marks_of pass ++ marks_of (worker_of last).pass
       → IsGathered worker_of words seed count workers left pass' won' machines'
-  gathered_next count workers pass pass' was own e =
+  gathered_next count workers pass pass' was own e marks =
       let spare : (view_of pass').spare ≡ (view_of pass).spare + (view_of (worker_of last).pass).spare =
       ap (λ (v : View). v.spare) e in
       let weight : (view_of pass').weight ≡ (view_of pass).weight + (view_of (worker_of last).pass).weight =
@@ -305,6 +323,9 @@ module _ {A : Type 0} (worker_of : A → TableWorker) (words : Words) (seed : �
         machines_are = machines_from was.machines_are;
         wins = wins ∙ ap (λ n. n + (view_of (worker_of last).pass).wins) was.wins ∙ sym more_wins;
         wins_are = wins_map was.wins_are;
+        lists = marks_of (worker_of last).pass ∷ was.lists;
+        steps = steps_from was.lists was.steps;
+        marks = marks ∙ ap (λ ms. ms ++ marks_of (worker_of last).pass) was.marks;
         kept = kept_on ∙ was.kept;
         whole = whole_on pass pass' e was.whole;
       }
@@ -339,6 +360,9 @@ all_joined worker_of words seed count workers left pass won machines leavings wa
       wins = ap (λ (it : Pass). (view_of it).wins) pass_is ∙ was.wins ∙ sym (sum_reversed won) ∙ ap sum (sym won_are);
       wins_are = map_reversed wins_of machines leavings.machines.items won leavings.wins.items was.wins_are won_are
           machines_are;
+      lists = was.lists;
+      steps = subst (λ ms. AreStepsOfEach (slots_of (plan_of words)) ms was.lists) (sym machines_are) was.steps;
+      marks = ap (λ (it : Pass). marks_of it) pass_is ∙ was.marks;
       machines = subst (λ (it : ℕ × List (MachineView Probe)). AreMachinesFrom p seed it.0 it.1)
           (λ i. (nobody i, sym machines_are i)) was.machines_are;
       number = omega (arith, len_is, length_is, number_was, nobody);

@@ -1,4 +1,5 @@
 pub mod Pacing
+pub mod Steps
 pub mod GoingOn
 pub mod Listed
 pub mod Teams

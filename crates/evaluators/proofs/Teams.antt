@@ -8,12 +8,14 @@ use Rattle.adp_model.specs.PosedProblem.{PosedProblem}
 use Rattle.adp_model.specs.ProblemFields.{IsAdmissible}
 use Rattle.memo_model.specs.Machines.{IsMachine}
 use Rattle.memo_words.specs.declared.words.Words.{Words}
-use Rattle.memo_words.specs.Passes.{IsPassOf, view_of, problem_of}
+use Rattle.memo_words.specs.Passes.{IsPassOf, view_of, marks_of, plan_of, problem_of}
 use Rattle.memo_table.specs.Meanings.{table_meaning}
 use Rattle.memo_table.specs.declared.probe.Probe.{Probe}
 use Rattle.cell_core.specs.MachineViews.{MachineView, IsFresh, IsNotedIn}
 use Rattle.evaluators.specs.Posts.{Post, post, posts_of}
+use Rattle.memo_words.specs.Layout.{slots_of}
 use Rattle.evaluators.specs.Driving.{HasStepsOfFresh}
+use Rattle.evaluators.specs.Steps.{AreStepsOf}
 use Rattle.evaluators.specs.Playing.{HasKeptEntries}
 use Rattle.evaluators.specs.Working.{TableWorker, IsReady, first_orders, post_of}
 
@@ -26,8 +28,8 @@ pub ready_worker : (words : Words) (worker : TableWorker) (p : PosedProblem) (se
     → IsAdmissible p → IsPassOf words worker.pass → IsFresh p (first_orders seed number) worker.machine
     → IsMachine table_meaning IsNotedIn worker.machine.machine worker.pass
     → HasStepsOfFresh table_meaning worker.machine.machine worker.pass → worker.seed ≡ seed → worker.number ≡ number
-    → (view_of worker.pass).wins ≡ 0 → IsReady words worker
-ready_worker words worker p seed number same admissible own fresh machine bound seed_is number_is wins =
+    → (view_of worker.pass).wins ≡ 0 → marks_of worker.pass ≡ [] → IsReady words worker
+ready_worker words worker p seed number same admissible own fresh machine bound seed_is number_is wins none =
     let start : worker.machine.orders ≡ after_draws (4 * 0) (first_orders seed number) =
     fresh.orders_are ∙ sym (none_drawn (first_orders seed number)) in
     record {
@@ -42,6 +44,8 @@ ready_worker words worker p seed number same admissible own fresh machine bound 
               (λ i. (sym fresh.none_opened i, sym seed_is i, sym number_is i)) start;
         };
         wins = wins ∙ sym fresh.no_wins;
+        steps = subst (AreStepsOf (slots_of (plan_of words)) worker.machine) (sym none)
+            (record { moves = fresh.no_moves; wins = fresh.no_wins });
       };
       bound = bound;
     }

@@ -1,5 +1,5 @@
 -- How a machine goes on from step to step.
-use Rattle.std.specs.Prelude.{◌≡◌, ℕ, ◌*◌, ◌≤◌, List, length}
+use Rattle.std.specs.Prelude.{◌≡◌, ℕ, zero, suc, ◌+◌, ◌-◌, ◌*◌, ◌^◌, ◌≤◌, min, List, length}
 use Rattle.rand_pcg.specs.Lcg.{Lcg}
 use Rattle.random_orders.specs.Draws.{after_draws}
 use Rattle.adp_model.specs.Demand.{IsDemandedCount}
@@ -23,6 +23,12 @@ KeepsPace before after =
     (first : Lcg) → before.orders ≡ after_draws (4 * before.machine.opened) first
     → after.orders ≡ after_draws (4 * after.machine.opened) first
 
+-- the second pass is the first after so many steps
+abbrev pub AreStepsApart : {Pass : Type 0} → (Pass → Pass → Type 0) → ℕ → Pass → Pass → Type 0
+AreStepsApart goes_on zero first last = last ≡ first
+AreStepsApart {Pass} goes_on (suc n) first last =
+    (between : Pass) × AreStepsApart goes_on n first between × goes_on between last
+
 module _ {Pass Probe : Type 0} (memo : Meaning Pass Probe) (IsOwn : Pass → Type 0) where
   -- the pass is the memo's, and the machine, which is of an admissible problem, is sound for it and has at most the
   -- steps of a fresh one left
@@ -32,11 +38,16 @@ module _ {Pass Probe : Type 0} (memo : Meaning Pass Probe) (IsOwn : Pass → Typ
     pub sound : IsMachine memo IsNotedIn machine.machine pass
     pub bound : HasStepsOfFresh memo machine.machine pass
 
-  -- the second machine and pass are the first ones after some steps
-  pub record HasGoneOn (before after : MachineView Probe) (pass pass' : Pass) : Type 0 where
+  -- the second machine and pass are the first ones after some steps, which the machine counted
+  pub record HasGoneOn (goes_on : Pass → Pass → Type 0) (before after : MachineView Probe)
+      (pass pass' : Pass) : Type 0 where
     pub own : IsOwn pass'
     pub share : memo.share pass' ≡ memo.share pass
     pub problem : after.machine.problem ≡ before.machine.problem
     pub sound : IsMachine memo IsNotedIn after.machine pass'
     pub pace : KeepsPace before after
     pub wins : memo.wins pass ≡ before.machine.wins → memo.wins pass' ≡ after.machine.wins
+    pub steps : ℕ
+    pub apart : AreStepsApart goes_on steps pass pass'
+    pub moves : (made : ℕ) → before.machine.moves ≡ min made (2 ^ 64 - 1)
+        → after.machine.moves ≡ min (made + steps) (2 ^ 64 - 1)

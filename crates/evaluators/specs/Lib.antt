@@ -1,5 +1,6 @@
 pub mod Posts
 pub mod Driving
+pub mod Steps
 pub mod Hiring
 pub mod Working
 pub mod Runs

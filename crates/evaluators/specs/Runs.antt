@@ -5,10 +5,12 @@ use Rattle.adp_model.specs.PosedProblem.{PosedProblem, axiom_cell}
 use Rattle.adp_model.specs.Answers.{IsAnswer}
 use Rattle.adp_model.specs.Demand.{IsDemanded, IsDemandedCount}
 use Rattle.memo_words.specs.Kept.{IsPublished}
+use Rattle.memo_words.specs.Layout.{slots_of}
 use Rattle.memo_table.specs.declared.probe.Probe.{Probe}
 use Rattle.cell_core.specs.MachineViews.{MachineView}
 use Rattle.evaluators.specs.declared.finished.Finished.{Finished}
 use Rattle.evaluators.specs.declared.finished.RunNote.{RunNote}
+use Rattle.evaluators.specs.Steps.{HaveHistory}
 use Rattle.evaluators.specs.Working.{IsOf}
 
 abbrev pub wins_of : MachineView Probe → ℕ
@@ -42,6 +44,8 @@ pub record IsFinished (p : PosedProblem) (seed : ℕ) (finished : Finished) : Ty
   pub wins_are : finished.wins.items ≡ map wins_of finished.machines.items
   -- each cell was put into the table once
   pub wins_sum : IsDemandedCount p (sum finished.wins.items)
+  -- the words of the closed table have one history, of which each step is one machine's
+  pub history : HaveHistory (slots_of finished.closed.plan) finished.machines.items finished.closed.words
 
 -- the note of a run
 pub record IsNoteOf (p : PosedProblem) (seed : ℕ) (finished : Finished) (note : RunNote) : Type 0 where

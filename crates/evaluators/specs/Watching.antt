@@ -1,5 +1,5 @@
 -- What those who are told of each step tell of the machines.
-use Rattle.std.specs.Prelude.{◌≡◌, ℕ, ◌+◌, ◌-◌, ◌^◌, min, Option, Some, None, IfSome, List, [], ◌∷◌, ◌++◌}
+use Rattle.std.specs.Prelude.{◌≡◌, ℕ, ◌-◌, ◌^◌, min, Option, Some, None, IfSome, List, [], ◌∷◌, ◌++◌}
 use Rattle.memo_table.specs.declared.probe.Probe.{Probe}
 use Rattle.cell_core.specs.MachineViews.{MachineView}
 use Rattle.evaluators.specs.Runs.{moves_of}

@@ -7,12 +7,14 @@ use Rattle.adp_model.specs.PosedProblem.{PosedProblem}
 use Rattle.adp_model.specs.ProblemFields.{IsAdmissible}
 use Rattle.memo_model.specs.Machines.{IsMachine}
 use Rattle.memo_words.specs.declared.words.Words.{Words}
-use Rattle.memo_words.specs.Passes.{IsPassOf, view_of, problem_of}
+use Rattle.memo_words.specs.Passes.{IsPassOf, view_of, marks_of, plan_of, problem_of}
 use Rattle.memo_table.specs.declared.probe.Probe.{Probe}
 use Rattle.memo_table.specs.Meanings.{table_meaning, share_of}
 use Rattle.cell_core.specs.MachineViews.{MachineView, IsNotedIn}
 use Rattle.evaluators.specs.Posts.{Post}
+use Rattle.memo_words.specs.Layout.{slots_of}
 use Rattle.evaluators.specs.Driving.{HasStepsOfFresh}
+use Rattle.evaluators.specs.Steps.{AreStepsOf}
 use Rattle.evaluators.specs.declared.worker.Worker.{Worker}
 
 -- a worker whose machine works over the table
@@ -37,14 +39,15 @@ post_of worker = record {
   share = share_of worker.pass;
 }
 
--- the worker's pass is of the words, its machine is of their problem, which was admitted, and sound for the pass, and
--- their wins are the same
+-- the worker's pass is of the words, its machine is of their problem, which was admitted, and sound for the pass, their
+-- wins are the same, and the pass has the machine's steps
 pub record IsAtWork (words : Words) (worker : TableWorker) : Type 0 where
   pub admissible : IsAdmissible (problem_of words)
   pub own : IsPassOf words worker.pass
   pub machine : IsMachine table_meaning IsNotedIn worker.machine.machine worker.pass
   pub is_of : IsOf (problem_of words) worker.seed worker.number worker.machine
   pub wins : (view_of worker.pass).wins ≡ worker.machine.machine.wins
+  pub steps : AreStepsOf (slots_of (plan_of words)) worker.machine (marks_of worker.pass)
 
 -- before its work it has at most the steps of a fresh machine left
 pub record IsReady (words : Words) (worker : TableWorker) : Type 0 where

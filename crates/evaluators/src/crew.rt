@@ -7,7 +7,7 @@ ghost use Rattle.adp_model.specs.ProblemFields.{IsAdmissible};
 ghost use Rattle.cell_core.specs.MachineViews.{IsFresh, IsNotedIn};
 ghost use Rattle.memo_table.specs.Meanings.{table_meaning};
 ghost use Rattle.memo_words.specs.declared.pass.Pass.{Pass as AnyPass};
-ghost use Rattle.memo_words.specs.Passes.{IsPassOf, view_of, problem_of, plan_of};
+ghost use Rattle.memo_words.specs.Passes.{IsPassOf, view_of, marks_of, problem_of, plan_of};
 ghost use Rattle.memo_words.specs.Views.{first_view, joined};
 ghost use Rattle.evaluators.specs.Posts.{posts_of};
 ghost use Rattle.evaluators.specs.Driving.{HasStepsOfFresh};
@@ -71,6 +71,7 @@ fn team_for<'a, 'g, G: Gate>(
     requires same { problem_of table.now ≡ problem.now }
     requires own { IsPassOf table.now pass }
     requires first { view_of pass ≡ first_view (plan_of table.now) }
+    requires unmarked { marks_of pass ≡ [] }
     requires seats { (plan_of table.now).seats ≡ count }
     requires some { 1 ≤ count }
     ensures ready { IfOk result (λ team. All (λ gated. IsReady table.now gated.worker) team.items) }
@@ -108,6 +109,7 @@ pub(crate) fn team<'a, 'g, G: Gate>(
     requires admissible { IsAdmissible (arc_value prepared.now) }
     requires own { IsPassOf table.now pass }
     requires first { view_of pass ≡ first_view (plan_of table.now) }
+    requires unmarked { marks_of pass ≡ [] }
     requires seats { (plan_of table.now).seats ≡ count }
     requires some { 1 ≤ count }
     ensures ready { IfOk result (λ team. All (λ gated. IsReady table.now gated.worker) team.items) }
@@ -236,6 +238,7 @@ fn take_in<'a, G: Gate>(
     requires other { IsPassOf table.now gated.worker.pass }
     ensures own { IsPassOf table.now left.new.pass }
     ensures view { view_of left.new.pass ≡ joined (view_of left.old.pass) (view_of gated.entry.worker.pass) }
+    ensures marks { marks_of left.new.pass ≡ marks_of left.old.pass ++ marks_of gated.entry.worker.pass }
     ensures machines { IfOk result (λ _. left.new.machines.items
         ≡ left.old.machines.items ++ gated.entry.worker.machine ∷ []) }
     ensures wins { IfOk result (λ _. left.new.wins.items

@@ -14,8 +14,8 @@ use random_orders::draws_advance_the_generator;
 use std::marker::Brand;
 use std::sync::ledger::{Blank, Ledger};
 
-/// What a worker passes before each step that loads a record word. It isn't a gate itself: what is run in a thread of its
-/// own may call no function over a gate, whose bound speaks of threads.
+/// What a worker passes before each step that loads a record word. It isn't a gate itself: what is run in a thread of
+/// its own may call no function over a gate, whose bound speaks of threads.
 pub(crate) trait Door {
     fn pass(&self, worker: u32);
 }
@@ -32,7 +32,8 @@ pub(crate) fn drive<M: Memo, D: Door, W: Watcher<M::Pass>>(
 )
     requires memo { M.problem memo.now ≡ machine.old.machine.problem }
     requires ready { CanGoOn M.meaning (M.is_of memo.now) machine.old pass.old }
-    ensures on { HasGoneOn M.meaning (M.is_of memo.now) machine.old machine.new pass.old pass.new }
+    ensures on { HasGoneOn M.meaning (M.is_of memo.now) M.goes_on machine.old machine.new
+        pass.old pass.new }
     ensures ended { machine.new.machine.ended ≡ true }
     ensures told { IsToldOn number (W.told watcher.old) (W.told watcher.new) machine.old.machine.moves
         machine.new.machine.moves }
@@ -54,7 +55,8 @@ fn drive_counted<M: Memo, L: Ledger, D: Door, W: Watcher<M::Pass>>(
     requires parts { (blank.parts ≡ L.parts) × (0 < blank.parts) }
     requires memo { M.problem memo.now ≡ machine.old.machine.problem }
     requires ready { CanGoOn M.meaning (M.is_of memo.now) machine.old pass.old }
-    ensures on { HasGoneOn M.meaning (M.is_of memo.now) machine.old machine.new pass.old pass.new }
+    ensures on { HasGoneOn M.meaning (M.is_of memo.now) M.goes_on machine.old machine.new
+        pass.old pass.new }
     ensures ended { machine.new.machine.ended ≡ true }
     ensures told { IsToldOn number (W.told watcher.old) (W.told watcher.new) machine.old.machine.moves
         machine.new.machine.moves }

@@ -11,11 +11,10 @@ use Rattle.memo_model.specs.declared.probe.Publish.TheVariants as publishes
 use Rattle.adp_model.specs.PosedProblem.{PosedProblem}
 use Rattle.adp_model.specs.Answers.{IsAnswer}
 use Rattle.adp_model.specs.Bellman.{HasBestScore}
-
--- the word that a step was on, and the value that it found there
-pub record Access : Type 0 where
-  pub word : ℕ
-  pub found : ℕ
+use Rattle.history_table.specs.declared.history.Deed.{Deed}
+use Rattle.history_table.specs.declared.history.Deed.TheVariants.{Load, Exchange}
+use Rattle.history_table.specs.declared.history.Event.{Event}
+use Rattle.history_table.specs.History.{event}
 
 -- the meaning of a pass and of a probe
 pub record Meaning (Pass Probe : Type 0) : Type 1 where
@@ -26,8 +25,8 @@ pub record Meaning (Pass Probe : Type 0) : Type 1 where
   pub wins : Pass → ℕ
   -- numbers of a pass that no step changes
   pub share : Pass → List ℕ
-  -- the pass's last step, as the pass tells it
-  pub last : Pass → Option Access
+  -- the pass's last step: the word that it was on, what it did with it, and the value that stood there
+  pub last : Pass → Option Event
   -- as far as the pass has found, this word is the record word of the cell
   pub record_word : Pass → Cell → ℕ → Type 0
   -- a probe's cell, and how far it has come
@@ -40,11 +39,19 @@ pub record Meaning (Pass Probe : Type 0) : Type 1 where
   -- how many steps the probe has left at most, where the number is that of the demanded cells
   pub remaining : ℕ → Probe → ℕ
 
--- the pass's last step was on the record word of the cell and found this value there
-abbrev pub IsOnRecordWord : {Pass Probe : Type 0} → Meaning Pass Probe → Pass → Cell → ℕ → Type 0
-IsOnRecordWord meaning pass cell found =
-    (word : ℕ) × meaning.record_word pass cell word
-    × (meaning.last pass ≡ Some (record { word = word; found = found }))
+-- the pass's last step was this deed on the record word of the cell, and found this value there
+abbrev pub IsOnRecordWord : {Pass Probe : Type 0} → Meaning Pass Probe → Pass → Cell → Deed → ℕ → Type 0
+IsOnRecordWord meaning pass cell deed found =
+    (word : ℕ) × meaning.record_word pass cell word × (meaning.last pass ≡ Some (event word deed found))
+
+-- the pass's last step loaded the record word of the cell and found this value there
+abbrev pub HasLoaded : {Pass Probe : Type 0} → Meaning Pass Probe → Pass → Cell → ℕ → Type 0
+HasLoaded meaning pass cell found = IsOnRecordWord meaning pass cell Load found
+
+-- the pass's last step exchanged the record word of the cell from 0, and found this value there: 0 where the exchange
+-- was made
+abbrev pub HasExchanged : {Pass Probe : Type 0} → Meaning Pass Probe → Pass → Cell → ℕ → Type 0
+HasExchanged meaning pass cell found = (name : ℕ) × IsOnRecordWord meaning pass cell (Exchange 0 name) found
 
 -- the score of the cell's answer, or that it has no candidate
 abbrev pub IsScoreOf : PosedProblem → Cell → Option ℤ → Type 0

@@ -3,9 +3,10 @@ use crate::steps::Steps;
 use adp_model::{Answer, Cell};
 use std::sync::ledger::Ledger;
 
-/// A memo of the answers of a problem's demanded cells, shared by those who have a pass. Each step of a probe counts
-/// exactly one step. An answer is put once, by an exchange of its cell's record word from 0, and then stays; that one is
-/// published of each cell that a pass knows is for the rule of the memo to keep. None of the calls takes memory.
+/// A memo of the answers of a problem's demanded cells, shared by those who have a pass. Each step of a probe is
+/// exactly one step on one word of the memo, and counts one. An answer is put once, by an exchange of its cell's record
+/// word from 0, and then stays; that one is published of each cell that a pass knows is for the rule of the memo to
+/// keep. None of the calls takes memory.
 pub trait Memo {
     ghost use Rattle.std.specs.Prelude.{◌≡◌, ◌≢◌, ◌↔◌, ℕ, ◌+◌, ◌*◌, ◌<◌, ◌≤◌, ◌⊎◌, Bool, true};
     ghost use Rattle.adp_model.specs.declared.cell.Cell.{Cell};
@@ -13,7 +14,7 @@ pub trait Memo {
     ghost use Rattle.adp_model.specs.PosedProblem.{PosedProblem};
     ghost use Rattle.adp_model.specs.Answers.{IsAnswer};
     ghost use Rattle.adp_model.specs.Demand.{IsDemanded, IsDemandedChild, IsDemandedCount};
-    ghost use Rattle.memo_model.specs.Memos.{Meaning, IsOnRecordWord, StayKnown, IsLook, IsPublish};
+    ghost use Rattle.memo_model.specs.Memos.{Meaning, HasLoaded, HasExchanged, StayKnown, IsLook, IsPublish};
     ghost use Rattle.memo_model.specs.StepsMade.{steps_made};
 
     /// The right of one evaluator to step on the memo, and what it has found there.
@@ -34,7 +35,7 @@ pub trait Memo {
     /// What contracts see of passes and probes.
     ghost meaning: { Meaning Self.Pass Self.Probe };
 
-    /// The second pass is the first after a step with some probe.
+    /// The second pass is the first after exactly one step, with some probe.
     ghost goes_on: { Self.Pass → Self.Pass → Type 0 };
 
     /// A fresh probe of the cell. Makes no step.
@@ -71,15 +72,15 @@ pub trait Memo {
         ensures look { IsLook (problem self.now) (meaning.cell probe.old) (meaning.known pass.old)
             (meaning.known pass.new) (meaning.stage probe.new) result }
         ensures loads { (meaning.loads probe.old ≡ true)
-            ↔ ((found : ℕ) × IsOnRecordWord meaning pass.new (meaning.cell probe.old) found) }
+            ↔ ((found : ℕ) × HasLoaded meaning pass.new (meaning.cell probe.old) found) }
         ensures unpublished { (result ≡ Look.Unpublished)
-            ↔ IsOnRecordWord meaning pass.new (meaning.cell probe.old) 0 }
+            ↔ HasLoaded meaning pass.new (meaning.cell probe.old) 0 }
         ensures fewer { (m : ℕ) → IsDemandedCount (problem self.now) m
             → meaning.remaining m probe.new < meaning.remaining m probe.old }
         ensures some_left { (m : ℕ) → IsDemandedCount (problem self.now) m → result ≡ Look.Going
             → 0 < meaning.remaining m probe.new }
         ensures two_left { (m found : ℕ) → IsDemandedCount (problem self.now) m
-            → IsOnRecordWord meaning pass.new (meaning.cell probe.old) found → 0 < found
+            → HasLoaded meaning pass.new (meaning.cell probe.old) found → 0 < found
             → meaning.remaining m probe.new ≤ 2 }
         ensures four_left { (m : ℕ) → IsDemandedCount (problem self.now) m → result ≡ Look.Unpublished
             → meaning.remaining m probe.new ≡ 4 }
@@ -108,9 +109,9 @@ pub trait Memo {
         ensures follows { meaning.follows probe.new pass.new }
         ensures publish { IsPublish (meaning.cell probe.old) (meaning.known pass.old) (meaning.known pass.new)
             (meaning.wins pass.old) (meaning.wins pass.new) (meaning.stage probe.new) result }
-        ensures won { (result ≡ Publish.Won) ↔ IsOnRecordWord meaning pass.new (meaning.cell probe.old) 0 }
+        ensures won { (result ≡ Publish.Won) ↔ HasExchanged meaning pass.new (meaning.cell probe.old) 0 }
         ensures lost { (result ≡ Publish.Lost)
-            ↔ ((found : ℕ) × (0 < found) × IsOnRecordWord meaning pass.new (meaning.cell probe.old) found) }
+            ↔ ((found : ℕ) × (0 < found) × HasExchanged meaning pass.new (meaning.cell probe.old) found) }
         ensures fewer { (m : ℕ) → IsDemandedCount (problem self.now) m
             → meaning.remaining m probe.new < meaning.remaining m probe.old }
         ensures some_left { (m : ℕ) → IsDemandedCount (problem self.now) m → result ≡ Publish.Going

@@ -3,7 +3,7 @@ ghost use Rattle.std.specs.Prelude.{◌<◌};
 use std::sync::ledger::{Blank, Book, Ledger, Share};
 
 /// A counter of steps of a memo, without bytes. Contracts see how many it counted (`steps_made`), a whole number
-/// without bounds. It knows of no word: that each step is counted, and once, is for the bodies that count to keep.
+/// without bounds. It knows of no word.
 #[derive(Drop)]
 pub struct Steps<L: Ledger> {
     book: Book<L>,

@@ -24,42 +24,42 @@ use Rattle.memo_table.specs.Following.{others_on, demanded_by}
 use Rattle.memo_table.specs.Stepped.{IsLooked}
 use Rattle.memo_table.proofs.Places.{position_below}
 use Rattle.memo_table.proofs.Seeing.{seen_here, unless_here}
-use Rattle.memo_table.proofs.Quiet.{IsQuiet, key_load_is_quiet, key_exchange_is_quiet, known_on, sees_key}
+use Rattle.memo_table.proofs.Quiet.{IsStepOn, IsQuiet, key_load_is_quiet, key_exchange_is_quiet, known_on, sees_key}
 use Rattle.memo_table.proofs.Looks.{moved, follows_now, due_here, going}
 
 -- a step on a key word, in which this value stands after it
-pub record IsKeyStep (words : Words) (before after : Pass) (position found value : ℕ) : Type 0 where
+pub record IsKeyStep (words : Words) (before after : Pass) (position value : ℕ) : Type 0 where
   pub own : IsPassOf words after
   pub on : PassGoesOn before after
-  pub quiet : IsQuiet (view_of before) (view_of after) (key_place position) found
+  pub quiet : IsQuiet before after (key_place position)
   pub now : value ≢ 0 → seen_at (view_of after).keys position ≡ value
 
 pub loaded_key : (words : Words) (before after : Pass) (position found : ℕ) → IsPassOf words before
     → IsPassOf words after → view_of after ≡ key_loaded position found (view_of before)
-    → StaySeen (view_of before).keys (view_of after).keys
-    → IsKeyStep words before after position found found
-loaded_key words before after position found own own' e stays = record {
+    → StaySeen (view_of before).keys (view_of after).keys → IsStepOn (key_place position) before after
+    → IsKeyStep words before after position found
+loaded_key words before after position found own own' e stays stepped = record {
   own = own';
   on =
-      let quiet = key_load_is_quiet (view_of before) (view_of after) position found e in
-      sees_key words before after own own' (known_on (view_of before) (view_of after) (key_place position) found quiet)
+      let quiet = key_load_is_quiet before after position found e stepped in
+      sees_key words before after own own' (known_on before after (key_place position) quiet)
       stays (ap (λ (v : View). v.names) e);
-  quiet = key_load_is_quiet (view_of before) (view_of after) position found e;
+  quiet = key_load_is_quiet before after position found e stepped;
   now = λ some.
       ap (λ (v : View). seen_at v.keys position) e ∙ unless_here position found (view_of before).keys some;
 }
 
 pub exchanged_key : (words : Words) (before after : Pass) (position code found : ℕ) → IsPassOf words before
     → IsPassOf words after → view_of after ≡ key_exchanged position code found (view_of before)
-    → StaySeen (view_of before).keys (view_of after).keys
-    → IsKeyStep words before after position found (if found == 0 then code else found)
-exchanged_key words before after position code found own own' e stays = record {
+    → StaySeen (view_of before).keys (view_of after).keys → IsStepOn (key_place position) before after
+    → IsKeyStep words before after position (if found == 0 then code else found)
+exchanged_key words before after position code found own own' e stays stepped = record {
   own = own';
   on =
-      let quiet = key_exchange_is_quiet (view_of before) (view_of after) position code found e in
-      sees_key words before after own own' (known_on (view_of before) (view_of after) (key_place position) found quiet)
+      let quiet = key_exchange_is_quiet before after position code found e stepped in
+      sees_key words before after own own' (known_on before after (key_place position) quiet)
       stays (ap (λ (v : View). v.names) e);
-  quiet = key_exchange_is_quiet (view_of before) (view_of after) position code found e;
+  quiet = key_exchange_is_quiet before after position code found e stepped;
   now = λ some.
       ap (λ (v : View). seen_at v.keys position) e
       ∙ seen_here position (if found == 0 then code else found) (view_of before).keys;
@@ -68,9 +68,9 @@ exchanged_key words before after position code found own own' e stays = record {
 abbrev pub IsSearching : Next → Type 0
 IsSearching next = (next ≡ Key) ⊎ (next ≡ Claim)
 
-module _ (words : Words) (before after : Pass) (was : Probe) (position found value : ℕ) (own : IsPassOf words before)
+module _ (words : Words) (before after : Pass) (was : Probe) (position value : ℕ) (own : IsPassOf words before)
     (follows : Follows was before) (at : position ≡ probed (plan_of words) (cell_code was.cell) was.turn)
-    (step : IsKeyStep words before after position found value)
+    (step : IsKeyStep words before after position value)
     (few : (turn m : ℕ) → AreOthers (plan_of words) (view_of after) was.cell turn → IsDemandedCount
     (problem_of words) m → turn < m) where
   inside : position < slots_of (plan_of words)
@@ -105,7 +105,7 @@ module _ (words : Words) (before after : Pass) (was : Probe) (position found val
       → ((m : ℕ) → IsDemandedCount (problem_of words) m → 0 < steps_left m turn next)
       → IsLooked words before after was (moved was turn next) Going
   go_on turn next is due still_open fewer some_left =
-      going words before after was (moved was turn next) (key_place position) found step.own step.on step.quiet outside
+      going words before after was (moved was turn next) (key_place position) step.own step.on step.quiet outside
       refl (follows_now words before after was turn next own follows step.on due) (no_load is) fewer still_open
       some_left
 
@@ -154,17 +154,18 @@ module _ (words : Words) (before after : Pass) (was : Probe) (position found val
 
 pub loaded_here : (inside now : Words) → inside ≡ now → (before after : Pass) (position found : ℕ)
     → IsPassOf now before → IsPassOf inside after → view_of after ≡ key_loaded position found (view_of before)
-    → StaySeen (view_of before).keys (view_of after).keys
-    → IsKeyStep now before after position found found
-loaded_here inside now here before after position found own own' e stays =
-    loaded_key now before after position found own (subst (λ (w : Words). IsPassOf w after) here own') e stays
+    → StaySeen (view_of before).keys (view_of after).keys → IsStepOn (key_place position) before after
+    → IsKeyStep now before after position found
+loaded_here inside now here before after position found own own' e stays stepped =
+    loaded_key now before after position found own (subst (λ (w : Words). IsPassOf w after) here own') e stays stepped
 
 pub exchanged_here : (inside now : Words) → inside ≡ now → (before after : Pass) (position code found : ℕ)
     → IsPassOf now before → IsPassOf inside after → view_of after ≡ key_exchanged position code found (view_of before)
-    → StaySeen (view_of before).keys (view_of after).keys
-    → IsKeyStep now before after position found (if found == 0 then code else found)
-exchanged_here inside now here before after position code found own own' e stays =
+    → StaySeen (view_of before).keys (view_of after).keys → IsStepOn (key_place position) before after
+    → IsKeyStep now before after position (if found == 0 then code else found)
+exchanged_here inside now here before after position code found own own' e stays stepped =
     exchanged_key now before after position code found own (subst (λ (w : Words). IsPassOf w after) here own') e stays
+    stepped
 
 pub few_here : (inside now : Words) → inside ≡ now → (before after : Pass) (was : Probe) → IsPassOf now before
     → Follows was before → IsPlanned (plan_of now) → AreKeys (plan_of inside) (view_of after).keys

@@ -5,8 +5,10 @@ use Rattle.memo_model.specs.declared.probe.Look.TheVariants.{Going, Found}
 use Rattle.memo_model.specs.declared.probe.Stage.TheVariants as stages
 use Rattle.adp_model.specs.Demand.{IsDemandedCount}
 use Rattle.memo_model.specs.Memos.{IsOnRecordWord, IsScoreOf}
+use Rattle.history_table.specs.declared.history.Deed.{Deed}
+use Rattle.history_table.specs.declared.history.Deed.TheVariants.{Load}
 use Rattle.memo_words.specs.Layout.{Plan, slots_of}
-use Rattle.memo_words.specs.Passes.{view_of, plan_of, problem_of, IsPassOf}
+use Rattle.memo_words.specs.Passes.{plan_of, problem_of, IsPassOf}
 use Rattle.memo_words.specs.declared.pass.Pass.{Pass}
 use Rattle.memo_words.specs.declared.words.Words.{Words}
 use Rattle.memo_table.specs.declared.probe.Next.{Next}
@@ -15,7 +17,7 @@ use Rattle.memo_table.specs.Probes.{stage_of, loads_record, steps_left, IsDue, F
 use Rattle.memo_table.specs.Meanings.{table_meaning, knows, PassGoesOn}
 use Rattle.memo_table.specs.Following.{one_plan}
 use Rattle.memo_table.specs.Stepped.{IsLooked}
-use Rattle.memo_table.proofs.Places.{off_record}
+use Rattle.memo_table.proofs.Places.{last_is, off_record}
 use Rattle.memo_table.proofs.Quiet.{IsQuiet}
 
 -- the probe with another turn and another next step
@@ -43,14 +45,17 @@ due_here words pass was next own follows is =
     (one_plan was.words.value words pass follows.own own)
     (subst (λ (n : Next). IsDue (plan_of was.words.value) pass was.cell was.turn n) is follows.due)
 
-module _ (words : Words) (before after : Pass) (was now : Probe) (word found : ℕ) (own : IsPassOf words after)
-    (on : PassGoesOn before after) (quiet : IsQuiet (view_of before) (view_of after) word found)
+module _ (words : Words) (before after : Pass) (was now : Probe) (word : ℕ) (own : IsPassOf words after)
+    (on : PassGoesOn before after) (quiet : IsQuiet before after word)
     (outside : (word < 1 + slots_of (plan_of words)) ⊎ (1 + 2 * slots_of (plan_of words) ≤ word))
     (same_cell : now.cell ≡ was.cell) (follows : Follows now after) (no_load : loads_record was.next ≡ false)
     (fewer : (m : ℕ) → IsDemandedCount (problem_of words) m → steps_left m now.turn now.next < steps_left
     m was.turn was.next) where
-  off : (f : ℕ) → IsOnRecordWord table_meaning after was.cell f → ⊥
-  off = off_record after (plan_of words) was.cell word found own.plan quiet.last outside
+  off : (d : Deed) (f : ℕ) → IsOnRecordWord table_meaning after was.cell d f → ⊥
+  off =
+      let step = quiet.stepped in
+      off_record after (plan_of words) was.cell word step.0 step.1 own.plan (last_is before after word step.0 step.1 step.2)
+      outside
 
   never : loads_record was.next ≡ true → ⊥
   never load = let both : true ≡ false = sym load ∙ no_load in cc
@@ -68,11 +73,11 @@ module _ (words : Words) (before after : Pass) (was now : Probe) (word found : �
     cell = same_cell;
     follows = follows;
     look = (still_open, λ other has not. subst (λ (l : List Cell). Contains l other) quiet.known has);
-    loads = ((λ load. absurd (never load)), λ (f, at). absurd (off f at));
-    unpublished = ((λ e. cc), λ at. absurd (off 0 at));
+    loads = ((λ load. absurd (never load)), λ (f, at). absurd (off Load f at));
+    unpublished = ((λ e. cc), λ at. absurd (off Load 0 at));
     fewer = fewer;
     some_left = λ m count e. some_left m count;
-    two_left = λ m f count at full. absurd (off f at);
+    two_left = λ m f count at full. absurd (off Load f at);
     four_left = λ m count e. cc;
   }
 
@@ -95,10 +100,10 @@ module _ (words : Words) (before after : Pass) (was now : Probe) (word found : �
       },
       is_score,
     );
-    loads = ((λ load. absurd (never load)), λ (f, at). absurd (off f at));
-    unpublished = ((λ e. cc), λ at. absurd (off 0 at));
+    loads = ((λ load. absurd (never load)), λ (f, at). absurd (off Load f at));
+    unpublished = ((λ e. cc), λ at. absurd (off Load 0 at));
     fewer = fewer;
     some_left = λ m count e. cc;
-    two_left = λ m f count at full. absurd (off f at);
+    two_left = λ m f count at full. absurd (off Load f at);
     four_left = λ m count e. cc;
   }

@@ -1,24 +1,26 @@
 -- What the step of a look on a record word tells.
-use Rattle.std.proofs.Common.{◌≡◌, ◌≢◌, ℕ, zero, suc, ◌+◌, ◌-◌, ◌<◌, ◌⊎◌, inl, inr, List, ◌∷◌, [], Contains, true, refl, sym, ap, subst, ◌∙◌, arith}
+use Rattle.std.proofs.Common.{◌≡◌, ◌≢◌, ℕ, zero, suc, ◌+◌, ◌-◌, ◌<◌, ◌⊎◌, inl, inr, List, ◌∷◌, [], Contains, Some, true, refl, sym, ap, subst, ◌∙◌, arith}
 use Rattle.adp_model.specs.declared.cell.Cell.{Cell}
 use Rattle.memo_model.specs.declared.probe.Look.TheVariants.{Going, Unpublished}
-use Rattle.memo_model.specs.Memos.{IsOnRecordWord}
+use Rattle.memo_model.specs.Memos.{HasLoaded}
+use Rattle.history_table.specs.declared.history.Deed.TheVariants.{Load}
+use Rattle.history_table.specs.History.{event}
 use Rattle.memo_words.specs.declared.view.Seen.{Seen}
 use Rattle.memo_words.specs.declared.view.View.{View}
 use Rattle.memo_words.specs.Codes.{cell_code}
 use Rattle.memo_words.specs.CodedCells.{cell_of}
 use Rattle.memo_words.specs.Layout.{slots_of, probed, record_place}
-use Rattle.memo_words.specs.Views.{seen_at, cell_at, last_at, record_loaded}
+use Rattle.memo_words.specs.Views.{seen_at, cell_at, record_loaded}
 use Rattle.memo_words.specs.Steps.{StaySeen}
-use Rattle.memo_words.specs.Passes.{view_of, plan_of, IsPassOf}
+use Rattle.memo_words.specs.Passes.{view_of, plan_of, HasStepped, IsPassOf}
 use Rattle.memo_words.specs.declared.pass.Pass.{Pass}
 use Rattle.memo_words.specs.declared.words.Words.{Words}
 use Rattle.memo_table.specs.declared.probe.Next.TheVariants.{RecordWord, Choice, Reserve}
 use Rattle.memo_table.specs.declared.probe.Probe.{Probe}
 use Rattle.memo_table.specs.Probes.{loads_record, steps_left, Stands, Follows}
-use Rattle.memo_table.specs.Meanings.{table_meaning, knows, PassGoesOn}
+use Rattle.memo_table.specs.Meanings.{last_event, table_meaning, knows, PassGoesOn}
 use Rattle.memo_table.specs.Stepped.{IsLooked}
-use Rattle.memo_table.proofs.Places.{position_below, cell_of_code, on_record, found_there}
+use Rattle.memo_table.proofs.Places.{position_below, cell_of_code, last_is, on_record, found_there}
 use Rattle.memo_table.proofs.Seeing.{if_equal, if_other, unless_here}
 use Rattle.memo_table.proofs.Quiet.{sees_name}
 use Rattle.memo_table.proofs.Looks.{moved, follows_now, due_here}
@@ -34,6 +36,7 @@ module _ (words : Words) (before after : Pass) (was : Probe) (position found : �
     (follows : Follows was before) (is : was.next ≡ RecordWord)
     (at : position ≡ probed (plan_of words) (cell_code was.cell) was.turn) (own' : IsPassOf words after)
     (e : view_of after ≡ record_loaded (plan_of words) position found (view_of before))
+    (stepped : HasStepped (record_place (slots_of (plan_of words)) position) Load found before after)
     (stays : StaySeen (view_of before).names (view_of after).names) where
   inside : position < slots_of (plan_of words)
   inside =
@@ -54,17 +57,17 @@ module _ (words : Words) (before after : Pass) (was : Probe) (position found : �
   its_cell : cell_at (view_of before) position ≡ was.cell
   its_cell = ap cell_of stands ∙ cell_of_code was.cell follows.coded
 
-  last : (view_of after).last ≡ last_at (record_place (slots_of (plan_of words)) position) found
-  last = ap (λ (v : View). v.last) e
+  last : last_event after ≡ Some (event (record_place (slots_of (plan_of words)) position) Load found)
+  last = last_is before after (record_place (slots_of (plan_of words)) position) Load found stepped
 
-  there_now : IsOnRecordWord table_meaning after was.cell found
+  there_now : HasLoaded table_meaning after was.cell found
   there_now =
-      on_record after (plan_of words) was.cell (record_place (slots_of (plan_of words)) position) found own'.plan last
+      on_record after (plan_of words) was.cell (record_place (slots_of (plan_of words)) position) Load found own'.plan last
       position refl inside (ap (λ (s : List Seen). seen_at s position) keys ∙ stands)
 
-  found_is : (f : ℕ) → IsOnRecordWord table_meaning after was.cell f → found ≡ f
-  found_is =
-      found_there after (plan_of words) was.cell (record_place (slots_of (plan_of words)) position) found own'.plan last
+  found_is : (f : ℕ) → HasLoaded table_meaning after was.cell f → found ≡ f
+  found_is f =
+      found_there after (plan_of words) was.cell (record_place (slots_of (plan_of words)) position) Load found own'.plan last Load f
 
   loads : loads_record was.next ≡ true
   loads = ap loads_record is
@@ -97,7 +100,7 @@ module _ (words : Words) (before after : Pass) (was : Probe) (position found : �
               let some = known_then (subst (Contains (view_of before).known) (sym its_cell) has) in omega arith,
         );
         loads = ((λ load. (found, there_now)), λ there'. loads);
-        unpublished = ((λ e'. subst (IsOnRecordWord table_meaning after was.cell) none there_now), λ there'. refl);
+        unpublished = ((λ e'. subst (HasLoaded table_meaning after was.cell) none there_now), λ there'. refl);
         fewer = λ m count. let five = left m in omega arith;
         some_left = λ m count e'. cc;
         two_left = λ m f count there' full. let same = found_is f there' in omega arith;

@@ -7,7 +7,10 @@ use Rattle.adp_model.specs.declared.cell.Cell.{Cell}
 use Rattle.memo_model.specs.declared.probe.Publish.TheVariants.{Going, Won, Lost}
 use Rattle.memo_model.specs.declared.probe.Stage.TheVariants as stages
 use Rattle.adp_model.specs.Answers.{IsAnswer}
-use Rattle.memo_model.specs.Memos.{IsOnRecordWord, IsAdded}
+use Rattle.memo_model.specs.Memos.{IsOnRecordWord, HasExchanged, IsAdded}
+use Rattle.history_table.specs.declared.history.Deed.{Deed}
+use Rattle.history_table.specs.declared.history.Deed.TheVariants.{Exchange}
+use Rattle.history_table.specs.History.{event}
 use Rattle.memo_words.specs.declared.part.Part.{Part}
 use Rattle.memo_words.specs.declared.part.Part.TheVariants as parts
 use Rattle.memo_words.specs.declared.view.Owned.{Owned}
@@ -16,31 +19,34 @@ use Rattle.memo_words.specs.declared.view.View.{View}
 use Rattle.memo_words.specs.Codes.{cell_code}
 use Rattle.memo_words.specs.CodedCells.{cell_of, answer_word}
 use Rattle.memo_words.specs.Layout.{Plan, slots_of, records_of, probed, record_place, arena_place}
-use Rattle.memo_words.specs.Views.{seen_at, owns, stored, store_in, with_stored, last_at, counter_added, arena_stored, record_exchanged}
-use Rattle.memo_words.specs.Passes.{view_of, hand_of, plan_of, problem_of, IsPassOf}
+use Rattle.memo_words.specs.Views.{seen_at, owns, stored, store_in, with_stored, counter_added, arena_stored, record_exchanged}
+use Rattle.memo_words.specs.Passes.{view_of, hand_of, plan_of, problem_of, HasStepped, IsPassOf}
 use Rattle.memo_words.specs.declared.pass.Pass.{Pass}
 use Rattle.memo_words.specs.declared.words.Words.{Words}
 use Rattle.memo_table.specs.declared.probe.Next.{Next}
 use Rattle.memo_table.specs.declared.probe.Next.TheVariants.{Reserve, StoreScore, StoreChoice, Publish, Done}
 use Rattle.memo_table.specs.declared.probe.Probe.{Probe}
 use Rattle.memo_table.specs.Probes.{stage_of, steps_left, Stands, IsHand, IsScorePart, IsFilled, IsDue, Follows}
-use Rattle.memo_table.specs.Meanings.{table_meaning, knows, PassGoesOn}
+use Rattle.memo_table.specs.Meanings.{last_event, table_meaning, knows, PassGoesOn}
 use Rattle.memo_table.specs.Following.{stands_on}
 use Rattle.memo_table.specs.Stepped.{IsPublished}
-use Rattle.memo_table.proofs.Places.{position_below, cell_of_code, off_record, on_record, found_there}
+use Rattle.memo_table.proofs.Places.{position_below, cell_of_code, last_is, off_record, on_record, found_there}
 use Rattle.memo_table.proofs.Seeing.{if_equal, if_other}
-use Rattle.memo_table.proofs.Quiet.{IsQuiet, counter_is_quiet, arena_store_is_quiet, known_on, sees_nothing}
+use Rattle.memo_table.proofs.Quiet.{IsStepOn, IsQuiet, counter_is_quiet, arena_store_is_quiet, known_on, sees_nothing}
 use Rattle.memo_table.proofs.Looks.{moved, follows_now, due_here}
 use Rattle.memo_table.proofs.NameLooks.{there, first_or_rest}
 
 -- a step off the record words that goes on
-module _ (words : Words) (before after : Pass) (was : Probe) (next : Next) (word found : ℕ)
+module _ (words : Words) (before after : Pass) (was : Probe) (next : Next) (word : ℕ)
     (own : IsPassOf words before) (follows : Follows was before) (own' : IsPassOf words after)
-    (on : PassGoesOn before after) (quiet : IsQuiet (view_of before) (view_of after) word found)
+    (on : PassGoesOn before after) (quiet : IsQuiet before after word)
     (outside : (word < 1 + slots_of (plan_of words)) ⊎ (1 + 2 * slots_of (plan_of words) ≤ word))
     (due : IsDue (plan_of words) after was.cell was.turn next) where
-  off : (f : ℕ) → IsOnRecordWord table_meaning after was.cell f → ⊥
-  off = off_record after (plan_of words) was.cell word found own'.plan quiet.last outside
+  off : (d : Deed) (f : ℕ) → IsOnRecordWord table_meaning after was.cell d f → ⊥
+  off =
+      let step = quiet.stepped in
+      off_record after (plan_of words) was.cell word step.0 step.1 own'.plan
+      (last_is before after word step.0 step.1 step.2) outside
 
   pub goes_on : stage_of next ≡ stages.Publishing
       → ((m : ℕ) → steps_left m was.turn next < steps_left m was.turn was.next)
@@ -53,8 +59,8 @@ module _ (words : Words) (before after : Pass) (was : Probe) (next : Next) (word
     cell = refl;
     follows = follows_now words before after was was.turn next own follows on due;
     publish = (publishing, λ cell has. subst (λ (l : List Cell). Contains l cell) quiet.known has, quiet.wins);
-    won = ((λ e. cc), λ at. absurd (off 0 at));
-    lost = ((λ e. cc), λ (f, full, at). absurd (off f at));
+    won = ((λ e. cc), λ (name, at). absurd (off (Exchange 0 name) 0 at));
+    lost = ((λ e. cc), λ (f, full, on). absurd (off (Exchange 0 on.0) f on.1));
     fewer = λ m count. fewer m;
     some_left = λ m count e. some_left m;
   }
@@ -70,12 +76,12 @@ none_if m n e = if_other m n 1 0 e
 -- a record is reserved
 pub reserved : (words : Words) (before after : Pass) (was : Probe) (number : ℕ) → IsPassOf words before
     → Follows was before → was.next ≡ Reserve → IsPassOf words after
-    → view_of after ≡ counter_added number (view_of before) → hand_of after ≡ Some number
+    → view_of after ≡ counter_added number (view_of before) → IsStepOn 0 before after → hand_of after ≡ Some number
     → IsPublished words before after was (moved was was.turn StoreScore) Going
-reserved words before after was number own follows is own' e hand =
-    let quiet = counter_is_quiet (view_of before) (view_of after) number e in
+reserved words before after was number own follows is own' e stepped hand =
+    let quiet = counter_is_quiet before after number e stepped in
     let on : PassGoesOn before after =
-    sees_nothing words before after own own' (known_on (view_of before) (view_of after) 0 number quiet)
+    sees_nothing words before after own own' (known_on before after 0 quiet)
     (ap (λ (v : View). v.keys) e) (ap (λ (v : View). v.names) e) in
     let stands = stands_on (plan_of words) before after was.cell was.turn on
     (due_here words before was Reserve own follows is) in
@@ -83,7 +89,7 @@ reserved words before after was number own follows is own' e hand =
     let owned : 0 < owns number (counter_added number (view_of before)).owned = omega (arith, one) in
     let owned' : 0 < owns number (view_of after).owned =
     subst (λ (v : View). 0 < owns number v.owned) (sym e) owned in
-    goes_on words before after was StoreScore 0 number own follows own' on quiet (inl (omega arith))
+    goes_on words before after was StoreScore 0 own follows own' on quiet (inl (omega arith))
     (stands, (number, record { hand = hand; owned = owned' })) refl
     (λ m. let four : steps_left m was.turn was.next ≡ 4 = ap (steps_left m was.turn) is in omega arith)
     (λ m. omega arith)
@@ -149,16 +155,15 @@ arena_is_behind plan parts.Choice number = omega arith
 module _ (words : Words) (before after : Pass) (was : Probe) (part : Part) (number code : ℕ)
     (own : IsPassOf words before) (in_hand : IsHand before number) (follows : Follows was before)
     (own' : IsPassOf words after) (e : view_of after ≡ arena_stored (plan_of words) part number code
-    (view_of before)) (hand : hand_of after ≡ hand_of before) where
-  quiet : IsQuiet (view_of before) (view_of after)
-      (arena_place (slots_of (plan_of words)) (records_of (plan_of words)) part number) code
-  quiet = arena_store_is_quiet (view_of before) (view_of after) (plan_of words) part number code e
+    (view_of before)) (hand : hand_of after ≡ hand_of before)
+    (stepped : IsStepOn (arena_place (slots_of (plan_of words)) (records_of (plan_of words)) part number) before after) where
+  quiet : IsQuiet before after (arena_place (slots_of (plan_of words)) (records_of (plan_of words)) part number)
+  quiet = arena_store_is_quiet before after (plan_of words) part number code e stepped
 
   on : PassGoesOn before after
   on =
       sees_nothing words before after own own'
-      (known_on (view_of before) (view_of after)
-      (arena_place (slots_of (plan_of words)) (records_of (plan_of words)) part number) code quiet)
+      (known_on before after (arena_place (slots_of (plan_of words)) (records_of (plan_of words)) part number) quiet)
       (ap (λ (v : View). v.keys) e) (ap (λ (v : View). v.names) e)
 
   owned_is : (view_of after).owned ≡ with_stored part number code (view_of before).owned
@@ -178,7 +183,7 @@ module _ (words : Words) (before after : Pass) (was : Probe) (part : Part) (numb
       → ((m : ℕ) → 0 < steps_left m was.turn next) → IsPublished words before after was (moved was was.turn next) Going
   store_on next due publishing fewer some_left =
       goes_on words before after was next
-      (arena_place (slots_of (plan_of words)) (records_of (plan_of words)) part number) code own follows own' on quiet
+      (arena_place (slots_of (plan_of words)) (records_of (plan_of words)) part number) own follows own' on quiet
       (inr (arena_is_behind (plan_of words) part number)) due publishing fewer some_left
 
   pub stands_now : Stands (plan_of words) (view_of before) was.cell was.turn
@@ -214,13 +219,15 @@ pub score_stored : (words : Words) (before after : Pass) (was : Probe) (number c
     → (was.next ≡ Reserve) ⊎ (was.next ≡ StoreScore) → IsAnswer (problem_of words) was.cell answer
     → code ≡ answer_word parts.Score answer → IsPassOf words after
     → view_of after ≡ arena_stored (plan_of words) parts.Score number code (view_of before)
-    → hand_of after ≡ hand_of before → IsPublished words before after was (moved was was.turn StoreChoice) Going
-score_stored words before after was number code answer own in_hand follows is right same own' e hand =
+    → hand_of after ≡ hand_of before
+    → IsStepOn (arena_place (slots_of (plan_of words)) (records_of (plan_of words)) parts.Score number) before after
+    → IsPublished words before after was (moved was was.turn StoreChoice) Going
+score_stored words before after was number code answer own in_hand follows is right same own' e hand stepped =
     let stands = go is in
     let mine = some_owned number (view_of before).owned in_hand.owned in
-    store_on words before after was parts.Score number code own in_hand follows own' e hand StoreChoice (
-      stands_now words before after was parts.Score number code own in_hand follows own' e hand stands,
-      filled words before after was parts.Score number code own in_hand follows own' e hand IsScorePart answer mine.0
+    store_on words before after was parts.Score number code own in_hand follows own' e hand stepped StoreChoice (
+      stands_now words before after was parts.Score number code own in_hand follows own' e hand stepped stands,
+      filled words before after was parts.Score number code own in_hand follows own' e hand stepped IsScorePart answer mine.0
           right mine.1 mine.2 (score_filled mine.0 code answer same),
     )
     refl less (λ m. omega arith)
@@ -250,16 +257,18 @@ pub choice_stored : (words : Words) (before after : Pass) (was : Probe) (number 
     → IsAnswer (problem_of words) was.cell answer → code ≡ answer_word parts.Choice answer
     → ((a b : Answer) → IsAnswer (problem_of words) was.cell a → IsAnswer (problem_of words) was.cell b → a ≡ b)
     → IsPassOf words after → view_of after ≡ arena_stored (plan_of words) parts.Choice number code (view_of before)
-    → hand_of after ≡ hand_of before → IsPublished words before after was (moved was was.turn Publish) Going
-choice_stored words before after was number code answer own in_hand follows is right same unique own' e hand =
+    → hand_of after ≡ hand_of before
+    → IsStepOn (arena_place (slots_of (plan_of words)) (records_of (plan_of words)) parts.Choice number) before after
+    → IsPublished words before after was (moved was was.turn Publish) Going
+choice_stored words before after was number code answer own in_hand follows is right same unique own' e hand stepped =
     let due = due_here words before was StoreChoice own follows is in
     let had = due.1 in
     let number_is = had.number_is ∙ same_number had.number number (sym had.hand.hand ∙ in_hand.hand) in
     let score = had.words parts.Score tt ∙ ap (answer_word parts.Score) (unique had.answer answer had.is_answer right)
     in
-    store_on words before after was parts.Choice number code own in_hand follows own' e hand Publish (
-      stands_now words before after was parts.Choice number code own in_hand follows own' e hand due.0,
-      filled words before after was parts.Choice number code own in_hand follows own' e hand (λ part. Unit {0}) answer
+    store_on words before after was parts.Choice number code own in_hand follows own' e hand stepped Publish (
+      stands_now words before after was parts.Choice number code own in_hand follows own' e hand stepped due.0,
+      filled words before after was parts.Choice number code own in_hand follows own' e hand stepped (λ part. Unit {0}) answer
           had.owned right had.mine number_is (both_filled had.owned code answer score same),
     )
     refl
@@ -271,7 +280,8 @@ choice_stored words before after was number code answer own in_hand follows is r
 module _ (words : Words) (before after : Pass) (was : Probe) (position number found : ℕ) (own : IsPassOf words before)
     (follows : Follows was before) (is : was.next ≡ Publish)
     (at : position ≡ probed (plan_of words) (cell_code was.cell) was.turn) (own' : IsPassOf words after)
-    (e : view_of after ≡ record_exchanged (plan_of words) position number found (view_of before)) where
+    (e : view_of after ≡ record_exchanged (plan_of words) position number found (view_of before))
+    (stepped : HasStepped (record_place (slots_of (plan_of words)) position) (Exchange 0 (number + 1)) found before after) where
   position_inside : position < slots_of (plan_of words)
   position_inside =
       subst (λ (n : ℕ). n < slots_of (plan_of words)) (sym at)
@@ -295,17 +305,22 @@ module _ (words : Words) (before after : Pass) (was : Probe) (position number fo
   on_now : PassGoesOn before after
   on_now = sees_nothing words before after own own' kept keys (ap (λ (v : View). v.names) e)
 
-  last : (view_of after).last ≡ last_at (record_place (slots_of (plan_of words)) position) found
-  last = ap (λ (v : View). v.last) e
+  last : last_event after ≡ Some
+      (event (record_place (slots_of (plan_of words)) position) (Exchange 0 (number + 1)) found)
+  last = last_is before after (record_place (slots_of (plan_of words)) position) (Exchange 0 (number + 1)) found stepped
 
-  there_now : IsOnRecordWord table_meaning after was.cell found
-  there_now =
-      on_record after (plan_of words) was.cell (record_place (slots_of (plan_of words)) position) found own'.plan last
-      position refl position_inside (ap (λ (s : List Seen). seen_at s position) keys ∙ stands)
+  there_now : HasExchanged table_meaning after was.cell found
+  there_now = (
+    number + 1,
+    on_record after (plan_of words) was.cell (record_place (slots_of (plan_of words)) position)
+        (Exchange 0 (number + 1)) found own'.plan last
+        position refl position_inside (ap (λ (s : List Seen). seen_at s position) keys ∙ stands),
+  )
 
-  found_is : (f : ℕ) → IsOnRecordWord table_meaning after was.cell f → found ≡ f
-  found_is =
-      found_there after (plan_of words) was.cell (record_place (slots_of (plan_of words)) position) found own'.plan last
+  found_is : (f : ℕ) → HasExchanged table_meaning after was.cell f → found ≡ f
+  found_is f (name, on) =
+      found_there after (plan_of words) was.cell (record_place (slots_of (plan_of words)) position)
+      (Exchange 0 (number + 1)) found own'.plan last (Exchange 0 name) f on
 
   other_known : (other : Cell) → (other ≡ was.cell → ⊥) → (was.cell ≡ other) ⊎ Contains (view_of before).known other
       → knows before other
@@ -338,7 +353,7 @@ module _ (words : Words) (before after : Pass) (was : Probe) (position number fo
       added,
       ap (λ (v : View). v.wins) e ∙ if_equal found 0 ((view_of before).wins + 1) (view_of before).wins none,
     );
-    won = ((λ e'. subst (IsOnRecordWord table_meaning after was.cell) none there_now), λ there'. refl);
+    won = ((λ e'. subst (HasExchanged table_meaning after was.cell) none there_now), λ there'. refl);
     lost = ((λ e'. cc), λ (f, full, there'). let same = found_is f there' in absurd (omega arith));
     fewer = λ m count. let left = one m in omega arith;
     some_left = λ m count e'. cc;

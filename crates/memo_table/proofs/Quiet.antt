@@ -1,64 +1,74 @@
 -- Steps that leave alone what a pass knows and what it won.
 use Rattle.std.proofs.Common.{◌≡◌, ℕ, List, Contains, refl, sym, ap, subst, ◌∙◌}
 use Rattle.adp_model.specs.declared.cell.Cell.{Cell}
+use Rattle.history_table.specs.declared.history.Deed.{Deed}
 use Rattle.memo_words.specs.declared.part.Part.{Part}
 use Rattle.memo_words.specs.declared.view.Seen.{Seen}
 use Rattle.memo_words.specs.declared.view.View.{View}
 use Rattle.memo_words.specs.Layout.{Plan, slots_of, records_of, key_place, arena_place}
 use Rattle.memo_words.specs.Steps.{StaySeen}
-use Rattle.memo_words.specs.Views.{seen_at, last_at, key_loaded, key_exchanged, counter_added, arena_stored, arena_loaded}
-use Rattle.memo_words.specs.Passes.{view_of, IsPassOf}
+use Rattle.memo_words.specs.Views.{seen_at, key_loaded, key_exchanged, counter_added, arena_stored, arena_loaded}
+use Rattle.memo_words.specs.Passes.{view_of, HasStepped, IsPassOf}
 use Rattle.memo_words.specs.declared.pass.Pass.{Pass}
 use Rattle.memo_words.specs.declared.words.Words.{Words}
 use Rattle.memo_table.specs.Meanings.{PassGoesOn}
 
--- the view is the first one but for what it saw, what it stored and its last step
-pub record IsQuiet (v w : View) (word found : ℕ) : Type 0 where
-  pub known : w.known ≡ v.known
-  pub wins : w.wins ≡ v.wins
-  pub weight : w.weight ≡ v.weight
-  pub spare : w.spare ≡ v.spare
-  pub last : w.last ≡ last_at word found
+-- the second pass is the first after one step on this word
+abbrev pub IsStepOn : ℕ → Pass → Pass → Type 0
+IsStepOn word before after = (deed : Deed) × (found : ℕ) × HasStepped word deed found before after
 
-quiet_by : (v w u : View) (word found : ℕ) → w ≡ u → IsQuiet v u word found → IsQuiet v w word found
-quiet_by v w u word found same quiet = subst (λ (x : View). IsQuiet v x word found) (sym same) quiet
+-- the pass is the first one after one step on this word, but for what it saw and what it stored
+pub record IsQuiet (before after : Pass) (word : ℕ) : Type 0 where
+  pub known : (view_of after).known ≡ (view_of before).known
+  pub wins : (view_of after).wins ≡ (view_of before).wins
+  pub weight : (view_of after).weight ≡ (view_of before).weight
+  pub spare : (view_of after).spare ≡ (view_of before).spare
+  pub stepped : IsStepOn word before after
 
-itself : (v u : View) (word found : ℕ) → u.known ≡ v.known → u.wins ≡ v.wins → u.weight ≡ v.weight
-    → u.spare ≡ v.spare → u.last ≡ last_at word found → IsQuiet v u word found
-itself v u word found known wins weight spare last =
-    record { known = known; wins = wins; weight = weight; spare = spare; last = last }
+quiet_by : (before after : Pass) (u : View) (word : ℕ) → view_of after ≡ u → u.known ≡ (view_of before).known
+    → u.wins ≡ (view_of before).wins → u.weight ≡ (view_of before).weight → u.spare ≡ (view_of before).spare
+    → IsStepOn word before after → IsQuiet before after word
+quiet_by before after u word e known wins weight spare stepped = record {
+  known = ap (λ (v : View). v.known) e ∙ known;
+  wins = ap (λ (v : View). v.wins) e ∙ wins;
+  weight = ap (λ (v : View). v.weight) e ∙ weight;
+  spare = ap (λ (v : View). v.spare) e ∙ spare;
+  stepped = stepped;
+}
 
-pub key_load_is_quiet : (v w : View) (position found : ℕ) → w ≡ key_loaded position found v
-    → IsQuiet v w (key_place position) found
-key_load_is_quiet v w position found e =
-    quiet_by v w (key_loaded position found v) (key_place position) found e
-    (itself v (key_loaded position found v) (key_place position) found refl refl refl refl refl)
+pub key_load_is_quiet : (before after : Pass) (position found : ℕ)
+    → view_of after ≡ key_loaded position found (view_of before) → IsStepOn (key_place position) before after
+    → IsQuiet before after (key_place position)
+key_load_is_quiet before after position found e stepped =
+    quiet_by before after (key_loaded position found (view_of before)) (key_place position) e refl refl refl refl stepped
 
-pub key_exchange_is_quiet : (v w : View) (position code found : ℕ) → w ≡ key_exchanged position code found v
-    → IsQuiet v w (key_place position) found
-key_exchange_is_quiet v w position code found e =
-    quiet_by v w (key_exchanged position code found v) (key_place position) found e
-    (itself v (key_exchanged position code found v) (key_place position) found refl refl refl refl refl)
+pub key_exchange_is_quiet : (before after : Pass) (position code found : ℕ)
+    → view_of after ≡ key_exchanged position code found (view_of before) → IsStepOn (key_place position) before after
+    → IsQuiet before after (key_place position)
+key_exchange_is_quiet before after position code found e stepped =
+    quiet_by before after (key_exchanged position code found (view_of before)) (key_place position) e
+    refl refl refl refl stepped
 
-pub counter_is_quiet : (v w : View) (found : ℕ) → w ≡ counter_added found v → IsQuiet v w 0 found
-counter_is_quiet v w found e =
-    quiet_by v w (counter_added found v) 0 found e (itself v (counter_added found v) 0 found refl refl refl refl refl)
+pub counter_is_quiet : (before after : Pass) (found : ℕ) → view_of after ≡ counter_added found (view_of before)
+    → IsStepOn 0 before after → IsQuiet before after 0
+counter_is_quiet before after found e stepped =
+    quiet_by before after (counter_added found (view_of before)) 0 e refl refl refl refl stepped
 
-pub arena_load_is_quiet : (v w : View) (plan : Plan) (part : Part) (number found : ℕ)
-    → w ≡ arena_loaded plan part number found v
-    → IsQuiet v w (arena_place (slots_of plan) (records_of plan) part number) found
-arena_load_is_quiet v w plan part number found e =
-    let u = arena_loaded plan part number found v in
-    let word = arena_place (slots_of plan) (records_of plan) part number in
-    quiet_by v w u word found e (itself v u word found refl refl refl refl refl)
+pub arena_load_is_quiet : (before after : Pass) (plan : Plan) (part : Part) (number found : ℕ)
+    → view_of after ≡ arena_loaded plan part number found (view_of before)
+    → IsStepOn (arena_place (slots_of plan) (records_of plan) part number) before after
+    → IsQuiet before after (arena_place (slots_of plan) (records_of plan) part number)
+arena_load_is_quiet before after plan part number found e stepped =
+    quiet_by before after (arena_loaded plan part number found (view_of before))
+    (arena_place (slots_of plan) (records_of plan) part number) e refl refl refl refl stepped
 
-pub arena_store_is_quiet : (v w : View) (plan : Plan) (part : Part) (number code : ℕ)
-    → w ≡ arena_stored plan part number code v
-    → IsQuiet v w (arena_place (slots_of plan) (records_of plan) part number) code
-arena_store_is_quiet v w plan part number code e =
-    let u = arena_stored plan part number code v in
-    let word = arena_place (slots_of plan) (records_of plan) part number in
-    quiet_by v w u word code e (itself v u word code refl refl refl refl refl)
+pub arena_store_is_quiet : (before after : Pass) (plan : Plan) (part : Part) (number code : ℕ)
+    → view_of after ≡ arena_stored plan part number code (view_of before)
+    → IsStepOn (arena_place (slots_of plan) (records_of plan) part number) before after
+    → IsQuiet before after (arena_place (slots_of plan) (records_of plan) part number)
+arena_store_is_quiet before after plan part number code e stepped =
+    quiet_by before after (arena_stored plan part number code (view_of before))
+    (arena_place (slots_of plan) (records_of plan) part number) e refl refl refl refl stepped
 
 -- ---- a pass goes on
 
@@ -99,6 +109,6 @@ module _ (words : Words) (v w : Pass) (before : IsPassOf words v) (after : IsPas
   }
 
 -- what was known is known after a quiet step
-pub known_on : (v w : View) (word found : ℕ) → IsQuiet v w word found → (cell : Cell) → Contains v.known cell
-    → Contains w.known cell
-known_on v w word found quiet cell has = subst (λ (l : List Cell). Contains l cell) (sym quiet.known) has
+pub known_on : (before after : Pass) (word : ℕ) → IsQuiet before after word → (cell : Cell)
+    → Contains (view_of before).known cell → Contains (view_of after).known cell
+known_on before after word quiet cell has = subst (λ (l : List Cell). Contains l cell) (sym quiet.known) has

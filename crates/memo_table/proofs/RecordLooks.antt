@@ -27,7 +27,7 @@ use Rattle.memo_table.specs.Probes.{stage_of, loads_record, steps_left, IsSeenNa
 use Rattle.memo_table.specs.Meanings.{PassGoesOn}
 use Rattle.memo_table.specs.Following.{named_on}
 use Rattle.memo_table.specs.Stepped.{IsLooked}
-use Rattle.memo_table.proofs.Quiet.{IsQuiet, arena_load_is_quiet, known_on, sees_nothing}
+use Rattle.memo_table.proofs.Quiet.{IsStepOn, IsQuiet, arena_load_is_quiet, known_on, sees_nothing}
 use Rattle.memo_table.proofs.Looks.{moved, follows_now, going, found_score}
 
 pub no_candidate : (p : PosedProblem) (cell : Cell) (answer : Answer) → IsAnswer p cell answer
@@ -70,16 +70,17 @@ module _ (words : Words) (before after : Pass) (was : Probe) (part : Part) (numb
     (own : IsPassOf words before) (follows : Follows was before)
     (seen : IsSeenNamed (plan_of words) (view_of before) was.cell was.turn number)
     (no_load : loads_record was.next ≡ false) (own' : IsPassOf words after)
-    (e : view_of after ≡ arena_loaded (plan_of words) part number code (view_of before)) where
+    (e : view_of after ≡ arena_loaded (plan_of words) part number code (view_of before))
+    (stepped : IsStepOn (arena_place (slots_of (plan_of words)) (records_of (plan_of words)) part number) before after) where
   abbrev word : ℕ
   word = arena_place (slots_of (plan_of words)) (records_of (plan_of words)) part number
 
-  quiet : IsQuiet (view_of before) (view_of after) word code
-  quiet = arena_load_is_quiet (view_of before) (view_of after) (plan_of words) part number code e
+  quiet : IsQuiet before after word
+  quiet = arena_load_is_quiet before after (plan_of words) part number code e stepped
 
   on : PassGoesOn before after
   on =
-      sees_nothing words before after own own' (known_on (view_of before) (view_of after) word code quiet)
+      sees_nothing words before after own own' (known_on before after word quiet)
       (ap (λ (v : View). v.keys) e) (ap (λ (v : View). v.names) e)
 
   code_is : IsCodeOf was.cell (seen_at (view_of before).keys (probed (plan_of words) (cell_code was.cell) was.turn))
@@ -93,7 +94,7 @@ module _ (words : Words) (before after : Pass) (was : Probe) (part : Part) (numb
       → ((m : ℕ) → steps_left m was.turn next < steps_left m was.turn was.next)
       → ((m : ℕ) → 0 < steps_left m was.turn next) → IsLooked words before after was (moved was was.turn next) Going
   read_on next still_open due fewer some_left =
-      going words before after was (moved was was.turn next) word code own' on quiet
+      going words before after was (moved was was.turn next) word own' on quiet
       (inr (arena_is_behind (plan_of words) part number)) refl
       (follows_now words before after was was.turn next own follows on due) no_load (λ m count. fewer m) still_open
       (λ m count. some_left m)
@@ -102,7 +103,7 @@ module _ (words : Words) (before after : Pass) (was : Probe) (part : Part) (numb
       → ((m : ℕ) → 0 < steps_left m was.turn was.next)
       → IsLooked words before after was (moved was was.turn Done) (Found score)
   read_found score is_score fewer =
-      found_score words before after was (moved was was.turn Done) word code own' on quiet
+      found_score words before after was (moved was was.turn Done) word own' on quiet
       (inr (arena_is_behind (plan_of words) part number)) refl
       (follows_now words before after was was.turn Done own follows on tt) no_load (λ m count. fewer m) score refl
       seen.known is_score

@@ -1,12 +1,13 @@
 -- What contracts see of the passes and probes of a table.
 use Rattle.std.specs.Prelude.{◌≡◌, ℕ, ◌<◌, Contains, Option, Some, None, List, [], ◌∷◌}
 use Rattle.adp_model.specs.declared.cell.Cell.{Cell}
-use Rattle.memo_model.specs.Memos.{Access, Meaning}
-use Rattle.memo_words.specs.declared.view.LastStep.{LastStep}
+use Rattle.memo_model.specs.Memos.{Meaning}
+use Rattle.history_table.specs.declared.history.Event.{Event}
+use Rattle.history_table.specs.declared.history.Mark.{Mark}
 use Rattle.memo_words.specs.Codes.{cell_code}
 use Rattle.memo_words.specs.Layout.{Plan, slots_of, record_place}
 use Rattle.memo_words.specs.Views.{seen_at}
-use Rattle.memo_words.specs.Passes.{view_of, IsPassOf}
+use Rattle.memo_words.specs.Passes.{view_of, marks_of, HasTold, IsPassOf}
 use Rattle.memo_words.specs.declared.pass.Pass.{Pass}
 use Rattle.memo_words.specs.declared.words.Words.{Words}
 use Rattle.memo_table.specs.declared.probe.Probe.{Probe}
@@ -17,9 +18,14 @@ use Rattle.memo_table.specs.Probes.{stage_of, loads_record, steps_left, Follows}
 abbrev pub share_of : Pass → List ℕ
 share_of pass = (view_of pass).weight ∷ (view_of pass).spare ∷ []
 
-abbrev pub access_of : Option LastStep → Option Access
-access_of None = None
-access_of (Some last) = Some (record { word = last.word; found = last.value })
+-- the last event of these marks, and of none the one before them
+abbrev pub event_behind : Option Event → List Mark → Option Event
+event_behind before [] = before
+event_behind before (mark ∷ marks) = event_behind (Some mark.event) marks
+
+-- the pass's last step, as the history of the words has it
+abbrev pub last_event : Pass → Option Event
+last_event pass = event_behind None (marks_of pass)
 
 -- the cell's code was seen at a position, and the word is the record word of that position
 pub record IsRecordWord (pass : Pass) (cell : Cell) (word : ℕ) : Type 0 where
@@ -40,7 +46,7 @@ table_meaning = record {
   known_or_not = λ pass cell. has_or_not (view_of pass).known cell;
   wins = λ pass. (view_of pass).wins;
   share = share_of;
-  last = λ pass. access_of (view_of pass).last;
+  last = last_event;
   record_word = IsRecordWord;
   cell = λ probe. probe.cell;
   stage = λ probe. stage_of probe.next;
@@ -57,3 +63,7 @@ pub record PassGoesOn (v w : Pass) : Type 0 where
   pub names : (position : ℕ) → 0 < seen_at (view_of v).names position
       → seen_at (view_of w).names position ≡ seen_at (view_of v).names position
   pub known : (cell : Cell) → knows v cell → knows w cell
+
+-- the same, and the step is exactly one: the one that the pass tells as its last, and that the history of the words has
+abbrev pub StepsOn : Pass → Pass → Type 0
+StepsOn v w = PassGoesOn v w × HasTold v w

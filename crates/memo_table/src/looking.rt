@@ -4,7 +4,7 @@ ghost use Rattle.memo_model.specs.StepsMade.{steps_made};
 ghost use Rattle.memo_words.specs.Codes.{HasCellCode, cell_code};
 ghost use Rattle.memo_words.specs.Layout.{probed, slots_of};
 ghost use Rattle.memo_table.specs.declared.probe.Next.TheVariants as next;
-ghost use Rattle.memo_words.specs.Passes.{plan_of, IsPassOf};
+ghost use Rattle.memo_words.specs.Passes.{plan_of, HasTold, IsPassOf};
 ghost use Rattle.memo_table.specs.Probes.{stage_of, Follows};
 ghost use Rattle.memo_table.specs.Stepped.{IsLooked};
 
@@ -39,6 +39,7 @@ impl Table {
         requires still_open { stage_of probe.old.next ≡ Open }
         requires follows { Follows probe.old pass.old }
         ensures looked { IsLooked self.now pass.old pass.new probe.old probe.new result }
+        ensures told { HasTold pass.old pass.new }
         ensures steps { steps_made steps.new ≡ steps_made steps.old + 1 }
     {
         match probe.next {
@@ -59,6 +60,7 @@ impl Table {
         requires key { probe.old.next ≡ next.Key }
         requires follows { Follows probe.old pass.old }
         ensures looked { IsLooked self.now pass.old pass.new probe.old probe.new result }
+        ensures told { HasTold pass.old pass.new }
         ensures steps { steps_made steps.new ≡ steps_made steps.old + 1 }
     {
         self.planned();
@@ -81,6 +83,7 @@ impl Table {
         requires claim { probe.old.next ≡ next.Claim }
         requires follows { Follows probe.old pass.old }
         ensures looked { IsLooked self.now pass.old pass.new probe.old probe.new result }
+        ensures told { HasTold pass.old pass.new }
         ensures steps { steps_made steps.new ≡ steps_made steps.old + 1 }
     {
         self.planned();
@@ -109,6 +112,7 @@ impl Table {
         requires record_word { probe.old.next ≡ next.RecordWord }
         requires follows { Follows probe.old pass.old }
         ensures looked { IsLooked self.now pass.old pass.new probe.old probe.new result }
+        ensures told { HasTold pass.old pass.new }
         ensures steps { steps_made steps.new ≡ steps_made steps.old + 1 }
     {
         self.planned();
@@ -135,6 +139,7 @@ impl Table {
         requires choice { probe.old.next ≡ next.Choice number }
         requires follows { Follows probe.old pass.old }
         ensures looked { IsLooked self.now pass.old pass.new probe.old probe.new result }
+        ensures told { HasTold pass.old pass.new }
         ensures steps { steps_made steps.new ≡ steps_made steps.old + 1 }
     {
         self.planned();
@@ -160,6 +165,7 @@ impl Table {
         requires score { probe.old.next ≡ next.Score number }
         requires follows { Follows probe.old pass.old }
         ensures looked { IsLooked self.now pass.old pass.new probe.old probe.new result }
+        ensures told { HasTold pass.old pass.new }
         ensures steps { steps_made steps.new ≡ steps_made steps.old + 1 }
     {
         self.planned();

@@ -6,13 +6,14 @@ use std::alloc::{AllocError, Global};
 use std::snapshot::Snapshot;
 
 impl Table {
-    ghost use Rattle.std.specs.Prelude.{◌≡◌, ◌+◌, ◌≤◌, ◌↔◌, ◌⊎◌, ℕ, IfOk, None};
+    ghost use Rattle.std.specs.Prelude.{◌≡◌, ◌+◌, ◌≤◌, ◌↔◌, ◌⊎◌, ℕ, ◌++◌, [], IfOk, None};
     ghost use Rattle.adp_model.specs.declared.cell.Cell.{Cell};
     ghost use Rattle.adp_model.specs.PosedProblem.{axiom_cell};
     ghost use Rattle.adp_model.specs.Demand.{IsDemanded, IsDemandedCount};
     ghost use Rattle.memo_words.specs.Kept.{IsPublished};
     ghost use Rattle.memo_words.specs.Views.{first_view, after_split, split_off, joined, hand_of_both};
-    ghost use Rattle.memo_words.specs.Passes.{view_of, hand_of, plan_of, problem_of, IsPassOf};
+    ghost use Rattle.memo_words.specs.Passes.{view_of, hand_of, marks_of, plan_of, problem_of, IsPassOf};
+    ghost use Rattle.history_table.specs.History.{IsHistoryOf};
     ghost use Rattle.memo_table.specs.Meanings.{knows};
     ghost use Rattle.memo_table.specs.ClosedTables.{IsHeldOnce};
 
@@ -29,6 +30,7 @@ impl Table {
         ensures own { IfOk result (λ made. IsPassOf made.0 made.1) }
         ensures view { IfOk result (λ made. view_of made.1 ≡ first_view (plan_of made.0)) }
         ensures hand { IfOk result (λ made. hand_of made.1 ≡ None) }
+        ensures marks { IfOk result (λ made. marks_of made.1 ≡ []) }
     {
         problem.admissible();
         let (words, pass) = Words::new(alloc, problem, seats)?;
@@ -45,6 +47,8 @@ impl Table {
         ensures new_own { IsPassOf self.now result }
         ensures new_view { view_of result ≡ split_off (view_of pass.old) }
         ensures new_hand { hand_of result ≡ None }
+        ensures old_marks { marks_of pass.new ≡ marks_of pass.old }
+        ensures new_marks { marks_of result ≡ [] }
     {
         self.words.split(pass)
     }
@@ -56,6 +60,7 @@ impl Table {
         ensures own { IsPassOf self.now into.new }
         ensures view { view_of into.new ≡ joined (view_of into.old) (view_of other) }
         ensures hand { hand_of into.new ≡ hand_of_both (hand_of into.old) (hand_of other) }
+        ensures marks { marks_of into.new ≡ marks_of into.old ++ marks_of other }
     {
         self.words.join(into, other);
     }
@@ -71,6 +76,7 @@ impl Table {
         ensures published { (cell : Cell) → IsPublished result.plan result.words cell
             ↔ IsDemanded (problem_of self) cell }
         ensures once { IsHeldOnce result }
+        ensures history { IsHistoryOf (marks_of pass) result.words }
         ensures wins { (m : ℕ) → IsDemandedCount (problem_of self) m → (view_of pass).wins ≡ m }
     {
         self.planned();

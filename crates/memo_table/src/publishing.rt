@@ -8,7 +8,7 @@ ghost use Rattle.memo_words.specs.declared.part.Part.TheVariants.{Score, Choice}
 ghost use Rattle.memo_words.specs.CodedCells.{answer_word};
 ghost use Rattle.memo_table.specs.declared.probe.Next.TheVariants as next;
 ghost use Rattle.memo_table.specs.AnswerWords.{HasAnswerWords};
-ghost use Rattle.memo_words.specs.Passes.{problem_of, hand_of, IsPassOf};
+ghost use Rattle.memo_words.specs.Passes.{problem_of, hand_of, HasTold, IsPassOf};
 ghost use Rattle.memo_table.specs.Probes.{stage_of, IsHand, Follows};
 ghost use Rattle.memo_table.specs.Meanings.{knows};
 ghost use Rattle.memo_table.specs.Stepped.{IsPublished};
@@ -63,6 +63,7 @@ impl Table {
         requires children { (child : Cell) → IsDemandedChild (problem_of self.now) probe.old.cell child
             → knows pass.old child }
         ensures published { IsPublished self.now pass.old pass.new probe.old probe.new result }
+        ensures told { HasTold pass.old pass.new }
         ensures steps { steps_made steps.new ≡ steps_made steps.old + 1 }
     {
         let Some(number) = pass.in_hand() else {
@@ -91,6 +92,7 @@ impl Table {
         requires reserve { probe.old.next ≡ next.Reserve }
         requires follows { Follows probe.old pass.old }
         ensures published { IsPublished self.now pass.old pass.new probe.old probe.new result }
+        ensures told { HasTold pass.old pass.new }
         ensures steps { steps_made steps.new ≡ steps_made steps.old + 1 }
     {
         let _number = reserve_step(&self.words, pass, steps);
@@ -113,6 +115,7 @@ impl Table {
         requires follows { Follows probe.old pass.old }
         requires answer { IsAnswer (problem_of self.now) probe.old.cell answer }
         ensures published { IsPublished self.now pass.old pass.new probe.old probe.new result }
+        ensures told { HasTold pass.old pass.new }
         ensures steps { steps_made steps.new ≡ steps_made steps.old + 1 }
     {
         self.planned();
@@ -138,6 +141,7 @@ impl Table {
         requires follows { Follows probe.old pass.old }
         requires answer { IsAnswer (problem_of self.now) probe.old.cell answer }
         ensures published { IsPublished self.now pass.old pass.new probe.old probe.new result }
+        ensures told { HasTold pass.old pass.new }
         ensures steps { steps_made steps.new ≡ steps_made steps.old + 1 }
     {
         self.planned();
@@ -164,6 +168,7 @@ impl Table {
         requires children { (child : Cell) → IsDemandedChild (problem_of self.now) probe.old.cell child
             → knows pass.old child }
         ensures published { IsPublished self.now pass.old pass.new probe.old probe.new result }
+        ensures told { HasTold pass.old pass.new }
         ensures steps { steps_made steps.new ≡ steps_made steps.old + 1 }
     {
         let position = self.position(probe);

@@ -44,7 +44,7 @@ impl Table {
 impl Memo for Table {
     ghost use Rattle.std.specs.Prelude.{false};
     ghost use Rattle.memo_words.specs.Passes.{problem_of, IsPassOf};
-    ghost use Rattle.memo_table.specs.Meanings.{table_meaning, PassGoesOn};
+    ghost use Rattle.memo_table.specs.Meanings.{table_meaning, StepsOn};
     ghost use Rattle.memo_table.specs.Following.{demanded_by, follows_on};
 
     type Pass = Pass;
@@ -59,7 +59,7 @@ impl Memo for Table {
 
     ghost meaning = { table_meaning };
 
-    ghost goes_on = { PassGoesOn };
+    ghost goes_on = { StepsOn };
 
     fn probe(&self, cell: Cell) -> Probe {
         self.planned();
@@ -97,5 +97,5 @@ impl Memo for Table {
 
     ghost probe_is_demanded = { demanded_by };
 
-    ghost follows_on = { follows_on };
+    ghost follows_on = { λ probe v w on. follows_on probe v w on.0 };
 }

@@ -1,5 +1,5 @@
 -- What goes on to hold where the words that were not 0 stay.
-use Rattle.std.proofs.Common.{◌≡◌, ℕ, ◌+◌, ◌-◌, ◌*◌, ◌<◌, None, List, [], ◌∷◌, length, get_or, set, slice_index, sym, ap, ◌∙◌, subst, All, arith}
+use Rattle.std.proofs.Common.{◌≡◌, ℕ, ◌+◌, ◌-◌, ◌*◌, ◌<◌, List, [], length, get_or, set, sym, ap, ◌∙◌, subst, All, arith}
 use mathlib.Core.Option.{some}
 use lib.ListN.{get_elem?}
 use lib.Seq.{set-get_or}
@@ -12,10 +12,10 @@ use Rattle.memo_words.specs.declared.view.Owned.{Owned}
 use Rattle.memo_words.specs.declared.view.View.{View}
 use Rattle.memo_words.specs.CodedCells.{IsCodeOf}
 use Rattle.memo_words.specs.Layout.{Plan, slots_of, probed, arena_place, key}
-use Rattle.memo_words.specs.Views.{owns, last_at, first_view}
+use Rattle.memo_words.specs.Views.{owns}
 use Rattle.memo_words.specs.Kept.{Kept, Fits, StandsAt, IsPublished, IsHeldAt, IsStored, name, arena, share, wins_of, count_owned}
 use Rattle.memo_words.specs.Probes.{home}
-use Rattle.memo_words.proofs.Lists.{sum_set, each_set, not_alone}
+use Rattle.memo_words.proofs.Lists.{sum_set, each_set}
 use Rattle.std.proofs.lemmas.Nat.{pow_pos}
 use Rattle.std.proofs.Math.Nat.{mod-lt}
 
@@ -102,21 +102,11 @@ module _ (plan : Plan) where
         let same = grows.keys y (probed_low (key ws x) j) old in omega arith);
   }
 
-  -- a view that has made a step is not a first one
-  pub begun : (word value : ℕ) → last_at word value ≡ None → ⊥
-  begun word value e = cc
-
-  -- what is so before the first step is nothing after one
-  pub no_more : (views : List View) (ws : List ℕ) (id : ℕ) (v w : View) → get_elem? views id ≡ some v
-      → (w.last ≡ None → ⊥) → set views id w ≡ first_view plan ∷ [] → (i : ℕ) → slice_index ws i ≡ 0
-  no_more views ws id v w at moved alone i =
-      absurd (not_alone views id v w (first_view plan) at (λ e. moved (ap (λ (u : View). u.last) e)) alone)
-
   -- a step of one view that changes no word
   pub looked : (s : St) (r : Kept plan s) (i id : ℕ) (v w : View) → get_elem? s.views id ≡ some v → share w ≡ share v
-      → w.wins ≡ v.wins → w.owned ≡ v.owned → (w.last ≡ None → ⊥) → Fits plan s.words w
+      → w.wins ≡ v.wins → w.owned ≡ v.owned → Fits plan s.words w
       → Kept plan (stepped s i (get_or s.words i 0) id [] w keeps)
-  looked s r i id v w at shares wins owned moved fits = subst
+  looked s r i id v w at shares wins owned fits = subst
       (λ (ws : List ℕ). Kept plan record { words = ws; homes = s.homes; views = set s.views id w }) (sym
       (set-get_or s.words i 0)) record {
         wide = r.wide;
@@ -135,6 +125,5 @@ module _ (plan : Plan) where
         closed = r.closed;
         shares = let t = sum_set share s.views id v w at in let e = r.shares in omega arith;
         wins = let t = sum_set wins_of s.views id v w at in let e = r.wins in omega arith;
-        unbegun = no_more s.views s.words id v w at moved;
         each = each_set (Fits plan s.words) s.views id w fits r.each;
       }

@@ -1,5 +1,5 @@
 -- An exchange that puts a key keeps the rule.
-use Rattle.std.proofs.Common.{◌≡◌, ℕ, ◌+◌, ◌-◌, ◌<◌, ◌≢◌, ◌==◌, min, None, List, [], length, set, sym, ap, ◌∙◌, subst, slice_index, if◌then◌else◌, arith, length-set, get_or-set_other, get_or-set_same}
+use Rattle.std.proofs.Common.{◌≡◌, ℕ, ◌+◌, ◌-◌, ◌<◌, ◌≢◌, ◌==◌, min, List, [], length, set, sym, ap, ◌∙◌, subst, slice_index, if◌then◌else◌, arith, length-set, get_or-set_other, get_or-set_same}
 use mathlib.Core.Logic.{dite}
 use native.Mathlib.Decide.{ℕ_discrete, dec_le}
 use mathlib.Core.Option.{some}
@@ -18,7 +18,7 @@ use Rattle.memo_words.specs.Kept.{Kept, Fits, StandsAt, IsHeldAt, name, arena, n
 use Rattle.memo_words.proofs.Lists.{sum_set, each_set}
 use Rattle.memo_words.proofs.Tallies.{tally_same}
 use Rattle.memo_words.proofs.CodesApart.{code_some}
-use Rattle.memo_words.proofs.Frame.{St, owned_of, no_more, Grows, arena_behind, held_on, published_on, fits_on, stored_on, stands_on}
+use Rattle.memo_words.proofs.Frame.{St, owned_of, Grows, arena_behind, held_on, published_on, fits_on, stored_on, stands_on}
 
 module _ (plan : Plan) where
   -- no key is a code whose probe found only others before a free position
@@ -42,10 +42,10 @@ module _ (plan : Plan) where
       → get_elem? s.views id ≡ some v → q < slots_of plan → key s.words q ≡ 0
       → IsCodeOf cell code → IsDemanded plan.problem cell → probed plan code turn ≡ q
       → ((j : ℕ) → j < turn → (0 < key s.words (probed plan code j)) × (key s.words (probed plan code j) ≢ code))
-      → share w ≡ share v → w.wins ≡ v.wins → w.owned ≡ v.owned → (w.last ≡ None → ⊥) → (Fits plan (set s.words (key_place q) code) v
+      → share w ≡ share v → w.wins ≡ v.wins → w.owned ≡ v.owned → (Fits plan (set s.words (key_place q) code) v
       → Fits plan (set s.words (key_place q) code) w)
       → Kept plan (stepped s (key_place q) code id [] w keeps)
-  keys_put s r id v w q code turn cell at lt empty is demanded here others shares wins owned moved fits =
+  keys_put s r id v w q code turn cell at lt empty is demanded here others shares wins owned fits =
       let slots : ℕ = slots_of plan in
       let ws : List ℕ = s.words in let us : List ℕ = set ws (key_place q) code in let wide = r.wide in
       let full_code = code_some cell code is in
@@ -120,7 +120,6 @@ module _ (plan : Plan) where
         ) child);
         shares = let t = sum_set share s.views id v w at in let e = r.shares in omega arith;
         wins = let t = sum_set wins_of s.views id v w at in let e = r.wins in omega arith;
-        unbegun = no_more plan s.views us id v w at moved;
         each = each_set (Fits plan us) s.views id w (let f = r.each id v at in
             fits (fits_on plan ws us grows v (stored_on plan ws us arenas v.owned f.stored) f)) (λ j u e.
             let f = r.each j u e in fits_on plan ws us grows u (stored_on plan ws us arenas u.owned f.stored) f);

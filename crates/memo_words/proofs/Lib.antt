@@ -14,3 +14,4 @@ pub mod Plays
 pub mod Soundness
 pub mod Planned
 pub mod Demands
+mod Wins

@@ -1,5 +1,5 @@
 -- Making, splitting, joining and closing, and what each step makes of a view.
-use Rattle.std.proofs.Common.{◌≡◌, ℕ, ◌+◌, ◌<◌, ◌≤◌, ◌≢◌, ◌==◌, min, List, [], ◌∷◌, ◌++◌, set, sym, refl, ◌∙◌, subst, slice_index, if◌then◌else◌, sum_by, ⊎_elim, replicate, zero, suc, Some, arith, ap, length, length-append, length-set}
+use Rattle.std.proofs.Common.{◌≡◌, ℕ, ◌+◌, ◌<◌, ◌≤◌, ◌≢◌, ◌==◌, min, List, [], ◌∷◌, ◌++◌, set, sym, refl, ◌∙◌, subst, slice_index, if◌then◌else◌, sum_by, ⊎_elim, replicate, zero, suc, Some, arith, length-append}
 use mathlib.Core.Logic.{dite}
 use native.Mathlib.Decide.{ℕ_discrete}
 use mathlib.Core.Option.{Option, some, some-injective, some-ne-none}
@@ -15,7 +15,7 @@ use Rattle.memo_words.specs.Layout.{Plan, slots_of, records_of, word_count, key,
 use Rattle.memo_words.specs.Views.{seen_at, seen_too, seen_unless_0, first_view, after_split, split_off, joined, spent}
 use Rattle.memo_words.specs.Kept.{Kept, Fits, IsPublished, IsStored, name, named, filled, share, wins_of, count_owned}
 use Rattle.memo_words.specs.Steps.{IsClosing}
-use Rattle.memo_words.proofs.Lists.{at_below, sum_set, each_set, each_push, two_within}
+use Rattle.memo_words.proofs.Lists.{sum_set, each_set, each_push, two_within}
 use Rattle.memo_words.proofs.Tallies.{tally_none}
 use Rattle.memo_words.proofs.Records.{chosen, seen-append, owns-append, none_if}
 use Rattle.memo_words.proofs.Frame.{St, owned_of}
@@ -72,9 +72,6 @@ module _ (plan : Plan) where
             let e = r.shares in omega arith;
         wins = let t = sum_set wins_of s.views id v a at in let u = sum_by_push wins_of vs b in
             let e = r.wins in omega arith;
-        unbegun = λ alone i. let low = at_below s.views id v at in let long = length-set s.views id a in
-            let more = length-append vs (b ∷ []) in
-            let one : length (vs ++ b ∷ []) ≡ 1 = ap length alone in absurd (omega arith);
         each = each_push (F s.words) vs b record {
           plan_is = λ _. fits.plan_is live;
           spent = λ none. absurd
@@ -124,9 +121,6 @@ module _ (plan : Plan) where
             let e = r.shares in omega arith;
         wins = let t = sum_set wins_of s.views id v both at in let u = sum_set wins_of vs other w spent at' in
             let e = r.wins in omega arith;
-        unbegun = λ alone i. let low = at_below s.views id v at in let low' = at_below vs other w at' in
-            let long = length-set s.views id both in let long' = length-set vs other spent in
-            let one : length (set vs other spent) ≡ 1 = ap length alone in absurd (two (omega arith));
         each = each_set (F s.words) vs other spent record {
           plan_is = λ h. absurd (omega arith);
           spent = λ _. (
@@ -191,7 +185,6 @@ module _ (plan : Plan) where
         closed = λ c d h _. let full = h.2.named in let z = no_name h.0 in absurd (omega arith);
         shares = omega arith;
         wins = omega arith;
-        unbegun = λ _. at_0;
         each = λ i v at. subst (F ws) (only i v at) record {
           plan_is = λ _. refl;
           spent = λ h. absurd

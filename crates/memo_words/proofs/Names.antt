@@ -1,5 +1,5 @@
 -- An exchange that names a record keeps the rule.
-use Rattle.std.proofs.Common.{◌≡◌, ℕ, ◌+◌, ◌-◌, ◌<◌, ◌≢◌, ◌==◌, min, None, List, [], length, set, sym, ap, ◌∙◌, subst, slice_index, if◌then◌else◌, sum_by, Contains, lt_of_not-le, arith, length-set, get_or-set_other, get_or-set_same}
+use Rattle.std.proofs.Common.{◌≡◌, ℕ, ◌+◌, ◌-◌, ◌<◌, ◌≢◌, ◌==◌, min, List, [], length, set, sym, ap, ◌∙◌, subst, slice_index, if◌then◌else◌, sum_by, Contains, lt_of_not-le, arith, length-set, get_or-set_other, get_or-set_same}
 use mathlib.Core.Logic.{dite}
 use native.Mathlib.Decide.{ℕ_discrete, dec_le}
 use mathlib.Core.Option.{some}
@@ -21,7 +21,7 @@ use Rattle.memo_words.proofs.Lists.{sum_set, each_set, one_within, two_within}
 use Rattle.memo_words.proofs.Tallies.{tally_one, tally_at}
 use Rattle.memo_words.proofs.Records.{owns_some, owns-dropped, owns-dropped_other, length-dropped, one_if, none_if}
 use Rattle.memo_words.proofs.CodesApart.{code_some, one_cell}
-use Rattle.memo_words.proofs.Frame.{St, owned_of, no_more, Grows, arena_behind, held_on, published_on, fits_on, stored_on, stands_on}
+use Rattle.memo_words.proofs.Frame.{St, owned_of, Grows, arena_behind, held_on, published_on, fits_on, stored_on, stands_on}
 
 module _ (plan : Plan) where
   -- a record that a view owns is below the counter, named nowhere, and no other view owns it
@@ -53,12 +53,12 @@ module _ (plan : Plan) where
       → IsCodeOf cell (key s.words q) → Contains v.owned o → IsAnswer plan.problem cell answer → ((part : Part)
       → stored part o ≡ answer_word part answer)
       → ((child : Cell) → IsDemandedChild plan.problem cell child → Contains v.known child)
-      → share w ≡ share v → w.wins ≡ v.wins + 1 → w.owned ≡ dropped o.number v.owned → (w.last ≡ None → ⊥)
+      → share w ≡ share v → w.wins ≡ v.wins + 1 → w.owned ≡ dropped o.number v.owned
       → (Fits plan (set s.words (record_place (slots_of plan) q) (o.number + 1)) v
       → IsHeldAt plan (set s.words (record_place (slots_of plan) q) (o.number + 1)) q cell answer
       → Fits plan (set s.words (record_place (slots_of plan) q) (o.number + 1)) w)
       → Kept plan (stepped s (record_place (slots_of plan) q) (o.number + 1) id [] w keeps)
-  name_put s r id v w q cell answer o at lt empty keyed_q has is_answer codes children shares wins owned moved fits =
+  name_put s r id v w q cell answer o at lt empty keyed_q has is_answer codes children shares wins owned fits =
       let slots : ℕ = slots_of plan in
       let number : ℕ = o.number in let ws : List ℕ = s.words in
       let us : List ℕ = set ws (record_place slots q) (number + 1) in let wide = r.wide in
@@ -142,7 +142,6 @@ module _ (plan : Plan) where
             (λ n. grown d (r.closed c d (h.0, h.1, held_back h.0 n c h.1 h.2) child));
         shares = let t = sum_set share s.views id v w at in let e = r.shares in omega arith;
         wins = let t = sum_set wins_of s.views id v w at in let e = r.wins in omega arith;
-        unbegun = no_more plan s.views us id v w at moved;
         each = each_set (Fits plan us) s.views id w (let f = r.each id v at in
             fits (fits_on plan ws us grows v (stored_on plan ws us arenas v.owned f.stored) f) here) (λ j u e.
             let f = r.each j u e in fits_on plan ws us grows u (stored_on plan ws us arenas u.owned f.stored) f);

@@ -25,7 +25,7 @@ use Rattle.memo_words.specs.Passes.{IsReady}
 use Rattle.memo_words.proofs.Lists.{at_below}
 use Rattle.memo_words.proofs.Records.{chosen, is_yes, is_no, length-dropped, owns-dropped, owns_some, All-dropped}
 use Rattle.memo_words.proofs.CodesApart.{code_some, cell_is, one_cell}
-use Rattle.memo_words.proofs.Frame.{St, begun, looked, arena_apart}
+use Rattle.memo_words.proofs.Frame.{St, looked, arena_apart}
 use Rattle.memo_words.proofs.Keys.{keys_put}
 use Rattle.memo_words.proofs.Names.{name_put, owned_once}
 use Rattle.memo_words.proofs.Room.{counter_up, has_room}
@@ -93,7 +93,7 @@ module _ (plan : Plan) where
         w,
         keeps,
         tt,
-        looked plan s r (key_place q) id v w at refl refl refl (begun plan _ _) record {
+        looked plan s r (key_place q) id v w at refl refl refl record {
           plan_is = fits.plan_is;
           spent
               = fits.spent;
@@ -122,11 +122,11 @@ module _ (plan : Plan) where
       (λ j l. let o = others j l in let full = o.0 in let differs = o.1 in
       let same = (fits.keys (probed plan code j) o.0).1 in
       (let full' : 0 < key s.words (probed plan code j) = omega arith in full', λ e. differs (sym same ∙ e)))
-      refl refl refl (begun plan _ _)
+      refl refl refl
       (keys_fit put v q now (key_place q) found lt (get_or-set_same s.words (key_place q) code 0 (omega arith)
       ∙ sym (is_yes found 0 code found empty))) in
       let full_put : found ≢ 0 → Rule plan (stepped s (key_place q) found id me.1 w keeps) = λ full.
-      looked plan s r (key_place q) id v w at refl refl refl (begun plan _ _) (keys_fit s.words v q now (key_place q) found lt (sym
+      looked plan s r (key_place q) id v w at refl refl refl (keys_fit s.words v q now (key_place q) found lt (sym
       (is_no found 0 code found full)) fits) in
       let kept : Rule plan (stepped s (key_place q) (either
       (eqb found 0) code found) id me.1 w keeps) = exchanged found 0 code
@@ -209,7 +209,7 @@ module _ (plan : Plan) where
         w,
         keeps,
         tt,
-        looked plan s r (record_place (slots_of plan) q) id v w at refl refl refl (begun plan _ _) (loaded_fits s r v q fits lt saw),
+        looked plan s r (record_place (slots_of plan) q) id v w at refl refl refl (loaded_fits s r v q fits lt saw),
         λ o x is e. for_plan plan v (fits.plan_is live) T t o is x e,
       )
 
@@ -231,7 +231,7 @@ module _ (plan : Plan) where
       (o.number + 1) id me.1 w keeps) = λ empty.
       let gone : w.owned ≡ dropped o.number v.owned = is_yes found 0 (dropped o.number v.owned) v.owned empty in
       name_put plan s r id v w q cell answer o at lt empty key_is has is_answer codes children refl (is_yes found 0
-      (v.wins + 1) v.wins empty) gone (begun plan _ _) (λ f here. record {
+      (v.wins + 1) v.wins empty) gone (λ f here. record {
         plan_is = f.plan_is;
         spent = λ none. absurd (omega arith);
         keys = f.keys;
@@ -247,7 +247,7 @@ module _ (plan : Plan) where
       }) in
       let full_put : found ≢ 0 → Rule plan (stepped s (record_place (slots_of plan) q) found id me.1 w keeps) = λ full.
       looked plan s r (record_place (slots_of plan) q) id v w at refl (is_no found 0 (v.wins + 1) v.wins full)
-      (is_no found 0 (dropped o.number v.owned) v.owned full) (begun plan _ _) record {
+      (is_no found 0 (dropped o.number v.owned) v.owned full) record {
         plan_is = fits.plan_is;
         spent = λ none. absurd (omega arith);
         keys = fits.keys;
@@ -293,7 +293,7 @@ module _ (plan : Plan) where
         keeps,
         tt,
         subst (λ (u : ℕ). Rule plan (stepped s 0 u id me.1 w keeps)) (sym whole)
-            (counter_up plan fit s r id v w at less refl refl refl refl (begun plan _ _) record {
+            (counter_up plan fit s r id v w at less refl refl refl refl record {
               plan_is = fits.plan_is;
               spent
                   = fits.spent;
@@ -321,7 +321,7 @@ module _ (plan : Plan) where
         w,
         keeps,
         tt,
-        stored_put plan s r id v w part number code at owner refl refl refl (begun plan _ _) record {
+        stored_put plan s r id v w part number code at owner refl refl refl record {
           plan_is = fits.plan_is;
           spent
               = fits.spent;
@@ -363,7 +363,7 @@ module _ (plan : Plan) where
         w,
         keeps,
         tt,
-        looked plan s r place id v w at refl refl refl (begun plan _ _) record {
+        looked plan s r place id v w at refl refl refl record {
           plan_is = fits.plan_is;
           spent = fits.spent;
           keys

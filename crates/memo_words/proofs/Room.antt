@@ -1,6 +1,6 @@
 -- The counter goes up by one, and stays within the records: there are at most as many names as cells, and a view owns at
 -- most its weight.
-use Rattle.std.proofs.Common.{◌≡◌, ℕ, zero, suc, ◌+◌, ◌-◌, ◌<◌, ◌≤◌, ◌≢◌, ◌⊎◌, inl, inr, ◌==◌, min, None, List, [], ◌∷◌, length, set, sym, refl, ap, ◌∙◌, subst, slice_index, if◌then◌else◌, sum_by, All, arith, length-set, get_or-set_other, get_or-set_same}
+use Rattle.std.proofs.Common.{◌≡◌, ℕ, zero, suc, ◌+◌, ◌-◌, ◌<◌, ◌≤◌, ◌≢◌, ◌⊎◌, inl, inr, ◌==◌, min, List, [], ◌∷◌, length, set, sym, refl, ap, ◌∙◌, subst, slice_index, if◌then◌else◌, sum_by, All, arith, length-set, get_or-set_other, get_or-set_same}
 use mathlib.Core.Logic.{dite}
 use native.Mathlib.Decide.{ℕ_discrete, dec_le}
 use mathlib.Core.Option.{some, some-ne-none, some-injective}
@@ -22,7 +22,7 @@ use Rattle.memo_words.specs.Steps.{KeysFit}
 use Rattle.memo_words.proofs.Lists.{sum_set, each_set}
 use Rattle.memo_words.proofs.Tallies.{tally_same, tally_at, tally_none, tally_swap, tally_le, tally_ones}
 use Rattle.memo_words.proofs.Records.{one_if, none_if}
-use Rattle.memo_words.proofs.Frame.{St, owned_of, no_more, Grows, arena_behind, held_on, published_on, fits_on, stored_on, stands_on}
+use Rattle.memo_words.proofs.Frame.{St, owned_of, Grows, arena_behind, held_on, published_on, fits_on, stored_on, stands_on}
 
 -- positions of distinct numbers below a bound are at most as many as the bound
 pigeons : (f : ℕ → ℕ) (slots cells : ℕ) → ((i : ℕ) → i < slots → f i < cells + 1) → ((i j : ℕ) → i < slots → j < slots
@@ -132,9 +132,9 @@ module _ (plan : Plan) (fit : KeysFit plan) where
   pub counter_up : (s : St) (r : Kept plan s) (id : ℕ) (v w : View) → get_elem? s.views id ≡ some v
       → count_owned v < v.weight → share w ≡ share v → w.weight ≡ v.weight → w.wins ≡ v.wins
       → w.owned ≡ record { number = counter s.words; score = 0; choice = 0 } ∷ v.owned
-      → (w.last ≡ None → ⊥) → Fits plan s.words (record w { owned = v.owned })
+      → Fits plan s.words (record w { owned = v.owned })
       → Kept plan (stepped s 0 (counter s.words + 1) id [] w keeps)
-  counter_up s r id v w at less shares weight wins owned moved fits =
+  counter_up s r id v w at less shares weight wins owned fits =
       let slots : ℕ = slots_of plan in
       let ws : List ℕ = s.words in let c : ℕ = counter ws in let us : List ℕ = set ws 0 (c + 1) in
       let wide = r.wide in let room = has_room s r id v at less in
@@ -194,7 +194,6 @@ module _ (plan : Plan) (fit : KeysFit plan) where
         ) child);
         shares = let t = sum_set share s.views id v w at in let e = r.shares in omega arith;
         wins = let t = sum_set wins_of s.views id v w at in let e = r.wins in omega arith;
-        unbegun = no_more plan s.views us id v w at moved;
         each = each_set (Fits plan us) s.views id w record {
           plan_is = f.plan_is;
           spent = f.spent;

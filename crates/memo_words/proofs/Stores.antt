@@ -1,5 +1,5 @@
 -- A store in a record of one's own keeps the rule.
-use Rattle.std.proofs.Common.{◌≡◌, ℕ, ◌+◌, ◌-◌, ◌<◌, ◌≢◌, ◌⊎◌, inl, inr, ⊎_elim, ◌==◌, min, None, List, [], ◌∷◌, length, get_or, set, sym, refl, ap, ◌∙◌, subst, slice_index, if◌then◌else◌, All, Contains, lt_of_not-le, arith, length-set, get_or-set_other, get_or-set_same}
+use Rattle.std.proofs.Common.{◌≡◌, ℕ, ◌+◌, ◌-◌, ◌<◌, ◌≢◌, ◌⊎◌, inl, inr, ⊎_elim, ◌==◌, min, List, [], ◌∷◌, length, get_or, set, sym, refl, ap, ◌∙◌, subst, slice_index, if◌then◌else◌, All, Contains, lt_of_not-le, arith, length-set, get_or-set_other, get_or-set_same}
 use mathlib.Core.Logic.{dite}
 use native.Mathlib.Decide.{dec_le}
 use mathlib.Core.Option.{some}
@@ -21,7 +21,7 @@ use Rattle.memo_words.proofs.Lists.{sum_set}
 use Rattle.memo_words.proofs.Tallies.{tally_same, tally_at}
 use Rattle.memo_words.proofs.Records.{chosen, one_if, owns_some, owned_other}
 use Rattle.memo_words.proofs.Names.{is_own, not_named, not_others}
-use Rattle.memo_words.proofs.Frame.{St, owned_of, no_more, Grows, arena_apart, arena_behind, arena_ahead, held_on, published_on, fits_on, stands_on}
+use Rattle.memo_words.proofs.Frame.{St, owned_of, Grows, arena_apart, arena_behind, arena_ahead, held_on, published_on, fits_on, stands_on}
 
 same_number : (part : Part) (code : ℕ) (e : Owned) → (store_in part code e).number ≡ e.number
 same_number Score code e = refl
@@ -84,9 +84,9 @@ module _ (plan : Plan) where
 
   pub stored_put : (s : St) (r : Kept plan s) (id : ℕ) (v w : View) (part : Part) (number code : ℕ)
       → get_elem? s.views id ≡ some v → 0 < owns number v.owned → share w ≡ share v → w.wins ≡ v.wins
-      → w.owned ≡ with_stored part number code v.owned → (w.last ≡ None → ⊥) → Fits plan s.words (record w { owned = v.owned })
+      → w.owned ≡ with_stored part number code v.owned → Fits plan s.words (record w { owned = v.owned })
       → Kept plan (stepped s (arena_place (slots_of plan) (records_of plan) part number) code id [] w keeps)
-  stored_put s r id v w part number code at owner shares wins owned moved fits =
+  stored_put s r id v w part number code at owner shares wins owned fits =
       let slots : ℕ = slots_of plan in let place : ℕ = arena_place slots (records_of plan) part number in
       let ws : List ℕ = s.words in let us : List ℕ = set ws place code in let wide = r.wide in let room = r.room in
       let below = is_own plan s r id v number at owner in
@@ -160,7 +160,6 @@ module _ (plan : Plan) where
         ) child);
         shares = let t = sum_set share s.views id v w at in let e = r.shares in omega arith;
         wins = let t = sum_set wins_of s.views id v w at in let e = r.wins in omega arith;
-        unbegun = no_more plan s.views us id v w at moved;
         each = each_set_at (Fits plan us) s.views id w
             (let f = fits_on plan ws us grows (record w { owned = [] }) (All-nil
             (IsStored plan us)) record {

@@ -1,5 +1,5 @@
 -- The rule of the table: a fact about its words and the views of all passes, which holds between any two steps.
-use Rattle.std.specs.Prelude.{◌≡◌, ℕ, ◌+◌, ◌-◌, ◌<◌, ◌≤◌, ◌==◌, List, [], ◌∷◌, min, length, slice_index, if◌then◌else◌, Some, All, sum_by}
+use Rattle.std.specs.Prelude.{◌≡◌, ℕ, ◌+◌, ◌-◌, ◌<◌, ◌≤◌, ◌==◌, List, min, length, if◌then◌else◌, Some, All, sum_by}
 use mathlib.Core.Option.{some}
 use lib.ListN.{get_elem?}
 use Rattle.atomic_table.specs.Table.{State}
@@ -12,7 +12,7 @@ use Rattle.memo_words.specs.declared.view.Owned.{Owned}
 use Rattle.memo_words.specs.declared.view.View.{View}
 use Rattle.memo_words.specs.CodedCells.{IsCodeOf, answer_word}
 use Rattle.memo_words.specs.Layout.{Plan, slots_of, records_of, probed, word_count, counter, key, record_word, arena_word, tally}
-use Rattle.memo_words.specs.Views.{seen_at, owns, stored, first_view}
+use Rattle.memo_words.specs.Views.{seen_at, owns, stored}
 
 abbrev pub share : View → ℕ
 share v = v.weight + v.spare
@@ -106,8 +106,6 @@ module _ (plan : Plan) where
         → IsPublished s.words child
     -- wins are publications
     pub wins : sum_by wins_of s.views ≡ filled s.words
-    -- before the first step, while there is one pass, all words are 0
-    pub unbegun : s.views ≡ first_view plan ∷ [] → (i : ℕ) → slice_index s.words i ≡ 0
     -- what is so of each view
     pub each : (i : ℕ) (v : View) → get_elem? s.views i ≡ some v → Fits s.words v
     -- and what follows: the counter is the number of records named and owned, and there is room for them

@@ -1,20 +1,23 @@
-ghost use Rattle.std.specs.Prelude.{◌≡◌};
+ghost use Rattle.std.specs.Prelude.{◌≡◌, ◌+◌};
 ghost use Rattle.memo_words.specs.Views.{IsSound, hand_after, hand_of_both};
 ghost use Rattle.memo_words.specs.Made.{IsLast};
+ghost use Rattle.history_table.specs.History.{bare_me};
 
 use crate::view::View;
 use crate::word_step::WordStep;
 use atomic_table::Seat;
+use history_table::WithMarks;
 
-/// What one evaluator knows of the words, its right to step on them, the record that it has in hand, and its last step
-/// as that was told. Contracts see its view (`view_of`), the number of that record (`hand_of`) and the step (`made_of`).
+/// What one evaluator knows of the words, its right to step on them, the record that it has in hand, and its last step.
+/// Contracts see its view (`view_of`), the number of that record (`hand_of`) and the step (`made_of`).
 #[derive(Drop)]
 pub struct Pass {
-    pub(crate) seat: Seat<u8, View>,
+    pub(crate) seat: Seat<u8, WithMarks<View>>,
     pub(crate) hand: Option<u32>,
     pub(crate) made: Option<WordStep>,
-    ghost sound: { IsSound hand seat.me },
-    ghost last: { IsLast made seat.me.0 },
+    ghost sound: { IsSound hand (bare_me seat.me) },
+    ghost parts: { seat.me.0.parts ≡ seat.me.0.view.weight + seat.me.0.view.spare },
+    ghost last: { IsLast made seat.me.0.view },
 }
 
 impl Pass {
@@ -33,7 +36,7 @@ impl Pass {
     }
 
     /// The last step, `None` where it made none yet: the word that it was on, what it did with it, and the value that
-    /// it told, or stored in it.
+    /// it found there, or stored in it.
     pub fn last_step(&self) -> Option<WordStep>
         ensures made { result ≡ made_of self.now }
         ensures last { IsLast result (view_of self.now) }

@@ -1,6 +1,7 @@
 use crate::plan::Key;
 use crate::view::View;
 use atomic_table::{Join, Play, Split, TableRule};
+use history_table::Seats;
 
 /// The rule that holds of the words and of all views between any two steps.
 pub struct TableKept;
@@ -12,6 +13,10 @@ impl TableRule<u8, View, Key> for TableKept {
     ghost holds = { Kept };
 
     ghost first = { first_view };
+}
+
+impl Seats<Key> for TableKept {
+    ghost seats = { λ plan. plan.seats };
 }
 
 pub(crate) struct LoadsKey;

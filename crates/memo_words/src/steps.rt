@@ -1,6 +1,4 @@
-//! The steps of a pass on the words: one load, store, exchange or addition on one word each. A clause says that each
-//! counts exactly one step, and what it tells the pass. That it makes no other, and that a load which tells 0 found 0,
-//! is shown by this file alone.
+//! The steps of a pass on the words. Each is one load, store, exchange or addition on one word.
 
 use crate::codes::cell_code;
 use crate::part::Part;
@@ -30,7 +28,9 @@ impl Words {
     ghost use Rattle.memo_words.specs.declared.word_step.Place.TheVariants as places;
     ghost use Rattle.memo_words.specs.declared.word_step.Action.TheVariants as actions;
     ghost use Rattle.memo_words.specs.Made.{step_on};
-    ghost use Rattle.memo_words.specs.Passes.{view_of, hand_of, made_of, plan_of, problem_of, IsPassOf, IsBehindOthers, IsReady};
+    ghost use Rattle.memo_words.specs.Passes.{view_of, hand_of, made_of, plan_of, problem_of, HasStepped, HasTold, IsPassOf, IsBehindOthers, IsReady};
+    ghost use Rattle.history_table.specs.declared.history.Deed.TheVariants as deeds;
+    ghost use Rattle.memo_words.specs.Layout.{key_place, record_place, arena_place};
 
     /// Each demanded cell has a code. Does nothing when it runs.
     fn demanded_cells_have_codes(&self)
@@ -64,12 +64,13 @@ impl Words {
         ensures made { made_of pass.new ≡ step_on (places.Key position) actions.Load result }
         ensures keys { AreKeys (plan_of self.now) (view_of pass.new).keys }
         ensures stays { StaySeen (view_of pass.old).keys (view_of pass.new).keys }
+        ensures marked { HasStepped (key_place position) deeds.Load result pass.old pass.new }
+        ensures told { HasTold pass.old pass.new }
         ensures steps { steps_made steps.new ≡ steps_made steps.old + 1 }
     {
         steps.count();
         let found = self
             .table
-            .shared
             .load::<LoadsKey>(&mut pass.seat, key_place(position));
         pass.made = Some(WordStep {
             place: Place::Key(position),
@@ -98,6 +99,8 @@ impl Words {
         ensures made { made_of pass.new ≡ step_on (places.Key position) (actions.Exchange (cell_code cell)) result }
         ensures keys { AreKeys (plan_of self.now) (view_of pass.new).keys }
         ensures stays { StaySeen (view_of pass.old).keys (view_of pass.new).keys }
+        ensures marked { HasStepped (key_place position) (deeds.Exchange 0 (cell_code cell)) result pass.old pass.new }
+        ensures told { HasTold pass.old pass.new }
         ensures steps { steps_made steps.new ≡ steps_made steps.old + 1 }
     {
         self.demanded_cells_have_codes();
@@ -105,7 +108,6 @@ impl Words {
         let code = cell_code(cell);
         let found = self
             .table
-            .shared
             .compare_exchange::<ExchangesKey>(&mut pass.seat, key_place(position), 0, code);
         pass.made = Some(WordStep {
             place: Place::Key(position),
@@ -133,12 +135,14 @@ impl Words {
         ensures known { Contains (view_of pass.old).known (cell_at (view_of pass.old) position) → 0 < result }
         ensures few { result ≤ records_of (plan_of self.now) }
         ensures stays { StaySeen (view_of pass.old).names (view_of pass.new).names }
+        ensures marked { HasStepped (record_place (slots_of (plan_of self.now)) position) deeds.Load result
+            pass.old pass.new }
+        ensures told { HasTold pass.old pass.new }
         ensures steps { steps_made steps.new ≡ steps_made steps.old + 1 }
     {
         steps.count();
         let found = self
             .table
-            .shared
             .load::<LoadsRecord>(&mut pass.seat, record_place(self.slots, position));
         pass.made = Some(WordStep {
             place: Place::RecordWord(position),
@@ -167,11 +171,14 @@ impl Words {
         ensures made { made_of pass.new ≡ step_on (places.RecordWord position) (actions.Exchange (number + 1)) result }
         ensures given_up { result ≡ 0 → owns number (view_of pass.new).owned ≡ 0 }
         ensures known { Contains (view_of pass.old).known (cell_at (view_of pass.old) position) → 0 < result }
+        ensures marked { HasStepped (record_place (slots_of (plan_of self.now)) position)
+            (deeds.Exchange 0 (number + 1)) result pass.old pass.new }
+        ensures told { HasTold pass.old pass.new }
         ensures steps { steps_made steps.new ≡ steps_made steps.old + 1 }
     {
         steps.count();
         let name = number as u64 + 1;
-        let found = self.table.shared.compare_exchange::<ExchangesRecord>(
+        let found = self.table.compare_exchange::<ExchangesRecord>(
             &mut pass.seat,
             record_place(self.slots, position),
             0,
@@ -196,13 +203,14 @@ impl Words {
         ensures hand { hand_of pass.new ≡ Some result }
         ensures made { made_of pass.new ≡ step_on places.Counter actions.Add result }
         ensures few { result < records_of (plan_of self.now) }
+        ensures marked { HasStepped 0 (deeds.Add 1) result pass.old pass.new }
+        ensures told { HasTold pass.old pass.new }
         ensures steps { steps_made steps.new ≡ steps_made steps.old + 1 }
     {
         self.keys_fit();
         steps.count();
         let found = self
             .table
-            .shared
             .fetch_add::<AddsCounter>(&mut pass.seat, COUNTER, 1);
         pass.made = Some(WordStep {
             place: Place::Counter,
@@ -228,10 +236,14 @@ impl Words {
         ensures view { view_of pass.new ≡ arena_stored (plan_of self.now) part number code (view_of pass.old) }
         ensures hand { hand_of pass.new ≡ hand_of pass.old }
         ensures made { made_of pass.new ≡ step_on (places.Record part number) actions.Store code }
+        ensures marked { (stood : ℕ) × HasStepped
+            (arena_place (slots_of (plan_of self.now)) (records_of (plan_of self.now)) part number) (deeds.Store code)
+            stood pass.old pass.new }
+        ensures told { HasTold pass.old pass.new }
         ensures steps { steps_made steps.new ≡ steps_made steps.old + 1 }
     {
         steps.count();
-        self.table.shared.store::<StoresArena>(
+        self.table.store::<StoresArena>(
             &mut pass.seat,
             arena_place(self.slots, self.records, part, number),
             code,
@@ -258,10 +270,14 @@ impl Words {
         ensures hand { hand_of pass.new ≡ hand_of pass.old }
         ensures made { made_of pass.new ≡ step_on (places.Record part number) actions.Load result }
         ensures answer { IsNamedAnswer (plan_of self.now) (view_of pass.old) part number result }
+        ensures marked { HasStepped
+            (arena_place (slots_of (plan_of self.now)) (records_of (plan_of self.now)) part number) deeds.Load
+            result pass.old pass.new }
+        ensures told { HasTold pass.old pass.new }
         ensures steps { steps_made steps.new ≡ steps_made steps.old + 1 }
     {
         steps.count();
-        let found = self.table.shared.load::<LoadsArena>(
+        let found = self.table.load::<LoadsArena>(
             &mut pass.seat,
             arena_place(self.slots, self.records, part, number),
         );

@@ -15,7 +15,7 @@ pub struct Owned {
     pub choice: u64,
 }
 
-/// A word, and the value that a step told, or stored in it.
+/// A word, and the value that a step found there, or stored in it.
 pub struct LastStep {
     pub word: u64,
     pub value: u64,

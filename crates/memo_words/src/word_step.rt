@@ -26,7 +26,7 @@ pub enum Action {
     Store,
 }
 
-/// A step on a word, with the value that it told, or stored in it.
+/// A step on a word, with the value that it found there, or stored in it.
 #[derive(Clone, Copy, Debug, PartialEq, Eq)]
 pub struct WordStep {
     pub place: Place,

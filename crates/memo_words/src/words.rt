@@ -9,7 +9,7 @@ use crate::rest::Rest;
 use crate::rule::{Joins, Splits, TableKept};
 use crate::view::View;
 use adp_model::Problem;
-use atomic_table::Table;
+use history_table::HistoryTable;
 use std::alloc::{AllocError, Global};
 use std::snapshot::Snapshot;
 
@@ -17,29 +17,30 @@ use std::snapshot::Snapshot;
 /// and a choice word for each record. Contracts see what it was made for (`plan_of`).
 #[derive(Drop)]
 pub struct Words {
-    pub(crate) table: Table<u8, View, Key, TableKept, Global>,
+    pub(crate) table: HistoryTable<u8, View, Key, TableKept, Global>,
     pub(crate) bits: u32,
     pub(crate) slots: u32,
     pub(crate) records: u32,
-    ghost bits_are: { bits ≡ table.shared.key.bits },
-    ghost slots_are: { slots ≡ slots_of table.shared.key },
-    ghost records_are: { records ≡ records_of table.shared.key },
+    ghost bits_are: { bits ≡ table.table.shared.key.bits },
+    ghost slots_are: { slots ≡ slots_of table.table.shared.key },
+    ghost records_are: { records ≡ records_of table.table.shared.key },
     ghost few_slots: { slots ≤ 4194304 },
     ghost few_records: { records ≤ 2097184 },
-    ghost wide: { table.shared.table_id.words ≡ word_count slots records },
-    ghost no_slots: { table.shared.table_id.slots ≡ 0 },
-    ghost planned: { ∥ IsPlanned table.shared.key ∥₁ },
+    ghost wide: { table.table.shared.table_id.words ≡ word_count slots records },
+    ghost no_slots: { table.table.shared.table_id.slots ≡ 0 },
+    ghost planned: { ∥ IsPlanned table.table.shared.key ∥₁ },
 }
 
 impl Words {
-    ghost use Rattle.std.specs.Prelude.{◌≡◌, ◌+◌, ◌≤◌, ◌^◌, IfOk, None};
+    ghost use Rattle.std.specs.Prelude.{◌≡◌, ◌+◌, ◌≤◌, ◌^◌, ◌++◌, [], IfOk, None};
     ghost use Rattle.memo_words.specs.Layout.{IsPlanned, slots_of, records_of};
     ghost use Rattle.memo_words.specs.Views.{first_view, after_split, split_off, joined, hand_of_both};
     ghost use Rattle.memo_words.specs.Steps.{IsClosing};
-    ghost use Rattle.memo_words.specs.Passes.{view_of, hand_of, plan_of, problem_of, rest_slots, rest_records, rest_words, IsPassOf};
+    ghost use Rattle.history_table.specs.History.{IsHistoryOf};
+    ghost use Rattle.memo_words.specs.Passes.{view_of, hand_of, marks_of, plan_of, problem_of, rest_slots, rest_records, rest_words, IsPassOf};
 
-    /// Words that are all 0, as the rule asks of new ones (`unbegun`), and the first pass. It knows nothing and owns
-    /// nothing; of the seats it has one, and may split off the others.
+    /// Words that are all 0, and the first pass. It knows nothing and owns nothing; of the seats it has one, and may
+    /// split off the others.
     pub fn new(
         alloc: Global,
         problem: &Problem<'_>,
@@ -52,6 +53,7 @@ impl Words {
         ensures own { IfOk result (λ made. IsPassOf made.0 made.1) }
         ensures view { IfOk result (λ made. view_of made.1 ≡ first_view (plan_of made.0)) }
         ensures hand { IfOk result (λ made. hand_of made.1 ≡ None) }
+        ensures marks { IfOk result (λ made. marks_of made.1 ≡ []) }
     {
         let bits = bits_for(problem.cells);
         let key = Key {
@@ -65,7 +67,7 @@ impl Words {
         let slots = slots_of(bits);
         let records = problem.cells as u32 + seats;
         let words = Vec::from_elem(alloc, 0, word_count(slots, records))?;
-        let (table, seat) = Table::of_words(alloc, words.as_slice(), &key)?;
+        let (table, seat) = HistoryTable::of_zeros(alloc, words.as_slice(), &key)?;
         let words = Words {
             table,
             bits,
@@ -97,8 +99,10 @@ impl Words {
         ensures new_own { IsPassOf self.now result }
         ensures new_view { view_of result ≡ split_off (view_of pass.old) }
         ensures new_hand { hand_of result ≡ None }
+        ensures old_marks { marks_of pass.new ≡ marks_of pass.old }
+        ensures new_marks { marks_of result ≡ [] }
     {
-        let seat = self.table.shared.split_seat::<Splits>(&mut pass.seat);
+        let seat = self.table.split_seat::<Splits>(&mut pass.seat);
         Pass {
             seat,
             hand: None,
@@ -113,9 +117,10 @@ impl Words {
         ensures own { IsPassOf self.now into.new }
         ensures view { view_of into.new ≡ joined (view_of into.old) (view_of other) }
         ensures hand { hand_of into.new ≡ hand_of_both (hand_of into.old) (hand_of other) }
+        ensures marks { marks_of into.new ≡ marks_of into.old ++ marks_of other }
     {
         let Pass { seat, hand, .. } = other;
-        self.table.shared.join_seat::<Joins>(&mut into.seat, seat);
+        self.table.join_seat::<Joins>(&mut into.seat, seat);
         into.hand = hand_of_both(into.hand, hand);
     }
 
@@ -126,6 +131,7 @@ impl Words {
         ensures slots { rest_slots result ≡ slots_of (plan_of self) }
         ensures records { rest_records result ≡ records_of (plan_of self) }
         ensures words { IsClosing (plan_of self) (view_of pass) (rest_words result) }
+        ensures history { IsHistoryOf (marks_of pass) (rest_words result) }
     {
         let Pass { seat, .. } = pass;
         let Words {

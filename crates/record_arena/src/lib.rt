@@ -4,10 +4,11 @@
 
 ghost use Rattle.std.specs.Prelude.{◌≡◌, ℕ, ◌+◌, ◌<◌, Some, None};
 ghost use Rattle.memo_model.specs.StepsMade.{steps_made};
-ghost use Rattle.memo_words.specs.Layout.{records_of};
+ghost use Rattle.memo_words.specs.Layout.{slots_of, records_of, arena_place};
 ghost use Rattle.memo_words.specs.Views.{owns, seen_at, counter_added, arena_stored, arena_loaded};
 ghost use Rattle.memo_words.specs.Steps.{IsNamedAnswer};
-ghost use Rattle.memo_words.specs.Passes.{view_of, hand_of, plan_of, IsPassOf};
+ghost use Rattle.memo_words.specs.Passes.{view_of, hand_of, plan_of, HasStepped, HasTold, IsPassOf};
+ghost use Rattle.history_table.specs.declared.history.Deed.TheVariants as deeds;
 
 use memo_model::Steps;
 use memo_words::{Part, Pass, Words};
@@ -18,6 +19,8 @@ pub fn reserve_step<L: Ledger>(words: &Words, pass: &mut Pass, steps: &mut Steps
     requires own { IsPassOf words.now pass.old }
     requires empty_handed { hand_of pass.old ≡ None }
     ensures own { IsPassOf words.now pass.new }
+    ensures marked { HasStepped 0 (deeds.Add 1) result pass.old pass.new }
+    ensures told { HasTold pass.old pass.new }
     ensures view { view_of pass.new ≡ counter_added result (view_of pass.old) }
     ensures hand { hand_of pass.new ≡ Some result }
     ensures few { result < records_of (plan_of words.now) }
@@ -38,6 +41,10 @@ pub fn write_step<L: Ledger>(
     requires own { IsPassOf words.now pass.old }
     requires owner { 0 < owns number (view_of pass.old).owned }
     ensures own { IsPassOf words.now pass.new }
+    ensures marked { (stood : ℕ) × HasStepped
+        (arena_place (slots_of (plan_of words.now)) (records_of (plan_of words.now)) part number) (deeds.Store code)
+        stood pass.old pass.new }
+    ensures told { HasTold pass.old pass.new }
     ensures view { view_of pass.new ≡ arena_stored (plan_of words.now) part number code (view_of pass.old) }
     ensures hand { hand_of pass.new ≡ hand_of pass.old }
     ensures steps { steps_made steps.new ≡ steps_made steps.old + 1 }
@@ -56,6 +63,10 @@ pub fn read_step<L: Ledger>(
     requires own { IsPassOf words.now pass.old }
     requires named { (position : ℕ) × (seen_at (view_of pass.old).names position ≡ number + 1) }
     ensures own { IsPassOf words.now pass.new }
+    ensures marked { HasStepped
+        (arena_place (slots_of (plan_of words.now)) (records_of (plan_of words.now)) part number) deeds.Load
+        result pass.old pass.new }
+    ensures told { HasTold pass.old pass.new }
     ensures view { view_of pass.new ≡ arena_loaded (plan_of words.now) part number result (view_of pass.old) }
     ensures hand { hand_of pass.new ≡ hand_of pass.old }
     ensures answer { IsNamedAnswer (plan_of words.now) (view_of pass.old) part number result }

@@ -4,7 +4,7 @@ use Rattle.std.proofs.lemmas.Bool.{false≢true}
 use Rattle.std.proofs.lemmas.Option.{none-some}
 use Rattle.adp_model.specs.declared.cell.Cell.{Cell}
 use Rattle.adp_model.specs.Demand.{IsDemanded, IsDemandedCount}
-use Rattle.memo_model.specs.Memos.{IsScoreOf, AddsAtMost, IsAdded, IsOnRecordWord}
+use Rattle.memo_model.specs.Memos.{IsScoreOf, AddsAtMost, IsAdded, HasLoaded}
 use Rattle.cell_core.specs.Working.{frames_of, with_hand}
 use Rattle.cell_core.proofs.Heights.{heights}
 use Rattle.cell_core.proofs.Changes.{few_opened_so, few_of, room_if, frame_added}
@@ -178,7 +178,7 @@ returns-in-Unpublished-clause-frames g c =
     c.args.hand.cell (frames_of c.args.work.now.top c.args.work.now.below.items) _ c.args.work.now.opened _ _ _
     (record { visit = c.opened_visit-visit.result; probe = c.look_step.new.probe })
     (with_opened g at.After-open).frames_are v.cell (hand_below it)
-    (subst (λ (cell : Cell). IsOnRecordWord g.M.Memo.meaning c.look_step.new.pass cell 0) own.cell (e.unpublished.0 refl))
+    (subst (λ (cell : Cell). HasLoaded g.M.Memo.meaning c.look_step.new.pass cell 0) own.cell (e.unpublished.0 refl))
     e.look.1 (λ h. e.look.2 (subst (g.M.Memo.meaning.known c.args.pass.now) (sym own.cell) h)) v.drawn
     c.open.ensures.opened))
 

@@ -1,7 +1,7 @@
 use Rattle.std.proofs.Common.{◌≡◌, ◌↔◌, ℕ, true, false, Some, None, refl, sym, subst, ap, ◌∙◌}
 use native.Mathlib.Nat.{le_trans}
 use Rattle.adp_model.specs.declared.cell.Cell.{Cell}
-use Rattle.memo_model.specs.Memos.{IsOnRecordWord}
+use Rattle.memo_model.specs.Memos.{HasLoaded}
 use Rattle.cell_core.specs.Working.{frames_of, all_frames}
 use Rattle.cell_core.specs.FrameChanges.{Standing, standing, ChangesFrames}
 use Rattle.cell_core.proofs.Stepped.{falls_then, sound_by_parts, left_by_parts, loads_by_parts}
@@ -282,7 +282,7 @@ returns-in-None-ready-clause-sound g c = c.settle-in-None-ready.ensures.sound
 
 pub returns-in-None-ready-clause-loads : goal.returns-in-None-ready-clause-loads
 returns-in-None-ready-clause-loads g c =
-    let seen = λ (cell : Cell). (found : ℕ) × IsOnRecordWord g.M.Memo.meaning c.look-in-None-ready.new.pass cell found in
+    let seen = λ (cell : Cell). (found : ℕ) × HasLoaded g.M.Memo.meaning c.look-in-None-ready.new.pass cell found in
     loads_by_parts g.M.Memo.meaning c.args.problem.now c.look-in-None-ready.new.pass (g.M.Memo.fresh_loads c.args.memo.now) _
     false _ None _ None c.requires.going (sym c.take.ensures.value ∙ c.in-None.is) c.in-None-ready.is
     (subst (λ (cell : Cell). (g.M.Memo.fresh_loads c.args.memo.now ≡ true) ↔ seen cell) c.first_look-hand.ensures.cell

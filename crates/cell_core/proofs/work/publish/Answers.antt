@@ -4,7 +4,7 @@ use Rattle.std.proofs.lemmas.Option.{none-some}
 use Rattle.adp_model.specs.declared.cell.Cell.{Cell}
 use Rattle.adp_model.specs.Answers.{IsAnswer}
 use Rattle.adp_model.specs.Demand.{IsDemanded, IsDemandedChild, IsDemandedCount}
-use Rattle.memo_model.specs.Memos.{IsAdded, IsOnRecordWord}
+use Rattle.memo_model.specs.Memos.{IsAdded, HasExchanged}
 use Rattle.cell_core.specs.Working.{with_top}
 use Rattle.cell_core.proofs.Heights.{heights}
 use Rattle.cell_core.proofs.Changes.{few_wins_so}
@@ -170,7 +170,7 @@ returns-in-Won-clause-frames g c =
     c.close.ensures.closed c.args.orders.now
     (record {
       found = 0;
-      on_word = subst (λ (cell : Cell). IsOnRecordWord g.M.Memo.meaning c.publish_step.new.pass cell 0) own.cell
+      on_word = subst (λ (cell : Cell). HasExchanged g.M.Memo.meaning c.publish_step.new.pass cell 0) own.cell
           (e.won.0 refl);
       won = λ _. e.publish.2;
       lost = λ some. absurd (omega arith);
@@ -264,7 +264,7 @@ returns-in-Lost-clause-frames g c =
     c.close-in-Lost.ensures.closed c.args.orders.now
     (record {
       found = l.0;
-      on_word = subst (λ (cell : Cell). IsOnRecordWord g.M.Memo.meaning c.publish_step.new.pass cell l.0) own.cell l.2;
+      on_word = subst (λ (cell : Cell). HasExchanged g.M.Memo.meaning c.publish_step.new.pass cell l.0) own.cell l.2;
       won = λ none. absurd (let some = l.1 in omega arith);
       lost = λ _. e.publish.2;
     })

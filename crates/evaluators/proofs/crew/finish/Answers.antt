@@ -1,10 +1,13 @@
-use Rattle.std.proofs.Common.{◌≡◌, ◌↔◌, sum, sym, ap, ◌∙◌, subst}
+use Rattle.std.proofs.Common.{◌≡◌, ◌↔◌, List, sum, sym, ap, ◌∙◌, subst}
 use Rattle.adp_model.specs.PosedProblem.{PosedProblem}
 use Rattle.adp_model.specs.Demand.{IsDemanded, IsDemandedCount}
 use Rattle.memo_words.specs.Kept.{IsPublished}
-use Rattle.memo_words.specs.Layout.{Plan}
+use Rattle.history_table.specs.declared.history.Mark.{Mark}
+use Rattle.history_table.specs.History.{IsHistoryOf}
+use Rattle.memo_words.specs.Layout.{Plan, slots_of}
 use Rattle.memo_words.specs.Passes.{problem_of}
 use Rattle.evaluators.specs.Runs.{AreMachinesFrom}
+use Rattle.evaluators.specs.Steps.{AreStepsOfEach}
 use Rattle.evaluators.proofs.crew.finish.Goals as goal
 
 pub returns-clause-finished : goal.returns-clause-finished
@@ -27,4 +30,11 @@ returns-clause-finished c =
       first = joined.first;
       wins_are = joined.wins_are;
       wins_sum = subst (IsDemandedCount p) won counted.1;
+      history = record {
+        lists = joined.lists;
+        steps = subst (λ (plan : Plan). AreStepsOfEach (slots_of plan) c.args.left.machines.items joined.lists)
+            (sym c.close-closed.ensures.plan) joined.steps;
+        whole = subst (λ (marks : List Mark). IsHistoryOf marks c.close-closed.result.words) joined.marks
+            c.close-closed.ensures.history;
+      };
     }

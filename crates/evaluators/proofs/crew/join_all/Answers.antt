@@ -61,6 +61,7 @@ loop-gated-preserved g c =
     })
     c.loop-gated.invariant.at_work c.loop-gated.invariant.posts c.args.count c.args.workers.items
     c.loop-gated.left.pass c.take_in.new.left.pass c.loop-gated.invariant c.take_in.ensures.own c.take_in.ensures.view
+    c.take_in.ensures.marks
 
 pub returns-clause-joined : goal.returns-clause-joined
 returns-clause-joined g c =

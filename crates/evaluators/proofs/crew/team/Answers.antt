@@ -2,7 +2,7 @@ use Rattle.std.proofs.Common.{◌≡◌, ◌+◌, ◌-◌, map, refl, sym, ap, �
 use Rattle.std.specs.Arc.{arc_value}
 use Rattle.memo_words.specs.declared.view.View.{View}
 use Rattle.memo_words.specs.declared.pass.Pass.{Pass}
-use Rattle.memo_words.specs.Passes.{IsPassOf, view_of}
+use Rattle.memo_words.specs.Passes.{IsPassOf, view_of, marks_of}
 use Rattle.evaluators.specs.Posts.{posts_of}
 use Rattle.evaluators.specs.Working.{TableWorker, IsReady, first_orders, post_of}
 use Rattle.evaluators.specs.Playing.{HasKeptEntries}
@@ -29,7 +29,8 @@ loop-number-preserved g c =
     ap (λ (pass : Pass). (view_of pass).wins) made.pass ∙ ap (λ (v : View). v.wins) split.new_view in
     let own = subst (λ (pass : Pass). IsPassOf words pass) (sym made.pass) split.new_own in
     let ready = ready_worker words it p c.args.seed number c.requires.same c.requires.admissible own made.fresh
-    (made.machine it.pass) (made.bound it.pass) made.seed_is made.number_is wins in
+    (made.machine it.pass) (made.bound it.pass) made.seed_is made.number_is wins
+    (ap (λ (pass : Pass). marks_of pass) made.pass ∙ split.new_marks) in
     let here = post_is it p c.args.seed number (first_orders c.args.seed number) made.fresh made.seed_is made.number_is
     weight spare in
     record {
@@ -37,6 +38,7 @@ loop-number-preserved g c =
       weight = ap (λ (v : View). v.weight) split.old_view ∙ inv.weight;
       spare = let few = inv.spare in let more = c.loop-number-test.true in omega (arith, left, few, more);
       wins = ap (λ (v : View). v.wins) split.old_view ∙ inv.wins;
+      unmarked = split.old_marks ∙ inv.unmarked;
       ready = all_pushed (λ (gated : GatedWorker TableWorker _). IsReady words gated.worker) c.loop-number.team.items
           c.hire.new.team.items _ made.grown inv.ready ready;
       unmoved = all_pushed (λ (gated : GatedWorker TableWorker _). HasKeptEntries 0 gated.worker.machine)
@@ -55,7 +57,8 @@ returns-clause-ready g c =
     let wins : (view_of it.pass).wins ≡ 0 = ap (λ (pass : Pass). (view_of pass).wins) made.pass ∙ inv.wins in
     let own = subst (λ (pass : Pass). IsPassOf words pass) (sym made.pass) inv.own in
     let ready = ready_worker words it (arc_value c.args.prepared.now) c.args.seed (c.args.count - 1) c.requires.same
-    c.requires.admissible own made.fresh (made.machine it.pass) (made.bound it.pass) made.seed_is made.number_is wins in
+    c.requires.admissible own made.fresh (made.machine it.pass) (made.bound it.pass) made.seed_is made.number_is wins
+    (ap (λ (pass : Pass). marks_of pass) made.pass ∙ inv.unmarked) in
     all_pushed (λ (gated : GatedWorker TableWorker _). IsReady words gated.worker) c.loop-number.team.items
     c.hire-2.new.team.items _ made.grown inv.ready ready
 

@@ -9,7 +9,7 @@ use Rattle.evaluators.proofs.driving.drive_counted.Goals as goal
 
 pub steps-init : goal.steps-init
 steps-init g c = record {
-  on = at_first g.M.Memo.meaning (g.M.Memo.is_of c.args.memo.now) c.args.machine.now c.args.pass.now c.requires.ready;
+  on = at_first g.M.Memo.meaning (g.M.Memo.is_of c.args.memo.now) g.M.Memo.goes_on c.args.machine.now c.args.pass.now c.requires.ready;
   left = λ m arguments count all. let b = c.requires.ready.bound m arguments count all in omega (arith, b);
   told = told_nothing c.args.number c.args.machine.now.machine.moves (g.W.Watcher.told c.args.watcher.now);
 }
@@ -20,11 +20,13 @@ steps-preserved g c =
     let now = c.step-turn.ensures in
     let law = c.draws_advance_the_generator.ensures in
     record {
-      on = gone_further g.M.Memo.meaning (g.M.Memo.is_of c.args.memo.now) c.args.machine.now c.steps.machine
+      on = gone_further g.M.Memo.meaning (g.M.Memo.is_of c.args.memo.now) g.M.Memo.goes_on c.args.machine.now c.steps.machine
           c.step-turn.new.self c.args.pass.now c.steps.pass c.step-turn.new.pass inv.on
-          (after_step g.M.Memo.meaning (g.M.Memo.is_of c.args.memo.now) law.turns law.sum c.steps.machine
+          (after_step g.M.Memo.meaning (g.M.Memo.is_of c.args.memo.now) g.M.Memo.goes_on law.turns law.sum c.steps.machine
           c.step-turn.new.self c.steps.pass c.step-turn.new.pass now.own now.share now.problem now.machine now.wins
-          now.frames);
+          now.frames (now.on (sym c.ended.ensures ∙ c.if-ended.false))
+          (moved c.steps.machine.machine.ended c.steps.machine.machine.moves c.step-turn.new.self.machine.moves
+          now.moves (sym c.ended.ensures ∙ c.if-ended.false)));
       left = λ m arguments count all.
           let here = sym inv.on.problem in
           let falls = now.bound (sym c.ended.ensures ∙ c.if-ended.false) m arguments

@@ -8,7 +8,7 @@ use Rattle.evaluators.proofs.driving.drive_counted.Given as goal
 
 abbrev pub invariant-steps : goal.invariant-steps
 invariant-steps g l = record {
-  on : HasGoneOn g.M.Memo.meaning (g.M.Memo.is_of l.memo) l.fn.machine l.machine l.fn.pass l.pass;
+  on : HasGoneOn g.M.Memo.meaning (g.M.Memo.is_of l.memo) g.M.Memo.goes_on l.fn.machine l.machine l.fn.pass l.pass;
   left : (m : ℕ) (arguments : List SplitArgument) → IsDemandedCount l.fn.machine.machine.problem m
       → AreRuleArguments l.fn.machine.machine.problem arguments
       → remaining_bound g.M.Memo.meaning m arguments l.machine.machine l.pass + l.counter

@@ -1,7 +1,7 @@
 use Rattle.std.proofs.Common.{◌≡◌, ◌+◌, ◌-◌, ◌^◌, min, sym, ap, subst, ◌∙◌}
 use Rattle.memo_words.specs.Passes.{IsPassOf}
 use Rattle.memo_table.specs.declared.probe.Probe.{Probe}
-use Rattle.memo_table.specs.Meanings.{table_meaning}
+use Rattle.memo_table.specs.Meanings.{table_meaning, StepsOn}
 use Rattle.cell_core.specs.MachineViews.{MachineView}
 use Rattle.evaluators.specs.Runs.{moves_of}
 use Rattle.evaluators.specs.Working.{IsReady}
@@ -16,15 +16,17 @@ returns-clause-ready g c =
     let it = c.args.worker.now in
     let words = c.args.table.now in
     let set = c.set_skips.new.self in
+    let going = ap (λ (machine : MachineView Probe). machine.machine.ended) c.set_skips.ensures
+    ∙ sym c.ended.ensures ∙ c.if-ended.false in
     still_ready words (record { machine = set; pass = it.pass; number = it.number; seed = it.seed })
     c.step-turn.new.self c.step-turn.new.pass
-    (after_step table_meaning (IsPassOf words) law.turns law.sum set c.step-turn.new.self it.pass c.step-turn.new.pass
-    now.own now.share now.problem now.machine now.wins now.frames)
+    (after_step table_meaning (IsPassOf words) StepsOn law.turns law.sum set c.step-turn.new.self it.pass c.step-turn.new.pass
+    now.own now.share now.problem now.machine now.wins now.frames (now.on going)
+    (moved set.machine.ended (moves_of set) (moves_of c.step-turn.new.self) now.moves going))
     (subst (λ (machine : MachineView Probe).
     IsReady words (record { machine = machine; pass = it.pass; number = it.number; seed = it.seed }))
     (sym c.set_skips.ensures) c.requires.ready)
-    (now.bound (ap (λ (machine : MachineView Probe). machine.machine.ended) c.set_skips.ensures
-    ∙ sym c.ended.ensures ∙ c.if-ended.false))
+    (now.bound going)
 
 pub returns-then-ended-clause-told : goal.returns-then-ended-clause-told
 returns-then-ended-clause-told g c =

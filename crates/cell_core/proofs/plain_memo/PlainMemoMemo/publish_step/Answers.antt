@@ -1,6 +1,7 @@
-use Rattle.std.proofs.Common.{◌≡◌, ◌<◌, ℕ, List, Option, None, Some, slice_set, refl, sym, ap, subst, ◌∙◌, arith}
+use Rattle.std.proofs.Common.{◌≡◌, ◌<◌, ℕ, List, Option, None, Some, slice_set, true, refl, sym, ap, subst, ◌∙◌, arith}
 use Rattle.memo_model.specs.declared.probe.Publish.TheVariants as publishes
-use Rattle.memo_model.specs.Memos.{IsOnRecordWord}
+use Rattle.memo_model.specs.Memos.{HasExchanged}
+use Rattle.history_table.specs.declared.history.Deed.TheVariants as deeds
 use Rattle.cell_core.specs.declared.plain_memo.Record.{Record}
 use Rattle.cell_core.specs.PlainMemos.{HasRecord, FoundAt, record_count, value_of, plain_meaning}
 use Rattle.cell_core.proofs.PlainRecords.{on_record, value_is, some_value, is_known, known_kept, known_put, known_only, count_set}
@@ -14,17 +15,17 @@ records_are before loaded after k it same put = put ∙ ap (λ records. slice_se
 pub returns-in-Some-clause-publish : goal.returns-in-Some-clause-publish
 returns-in-Some-clause-publish g c =
     let found : FoundAt c.args.pass.now.records c.place-place.result (Some c.in-Some.field-0) =
-    subst (FoundAt c.args.pass.now.records c.place-place.result) c.in-Some.is c.load.ensures.found in
+    subst (FoundAt c.args.pass.now.records c.place-place.result) c.in-Some.is c.find.ensures.found in
     let known =
     is_known c.args.self.now c.args.pass.now.records c.place-place.ensures.records c.args.probe.now.cell
     c.place-place.ensures.counted c.place-place.result c.place-place.ensures.place
     c.places_tell_cells_apart.ensures c.in-Some.field-0 found in (
       refl,
       record {
-        known = subst (λ records. HasRecord records c.args.probe.now.cell) (sym c.load.ensures.records) known;
-        only = λ other now differ. subst (λ records. HasRecord records other) c.load.ensures.records now;
+        known = subst (λ records. HasRecord records c.args.probe.now.cell) (sym c.find.ensures.records) known;
+        only = λ other now differ. subst (λ records. HasRecord records other) c.find.ensures.records now;
       },
-      ap record_count c.load.ensures.records,
+      ap record_count c.find.ensures.records,
     )
 
 pub returns-in-Some-clause-won : goal.returns-in-Some-clause-won
@@ -32,7 +33,8 @@ returns-in-Some-clause-won g c = (
   λ e. absurd (let f : publishes.Lost ≡ publishes.Won = e in cc),
   λ h. absurd (
       let zero_is =
-      value_is c.load.new.self c.args.probe.now.cell c.place-place.result 0 c.load.result c.load.ensures.last h in
+      value_is c.find.new.self c.args.probe.now.cell c.place-place.result true
+      (deeds.Exchange 0 h.0) 0 c.find.result c.find.ensures.last h.1 in
       let some = some_value c.in-Some.field-0 in
       let same = ap value_of c.in-Some.is in
       omega (arith, zero_is, some, same)),
@@ -40,14 +42,17 @@ returns-in-Some-clause-won g c = (
 
 pub returns-in-Some-clause-lost : goal.returns-in-Some-clause-lost
 returns-in-Some-clause-lost g c =
-    let some : 0 < value_of c.load.result = subst (λ o. 0 < value_of o) (sym c.in-Some.is)
+    let some : 0 < value_of c.find.result = subst (λ o. 0 < value_of o) (sym c.in-Some.is)
     (some_value c.in-Some.field-0) in (
       λ e. (
-        value_of c.load.result,
+        value_of c.find.result,
         some,
-        on_record c.args.self.now c.load.new.self c.args.probe.now.cell
-            c.place-place.result c.load.result
-            (c.load.ensures.problem ∙ c.requires.own) c.place-place.ensures.place c.load.ensures.last,
+        (
+          1,
+          on_record c.args.self.now c.find.new.self c.args.probe.now.cell
+              c.place-place.result true c.find.result
+              (c.find.ensures.problem ∙ c.requires.own) c.place-place.ensures.place c.find.ensures.last,
+        ),
       ),
       λ h. refl,
     )
@@ -55,21 +60,21 @@ returns-in-Some-clause-lost g c =
 pub returns-in-None-clause-known : goal.returns-in-None-clause-known
 returns-in-None-clause-known g c = λ cell known.
     let none : FoundAt c.args.pass.now.records c.place-place.result None =
-    subst (FoundAt c.args.pass.now.records c.place-place.result) c.in-None.is c.load.ensures.found in
+    subst (FoundAt c.args.pass.now.records c.place-place.result) c.in-None.is c.find.ensures.found in
     let kept = known_kept c.args.pass.now.records c.place-place.result
     (record { cell = c.args.probe.now.cell; answer = c.args.answer }) none cell known in
     subst (λ records. HasRecord records cell)
-    (sym (records_are c.args.pass.now.records c.load.new.self.records c.put.new.self.records c.place-place.result
-    (record { cell = c.args.probe.now.cell; answer = c.args.answer }) c.load.ensures.records
+    (sym (records_are c.args.pass.now.records c.find.new.self.records c.put.new.self.records c.place-place.result
+    (record { cell = c.args.probe.now.cell; answer = c.args.answer }) c.find.ensures.records
     c.put.ensures.records)) kept
 
 pub returns-in-None-clause-publish : goal.returns-in-None-clause-publish
 returns-in-None-clause-publish g c =
     let it : Record = record { cell = c.args.probe.now.cell; answer = c.args.answer } in
     let none : FoundAt c.args.pass.now.records c.place-place.result None =
-    subst (FoundAt c.args.pass.now.records c.place-place.result) c.in-None.is c.load.ensures.found in
-    let now = records_are c.args.pass.now.records c.load.new.self.records c.put.new.self.records c.place-place.result
-    (record { cell = c.args.probe.now.cell; answer = c.args.answer }) c.load.ensures.records c.put.ensures.records
+    subst (FoundAt c.args.pass.now.records c.place-place.result) c.in-None.is c.find.ensures.found in
+    let now = records_are c.args.pass.now.records c.find.new.self.records c.put.new.self.records c.place-place.result
+    (record { cell = c.args.probe.now.cell; answer = c.args.answer }) c.find.ensures.records c.put.ensures.records
     in (
       refl,
       record {
@@ -84,19 +89,20 @@ returns-in-None-clause-publish g c =
 
 pub returns-in-None-clause-won : goal.returns-in-None-clause-won
 returns-in-None-clause-won g c =
-    let last = c.put.ensures.last ∙ c.load.ensures.last in
-    let on = on_record c.args.self.now c.put.new.self c.args.probe.now.cell c.place-place.result c.load.result
-    (c.put.ensures.problem ∙ c.load.ensures.problem ∙ c.requires.own) c.place-place.ensures.place last in (
-      λ e. subst (λ o. IsOnRecordWord plain_meaning c.put.new.self c.args.probe.now.cell (value_of o)) c.in-None.is on,
+    let last = c.put.ensures.last ∙ c.find.ensures.last in
+    let on = on_record c.args.self.now c.put.new.self c.args.probe.now.cell c.place-place.result true c.find.result
+    (c.put.ensures.problem ∙ c.find.ensures.problem ∙ c.requires.own) c.place-place.ensures.place last in (
+      λ e. subst (λ o. HasExchanged plain_meaning c.put.new.self c.args.probe.now.cell (value_of o)) c.in-None.is (1, on),
       λ h. refl,
     )
 
 pub returns-in-None-clause-lost : goal.returns-in-None-clause-lost
 returns-in-None-clause-lost g c =
-    let last = c.put.ensures.last ∙ c.load.ensures.last in (
+    let last = c.put.ensures.last ∙ c.find.ensures.last in (
       λ e. absurd (let f : publishes.Won ≡ publishes.Lost = e in cc),
       λ h. absurd (
-          let value = value_is c.put.new.self c.args.probe.now.cell c.place-place.result h.0 c.load.result last h.2 in
+          let value = value_is c.put.new.self c.args.probe.now.cell c.place-place.result true
+          (deeds.Exchange 0 h.2.0) h.0 c.find.result last h.2.1 in
           let none = ap value_of c.in-None.is in
           omega (arith, value, none, h.1)),
     )

@@ -9,7 +9,7 @@ overflow_add-probe g c =
     let e = c.key_exchange_step-found.ensures in
     let r = c.requires in
     let step = exchanged_here c.self.inside.words c.args.self.now c.self.view_is c.args.pass.now
-    c.key_exchange_step-found.new.pass _ _ _ r.own e.own e.view e.stays in
+    c.key_exchange_step-found.new.pass _ _ _ r.own e.own e.view e.stays (_, _, e.marked) in
     let fits = next_turn c.self.inside.words c.args.self.now c.self.view_is c.args.pass.now
     c.key_exchange_step-found.new.pass c.args.probe.now r.own r.follows c.planned.ensures.planned
     c.planned.ensures.admissible e.keys c.other_cells_are_fewer.ensures.limit step.on (inr r.claim) in
@@ -20,11 +20,11 @@ returns-then-found-cell_code-clause-looked g c =
     let e = c.key_exchange_step-found.ensures in
     let r = c.requires in
     let step = exchanged_here c.self.inside.words c.args.self.now c.self.view_is c.args.pass.now
-    c.key_exchange_step-found.new.pass _ _ _ r.own e.own e.view e.stays in
+    c.key_exchange_step-found.new.pass _ _ _ r.own e.own e.view e.stays (_, _, e.marked) in
     let few = few_here c.self.inside.words c.args.self.now c.self.view_is c.args.pass.now
     c.key_exchange_step-found.new.pass c.args.probe.now r.own r.follows c.planned.ensures.planned
     e.keys c.other_cells_are_fewer.ensures.demanded in
-    own_position c.args.self.now c.args.pass.now c.key_exchange_step-found.new.pass c.args.probe.now _ _ _ r.own
+    own_position c.args.self.now c.args.pass.now c.key_exchange_step-found.new.pass c.args.probe.now _ _ r.own
     r.follows c.position-position.ensures.position step few (inr r.claim)
     (elim c.if-found-eq0.branch [
       | then-found-eq0 w ↦ if_equal _ 0 _ _ w.if-found-eq0.true
@@ -38,11 +38,11 @@ returns-else-found-cell_code-clause-looked g c =
     let e = c.key_exchange_step-found.ensures in
     let r = c.requires in
     let step = exchanged_here c.self.inside.words c.args.self.now c.self.view_is c.args.pass.now
-    c.key_exchange_step-found.new.pass _ _ _ r.own e.own e.view e.stays in
+    c.key_exchange_step-found.new.pass _ _ _ r.own e.own e.view e.stays (_, _, e.marked) in
     let few = few_here c.self.inside.words c.args.self.now c.self.view_is c.args.pass.now
     c.key_exchange_step-found.new.pass c.args.probe.now r.own r.follows c.planned.ensures.planned
     e.keys c.other_cells_are_fewer.ensures.demanded in
-    other_position c.args.self.now c.args.pass.now c.key_exchange_step-found.new.pass c.args.probe.now _ _ _ r.own
+    other_position c.args.self.now c.args.pass.now c.key_exchange_step-found.new.pass c.args.probe.now _ _ r.own
     r.follows c.position-position.ensures.position step few (inr r.claim)
     (elim c.if-found-eq0.branch [
       | then-found-eq0 w ↦

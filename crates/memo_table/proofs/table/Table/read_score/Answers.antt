@@ -7,6 +7,8 @@ use Rattle.memo_words.specs.Passes.{view_of, plan_of, problem_of, IsPassOf}
 use Rattle.memo_table.specs.declared.probe.Next.TheVariants.{Score}
 use Rattle.memo_table.specs.Following.{demanded_by}
 use Rattle.memo_table.specs.Probes.{loads_record, steps_left}
+use Rattle.memo_words.specs.Layout.{slots_of, records_of, arena_place}
+use Rattle.memo_table.proofs.Quiet.{IsStepOn}
 use Rattle.memo_table.proofs.Looks.{due_here}
 use Rattle.memo_table.proofs.RecordLooks.{its_word, read_found, score_word, score_is}
 use Rattle.memo_table.proofs.table.Table.read_score.Goals as goal
@@ -20,11 +22,13 @@ code_score-requires g c =
     let own = subst (λ (w : Words). IsPassOf w c.read_step-code.new.pass) here e.own in
     let view = subst (λ (w : Words). view_of c.read_step-code.new.pass ≡ arena_loaded (plan_of w) parts.Score
     c.args.number code (view_of c.args.pass.now)) here e.view in
+    let stepped = subst (λ (w : Words). IsStepOn (arena_place (slots_of (plan_of w)) (records_of (plan_of w)) parts.Score
+    c.args.number) c.args.pass.now c.read_step-code.new.pass) here (_, _, e.marked) in
     let told = subst (λ (w : Words). IsNamedAnswer (plan_of w) (view_of c.args.pass.now) parts.Score c.args.number
     code) here e.answer in
     let due = due_here c.args.self.now c.args.pass.now c.args.probe.now (Score c.args.number) r.own r.follows r.score in
     let word = its_word c.args.self.now c.args.pass.now c.read_step-code.new.pass c.args.probe.now parts.Score
-    c.args.number code r.own r.follows due.0 (ap loads_record r.score) own view told in
+    c.args.number code r.own r.follows due.0 (ap loads_record r.score) own view stepped told in
     score_word (problem_of c.args.self.now) c.args.probe.now.cell word.0 code word.1 word.2 due.1
     (c.answers_have_words.ensures (problem_of c.args.self.now) c.planned.ensures.admissible c.args.probe.now.cell word.0
     (demanded_by c.args.self.now c.args.pass.now c.args.probe.now r.own r.follows) word.1)
@@ -38,17 +42,19 @@ returns-clause-looked g c =
     let own = subst (λ (w : Words). IsPassOf w c.read_step-code.new.pass) here e.own in
     let view = subst (λ (w : Words). view_of c.read_step-code.new.pass ≡ arena_loaded (plan_of w) parts.Score
     c.args.number code (view_of c.args.pass.now)) here e.view in
+    let stepped = subst (λ (w : Words). IsStepOn (arena_place (slots_of (plan_of w)) (records_of (plan_of w)) parts.Score
+    c.args.number) c.args.pass.now c.read_step-code.new.pass) here (_, _, e.marked) in
     let told = subst (λ (w : Words). IsNamedAnswer (plan_of w) (view_of c.args.pass.now) parts.Score c.args.number
     code) here e.answer in
     let due = due_here c.args.self.now c.args.pass.now c.args.probe.now (Score c.args.number) r.own r.follows r.score in
     let word = its_word c.args.self.now c.args.pass.now c.read_step-code.new.pass c.args.probe.now parts.Score
-    c.args.number code r.own r.follows due.0 (ap loads_record r.score) own view told in
+    c.args.number code r.own r.follows due.0 (ap loads_record r.score) own view stepped told in
     let fit = c.answers_have_words.ensures (problem_of c.args.self.now) c.planned.ensures.admissible
     c.args.probe.now.cell word.0
     (demanded_by c.args.self.now c.args.pass.now c.args.probe.now r.own r.follows) word.1 in
     read_found c.args.self.now c.args.pass.now c.read_step-code.new.pass c.args.probe.now parts.Score
     c.args.number code
-    r.own r.follows due.0 (ap loads_record r.score) own view c.code_score.result
+    r.own r.follows due.0 (ap loads_record r.score) own view stepped c.code_score.result
     (score_is (problem_of c.args.self.now) c.args.probe.now.cell word.0 code c.code_score.result word.1 word.2 due.1
     fit c.code_score.ensures.inverse)
     (λ m. let one : steps_left m c.args.probe.now.turn c.args.probe.now.next ≡ 1 = ap

@@ -11,4 +11,4 @@ returns-clause-published g c =
     let own = subst (λ (w : Words). IsPassOf w c.reserve_step-number.new.pass) c.self.view_is e.own in
     reserved c.args.self.now c.args.pass.now c.reserve_step-number.new.pass c.args.probe.now
     c.reserve_step-number.result
-    r.own r.follows r.reserve own e.view e.hand
+    r.own r.follows r.reserve own e.view (_, _, e.marked) e.hand

@@ -3,6 +3,8 @@ use Rattle.memo_words.specs.declared.part.Part.TheVariants as parts
 use Rattle.memo_words.specs.declared.words.Words.{Words}
 use Rattle.memo_words.specs.Views.{arena_stored}
 use Rattle.memo_words.specs.Passes.{view_of, plan_of, problem_of, IsPassOf}
+use Rattle.memo_words.specs.Layout.{slots_of, records_of, arena_place}
+use Rattle.memo_table.proofs.Quiet.{IsStepOn}
 use Rattle.memo_table.proofs.Publications.{choice_stored}
 use Rattle.memo_table.proofs.table.Table.store_choice.Goals as goal
 
@@ -13,8 +15,10 @@ returns-clause-published g c =
     let own = subst (λ (w : Words). IsPassOf w c.write_step.new.pass) c.self.view_is e.own in
     let view = subst (λ (w : Words). view_of c.write_step.new.pass ≡ arena_stored (plan_of w) parts.Choice
     c.args.number c.choice_word-code.result (view_of c.args.pass.now)) c.self.view_is e.view in
+    let stepped = subst (λ (w : Words). IsStepOn (arena_place (slots_of (plan_of w)) (records_of (plan_of w)) parts.Choice
+    c.args.number) c.args.pass.now c.write_step.new.pass) c.self.view_is (_, e.marked.0, e.marked.1) in
     choice_stored c.args.self.now c.args.pass.now c.write_step.new.pass c.args.probe.now c.args.number
     c.choice_word-code.result
     c.args.answer r.own r.hand r.follows r.choice r.answer c.choice_word-code.ensures
     (λ a b. c.answer_is_unique.ensures (problem_of c.args.self.now) c.args.probe.now.cell a b
-    c.planned.ensures.planned.well_formed) own view e.hand
+    c.planned.ensures.planned.well_formed) own view e.hand stepped

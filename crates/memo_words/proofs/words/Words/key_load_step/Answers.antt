@@ -1,4 +1,4 @@
-use Rattle.std.proofs.Common.{rules, refl, ℕ, ap, ◌∙◌, sym, subst}
+use Rattle.std.proofs.Common.{ap, arith, refl, rules, subst, sym, ℕ, ◌+◌, ◌∙◌}
 use Rattle.atomic_table.specs.Table.{Me}
 use Rattle.memo_words.specs.declared.view.View.{View}
 use Rattle.memo_words.specs.Views.{IsSound}
@@ -8,35 +8,50 @@ use Rattle.memo_words.specs.declared.word_step.Place.TheVariants as places
 use Rattle.memo_words.specs.declared.word_step.Action.TheVariants as actions
 use Rattle.memo_words.specs.Made.{step_on}
 use Rattle.memo_words.proofs.Made.{is_last}
+use Rattle.memo_words.proofs.Wins.{nothing_won}
 use Rattle.memo_words.proofs.words.Words.key_load_step.Goals as goal
 
 pub load-found-requires : goal.load-found-requires
-load-found-requires g c = (
-  search rules,
-  search rules,
-  loads_key_at _ _ _ c.args.position _ _ c.key_place.ensures c.requires.inside c.args.pass.now.sound.1,
-)
+load-found-requires g c = record {
+  table = search rules;
+  inside = search rules;
+  live = (let p = c.args.pass.now.parts in let s = c.args.pass.now.sound.1 in omega arith);
+  allows = loads_key_at _ _ _ c.args.position _ _ c.key_place.ensures c.requires.inside c.args.pass.now.sound.1;
+}
 
 pub invariant_of-pass : goal.invariant_of-pass
-invariant_of-pass g c = let told = c.load-found.ensures.2 _ _ c.requires.own.plan c.key_place.ensures in
+invariant_of-pass g c = let told = c.load-found.ensures.then _ _ c.requires.own.plan c.key_place.ensures in
     record {
       sound = subst (IsSound c.args.pass.now.hand) (sym told.0) c.args.pass.now.sound;
+      parts = c.load-found.ensures.marked.3 ∙ (c.args.pass.now.parts ∙ sym (ap (λ (m : Me ℕ View). m.0.weight + m.0.spare) (told.0)));
       last = is_last (plan_of c.args.self.now) (step_on (places.Key c.args.position) actions.Load c.load-found.result) _ _ told.0 c.requires.own.plan refl;
     }
 
 pub returns-clause-own : goal.returns-clause-own
-returns-clause-own g c = let told = c.load-found.ensures.2 _ _ c.requires.own.plan c.key_place.ensures in
+returns-clause-own g c = let told = c.load-found.ensures.then _ _ c.requires.own.plan c.key_place.ensures in
     record {
-      same = c.load-found.ensures.0 ∙ c.requires.own.same;
+      same = c.load-found.ensures.table.0 ∙ c.requires.own.same;
       plan = ap (λ (m : Me ℕ View). m.0.plan) told.0
           ∙ c.requires.own.plan;
     }
 
 pub returns-clause-view : goal.returns-clause-view
-returns-clause-view g c = ap (λ (m : Me ℕ View). m.0) (c.load-found.ensures.2 _ _ c.requires.own.plan c.key_place.ensures).0
+returns-clause-view g c = ap (λ (m : Me ℕ View). m.0) (c.load-found.ensures.then _ _ c.requires.own.plan c.key_place.ensures).0
 
 pub returns-clause-keys : goal.returns-clause-keys
-returns-clause-keys g c = (c.load-found.ensures.2 _ _ c.requires.own.plan c.key_place.ensures).1
+returns-clause-keys g c = (c.load-found.ensures.then _ _ c.requires.own.plan c.key_place.ensures).1
 
 pub returns-clause-stays : goal.returns-clause-stays
-returns-clause-stays g c = (c.load-found.ensures.2 _ _ c.requires.own.plan c.key_place.ensures).2
+returns-clause-stays g c = (c.load-found.ensures.then _ _ c.requires.own.plan c.key_place.ensures).2
+
+pub returns-clause-told : goal.returns-clause-told
+returns-clause-told g c = record {
+  plan = plan_of c.args.self.now;
+  plan_is = (returns-clause-own g c).plan;
+  step = record { place = places.Key c.args.position; action = actions.Load; value = c.load-found.result };
+  made = refl;
+  found = c.load-found.result;
+  found_is = refl;
+  stepped = search rules;
+  won = ap (λ (v : View). v.wins) (returns-clause-view g c) ∙ nothing_won _;
+}

@@ -7,8 +7,8 @@ use Rattle.memo_words.proofs.Moves.{opens}
 use Rattle.memo_words.proofs.Planned.{plan_with, is_planned}
 use Rattle.memo_words.proofs.words.Words.new.Goals as goal
 
-pub of_words-requires : goal.of_words-requires
-of_words-requires c =
+pub of_zeros-requires-clause-rule : goal.of_zeros-requires-clause-rule
+of_zeros-requires-clause-rule c =
     let plan = plan_with c.problem.inside c.of.result.value c.of-2.result.value c.bits_for-bits.result c.args.seats in
     let slots = c.slots_of-slots.ensures.slots in let count = c.word_count.ensures in
     let zeros = c.in_ok-words.ensures.items_if_clones_equal (λ y same. same) in
@@ -20,7 +20,7 @@ pub invariant_of-words : goal.invariant_of-words
 invariant_of-words c =
     let plan = plan_with c.problem.inside c.of.result.value c.of-2.result.value c.bits_for-bits.result c.args.seats in
     let made = c.in_ok-table.ensures {u = tt} in
-    let same : plan ≡ c.in_ok-table.table.shared.key = sym made.5 in
+    let same : plan ≡ c.in_ok-table.table.table.shared.key = sym made.table.2 in
     let slots = c.slots_of-slots.ensures in let few = c.problem.invariant.few_cells in let seats = c.requires in
     let planned = is_planned c.problem.inside c.of.result.value c.of-2.result.value c.bits_for-bits.result
     c.args.seats c.problem.invariant c.of.ensures c.of-2.ensures c.bits_for-bits.ensures.bits c.requires.0
@@ -31,7 +31,7 @@ invariant_of-words c =
       records_are = ap records_of same;
       few_slots = slots.few;
       few_records = omega arith;
-      wide = made.0 ∙ (c.as_slice.ensures.len ∙ (c.in_ok-words.ensures.len ∙ c.word_count.ensures));
-      no_slots = made.1;
+      wide = made.table.0 ∙ (c.as_slice.ensures.len ∙ (c.in_ok-words.ensures.len ∙ c.word_count.ensures));
+      no_slots = made.table.1;
       planned = ∣ subst IsPlanned same planned ∣₁;
     }
