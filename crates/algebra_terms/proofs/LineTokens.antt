@@ -3,7 +3,7 @@ use Rattle.std.proofs.Common.{◌≡◌, ℕ, zero, suc, ◌+◌, ◌-◌, ◌<�
 use Rattle.std.specs.List.{slice_range}
 use Rattle.std.proofs.lemmas.List.{map_push, drop_more}
 use Rattle.std.proofs.Math.Seq.{take-length}
-use Rattle.job_texts.specs.LineTokens.{Token, PlacedToken, Offence, StrayByte, OpenQuote, Space, Begins, Stops, beginning, with_token, tokens_from, line_tokens}
+use Rattle.job_texts.specs.LineTokens.{Token, PlacedToken, Offence, StrayByte, OpenQuote, Begins, Stops, beginning, with_token, tokens_from, line_tokens}
 use Rattle.algebra_terms.specs.declared.lexer.Token as spans
 use Rattle.algebra_terms.specs.declared.lexer.TokenKind.{TokenKind}
 use Rattle.algebra_terms.specs.declared.error.TokenError.{TokenError}
@@ -14,10 +14,6 @@ use Rattle.algebra_terms.specs.Tokens.{placed, said_by, IsIn, IsBeginning, IsSto
 abbrev pub with_front : List PlacedToken → Result (List PlacedToken) Offence → Result (List PlacedToken) Offence
 with_front front (Ok tokens) = Ok (front ++ tokens)
 with_front front (Err offence) = Err offence
-
-pub found_none : (tokens : Result (List PlacedToken) Offence) → with_front [] tokens ≡ tokens
-found_none (Ok tokens) = refl
-found_none (Err offence) = refl
 
 -- one more is found
 pub found_more : (line : List ℕ) (front : List spans.Token) (token : spans.Token) (tokens : Result (List PlacedToken) Offence)
@@ -33,11 +29,6 @@ inside_token (suc inside) place [] within = absurd (omega arith)
 inside_token (suc inside) place (byte ∷ text) within =
     let same : (place + 1) + inside ≡ place + suc inside = omega arith in
     inside_token inside (place + 1) text (omega arith) ∙ rw same refl
-
--- a space
-pub after_space : (line : List ℕ) (at : ℕ) → at < length line → beginning (get_or line at 0) (drop (at + 1) line) ≡ Space
-    → tokens_from 0 at (drop at line) ≡ tokens_from 0 (at + 1) (drop (at + 1) line)
-after_space line at inside is = rw (drop_more line at 0 inside, is) refl
 
 -- what stops the finding
 pub at_offence : (line : List ℕ) (at : ℕ) (offence : Offence) → at < length line → beginning (get_or line at 0) (drop (at + 1) line) ≡ Stops offence

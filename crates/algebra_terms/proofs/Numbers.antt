@@ -1,5 +1,5 @@
 -- The value of a word of digits, byte by byte.
-use Rattle.std.proofs.Common.{◌≡◌, ℕ, ◌+◌, ◌-◌, ◌*◌, ◌^◌, ◌<◌, ◌≤◌, true, false, List, length, take, drop, get_or, refl, ◌∙◌, arith, None}
+use Rattle.std.proofs.Common.{◌≡◌, ℕ, ◌+◌, ◌-◌, ◌*◌, ◌^◌, ◌<◌, ◌≤◌, true, List, length, take, drop, get_or, refl, ◌∙◌, arith, None}
 use Rattle.std.specs.Char.{is_ascii_digit, digit_value}
 use Rattle.std.specs.Str.{all_ascii_digits}
 use Rattle.std.specs.Str.Parse.{digits_value}
@@ -10,13 +10,6 @@ use Rattle.job_texts.specs.TermText.{number_of}
 
 digit_is : (byte : ℕ) → is_ascii_digit byte ≡ true → digit_value byte ≡ byte - 48
 digit_is byte h = grind arith
-
--- a byte that is no digit
-pub other_byte : (word : List ℕ) (i : ℕ) → i < length word → all_ascii_digits word ≡ all_ascii_digits (drop i word)
-    → is_ascii_digit (get_or word i 0) ≡ false → number_of word ≡ None
-other_byte word i inside same other =
-    let none : all_ascii_digits word ≡ false = same ∙ rw (drop_more word i 0 inside, other) refl in
-    rw none refl
 
 -- a digit more
 pub digit_more : (word : List ℕ) (i : ℕ) → i < length word → all_ascii_digits word ≡ all_ascii_digits (drop i word)

@@ -28,9 +28,6 @@ goes_on front items part before after all is given so_far =
 pub ends : (front : List code_parts.Part) (before all : Option (List Part)) → before ≡ Some [] → with_front (map part_of front) before ≡ all → all ≡ Some (map part_of front)
 ends front before all given so_far = sym so_far ∙ rw given (ap (λ (parts : List Part). Some parts) (append-nil (map part_of front)))
 
-pub fails : (front : List Part) (before all : Option (List Part)) → before ≡ None → with_front front before ≡ all → all ≡ None
-fails front before all given so_far = sym so_far ∙ rw given refl
-
 pub some_with_part : (part : Part) (parts : Option (List Part)) → is_some (with_part part parts) ≡ is_some parts
 some_with_part part None = refl
 some_with_part part (Some others) = refl

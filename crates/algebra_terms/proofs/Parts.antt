@@ -33,14 +33,6 @@ pub at_multiple : (negative : Bool) (number variable : List ℕ) (tokens : List 
     → parts_from negative (Word number ∷ Times ∷ Word variable ∷ tokens) ≡ with_part (multiple negative number variable) (further_parts tokens)
 at_multiple negative number variable tokens h g = rw (h, g) refl
 
-pub times_number : (negative : Bool) (number variable : List ℕ) (tokens : List Token) → begins_number variable ≡ true
-    → parts_from negative (Word number ∷ Times ∷ Word variable ∷ tokens) ≡ None
-times_number negative number variable tokens g = step (begins_number number) refl
-  where
-    step : (b : Bool) → begins_number number ≡ b → parts_from negative (Word number ∷ Times ∷ Word variable ∷ tokens) ≡ None
-    step true h = rw (h, g) refl
-    step false h = rw h refl
-
 -- a number and `*` with no word behind them
 pub times_no_more : (negative : Bool) (number : List ℕ) → parts_from negative (Word number ∷ Times ∷ []) ≡ None
 times_no_more negative number = refl

@@ -1,5 +1,5 @@
 -- What an alternative's splits ask for is what its arguments demand between the ends of the cell.
-use Rattle.std.proofs.Common.{◌≡◌, ℕ, zero, suc, ◌+◌, ◌-◌, ◌≤◌, ◌<◌, inl, inr, Option, Some, None, List, [], ◌∷◌, ◌++◌, length, drop, get_or, slice_get, refl, sym, ap, subst, arith}
+use Rattle.std.proofs.Common.{◌≡◌, ℕ, zero, suc, ◌+◌, ◌-◌, ◌≤◌, ◌<◌, inl, inr, Some, List, [], ◌∷◌, ◌++◌, length, drop, slice_get, refl, sym, subst, arith}
 use Rattle.std.specs.List.{AllByRecursion, Contains}
 use Rattle.adp_model.specs.declared.grammar.Arg.{Arg}
 use Rattle.adp_model.specs.declared.grammar.Arg.TheVariants.{Rule, Literal, Letter, Run}
@@ -8,12 +8,10 @@ use Rattle.adp_model.specs.PosedProblem.{PosedProblem}
 use Rattle.adp_model.specs.Parts.{arguments_of}
 use Rattle.adp_model.specs.Splits.{place, ends_by, FitsSpan}
 use Rattle.viable_splits.specs.Placing.{on_span, Cover}
-use Rattle.split_lines.specs.Ends.{IsFrontTold}
 use Rattle.split_lines.specs.Laid.{IsFixed, IsCellOf, Demands, LineParts, AreBoundaries}
 use Rattle.split_lines.specs.Lines.{HasLine, parts_by}
 use Rattle.argument_search.specs.Seeking.{AreAllNoted}
 use Rattle.argument_search.specs.Skipping.{AreNotedOn}
-use Rattle.argument_search.proofs.LineHere.{cover_forward}
 use Rattle.argument_search.proofs.LineSplits.{AreAt, IsCell, cell_of}
 use Rattle.argument_search.proofs.PlacedArguments.{length_ends}
 
@@ -113,31 +111,11 @@ module _ (p : PosedProblem) where
   -- ---- tokens in front
 
   module _ (Noted : Cell → Type 0) (front others : List Arg) (from to : ℕ) (fixed : AllByRecursion IsFixed front) where
-    end_told : (found : Option ℕ) → IsFrontTold p front from to found → (child : Cell)
-        → Demands p (front ++ others) from to child → (end : ℕ) × (found ≡ Some end) × Demands p others end to child
-    end_told found told child demands =
-        let behind = demands_behind front others from to child fixed demands in
-        let forward = cover_forward p others behind.0 to (cover_of_demands others behind.0 to child behind.2) in
-        (behind.0, (told behind.0).1 (forward, behind.1), behind.2)
-
-    pub noted_behind : (end : ℕ) → IsFrontTold p front from to (Some end) → AreNotedOn p Noted others end to
+    pub noted_behind : (end : ℕ) → ((other : ℕ) → Cover p front from other → other ≡ end) → AreNotedOn p Noted others end to
         → AreNotedOn p Noted (front ++ others) from to
-    noted_behind end told noted child demands =
-        let it = end_told (Some end) told child demands in
-        let same : it.0 ≡ end = (let e = it.1 in cc) in
-        noted child (subst (λ at. Demands p others at to child) same it.2)
-
-    -- they have no end, or nothing stands behind them
-    pub noted_nowhere : IsFrontTold p front from to None → AreNotedOn p Noted (front ++ others) from to
-    noted_nowhere told child demands =
-        let it = end_told None told child demands in
-        let e = it.1 in
-        absurd cc
-
-    pub noted_alone : others ≡ [] → AreNotedOn p Noted (front ++ others) from to
-    noted_alone none child demands =
+    noted_behind end only noted child demands =
         let behind = demands_behind front others from to child fixed demands in
-        absurd (subst (λ xs. Demands p xs behind.0 to child) none behind.2)
+        noted child (subst (λ at. Demands p others at to child) (only behind.0 behind.1) behind.2)
 
   -- ---- the last argument
 
@@ -227,14 +205,3 @@ module _ (p : PosedProblem) where
       subst (λ (xs : List Arg). AreNotedOn p Noted xs from to) (sym has.parts.are)
       (noted_along Noted (parts_by arguments between) from to letters last positions has.parts.middle_fixed
       has.parts.tail_fixed boundaries first second)
-
--- ---- lists
-
-pub one_alone : {V : Type 0} (xs : List V) (first : V) → length xs ≡ 1 → first ≡ get_or xs 0 first → xs ≡ first ∷ []
-one_alone [] first l e = absurd cc
-one_alone (x ∷ []) first l e = ap (λ it. it ∷ []) (sym e)
-one_alone (x ∷ y ∷ xs) first l e = absurd (omega (arith, l))
-
-pub empty_without : {V : Type 0} (xs : List V) → length xs ≡ 0 → xs ≡ []
-empty_without [] none = refl
-empty_without (x ∷ xs) none = absurd (omega (arith, none))

@@ -1,5 +1,5 @@
 -- Arguments that are laid between two positions only where each cell is noted that they may demand there.
-use Rattle.std.proofs.Common.{◌≡◌, ℕ, ◌<◌, ◌≤◌, Bool, true, false, IsTrue, Some, None, List, [], ◌∷◌, drop, refl, subst, inl, inr}
+use Rattle.std.proofs.Common.{◌≡◌, ℕ, ◌<◌, ◌≤◌, Bool, true, false, IsTrue, Some, None, List, ◌∷◌, subst, inl, inr}
 use Rattle.std.specs.Bool.{OnTrue}
 use Rattle.std.specs.declared.ops.Range.{Range}
 use Rattle.adp_model.specs.declared.grammar.Arg.{Arg}
@@ -53,19 +53,6 @@ module _ (p : PosedProblem) (Noted : Cell → Type 0) where
 
   -- ---- arguments behind the first one
 
-  -- from where the first of the arguments may end on
-  pub told_behind : (arguments : List Arg) (so : Bool) (from to : ℕ) (positions : Range ℕ)
-      → ((first : Arg) (later : List Arg) → arguments ≡ first ∷ later → ArePositions p first later from to positions)
-      → AreNotedIfLaid p Noted arguments so from to → (end : ℕ) → positions.start ≤ end → end < positions.end
-      → AreNotedIfLaid p Noted (drop 1 arguments) true end to
-  told_behind [] so from to positions are laid end l m cover = (refl, λ child none. absurd none)
-  told_behind (first ∷ later) so from to positions are laid end l m cover = (
-    refl,
-    λ child demands.
-        let fits = (are first later refl).fit end l m in
-        (laid (end, fits, cover)).1 child (end, fits, inr demands),
-  )
-
   -- ---- one of open length in front
 
   -- where the first argument ends here, this is so, its cell is noted, and so is each one that the others may demand
@@ -76,14 +63,6 @@ module _ (p : PosedProblem) (Noted : Cell → Type 0) where
       × AreNotedOn p Noted others end to
 
   module _ (argument : Arg) (others : List Arg) (so : Bool) (from to : ℕ) where
-    pub noted_at_end : (end : ℕ) → IsTrue so → ((child : Cell) → IsCellOf argument from end child → Noted child)
-        → AreNotedIfLaid p Noted others true end to → AreNotedFrom argument others so from to end
-    noted_at_end end is own laid cover = (is, own, (laid cover).1)
-
-    pub unlaid_at_end : (end : ℕ) → AreNotedIfLaid p Noted others false end to
-        → AreNotedFrom argument others so from to end
-    unlaid_at_end end laid cover = let e = (laid cover).0 in absurd cc
-
     pub laid_from : (positions : Range ℕ) → ArePositions p argument others from to positions
         → ((end : ℕ) → positions.start ≤ end → end < positions.end → AreNotedFrom argument others so from to end)
         → AreNotedIfLaid p Noted (argument ∷ others) so from to

@@ -1,5 +1,5 @@
 -- Cuts that were tested argument by argument are those of a viable split; and cuts that a place was put into.
-use Rattle.std.proofs.Common.{◌≡◌, ℕ, zero, suc, ◌-◌, ◌<◌, ◌≤◌, ◌⊎◌, inl, inr, List, [], ◌∷◌, ◌++◌, length, take, drop, slice_index, slice_index_or, slice_set, refl, sym, ap, subst, ◌∙◌, arith}
+use Rattle.std.proofs.Common.{◌≡◌, ℕ, zero, suc, ◌-◌, ◌<◌, ◌≤◌, ◌⊎◌, inl, inr, List, [], ◌∷◌, ◌++◌, length, take, drop, slice_index, slice_index_or, slice_set, refl, sym, subst, ◌∙◌, arith}
 use Rattle.std.specs.List.{AllByRecursion}
 use Rattle.std.proofs.lemmas.Bool.{cases_lt}
 use Rattle.adp_model.specs.declared.grammar.Arg.{Arg}
@@ -46,13 +46,6 @@ closed_end (cut ∷ cuts) to n each (suc k) low less =
 
 -- ---- cuts that are moved
 
-pub index_kept : (xs : List ℕ) (k n x : ℕ) → (n ≡ k → ⊥) → slice_index (slice_set xs k x) n ≡ slice_index xs n
-index_kept [] k n x apart = refl
-index_kept (y ∷ ys) zero zero x apart = absurd (apart refl)
-index_kept (y ∷ ys) zero (suc n) x apart = refl
-index_kept (y ∷ ys) (suc k) zero x apart = refl
-index_kept (y ∷ ys) (suc k) (suc n) x apart = index_kept ys k n x (λ same. apart (ap suc same))
-
 -- each argument of cuts that fit has the span from the end before it to its own
 pub fit_at : (p : PosedProblem) (arguments : List Arg) (from : ℕ) (ends : List ℕ) (d : Arg)
     → length arguments ≤ length ends → AllByRecursion (FitsSpan p) (place arguments from ends)
@@ -96,12 +89,6 @@ module _ (p : PosedProblem) (arguments : List Arg) (from : ℕ) (ends others : L
       go (inr high) (inl later) = same_fits k (slice_index (from ∷ ends) k) (slice_index ends k) (start_behind k later)
           (behind k (omega arith)) (old k less)
       go (inr high) (inr within) = between k high within
-
-pub take_set : (xs : List ℕ) (n k x : ℕ) → n ≤ k → take n (slice_set xs k x) ≡ take n xs
-take_set xs zero k x l = refl
-take_set [] (suc n) k x l = refl
-take_set (y ∷ ys) (suc n) zero x l = absurd (omega arith)
-take_set (y ∷ ys) (suc n) (suc k) x l = ap (λ zs. y ∷ zs) (take_set ys n k x (omega arith))
 
 pub index_set : (xs : List ℕ) (k x : ℕ) → k < length xs → slice_index (slice_set xs k x) k ≡ x
 index_set [] k x l = absurd (omega arith)

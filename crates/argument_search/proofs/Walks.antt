@@ -407,14 +407,6 @@ module _ (p : PosedProblem) (Noted : Cell → Type 0) (visit : Visit) (walk : Is
 
   -- ---- from the position on to a later alternative
 
-  pub next_from_start : (position : Position) → visit.at ≡ None → IsFirstLeft p Noted visit 0 position
-      → IsNextLeft p Noted visit position
-  next_from_start position fresh first = record {
-    is_argument = first.is_argument;
-    behind = ap (λ o. is_behind_position p visit o (argument_at visit.cell position)) fresh;
-    next = λ a child here asks behind. first.first a child here asks (omega arith);
-  }
-
   pub next_later : (at position : Position) → visit.at ≡ Some at
       → AreNotedBehind p Noted visit.cell at.alternative visit.turns at.cuts
       → length (arguments_of p.grammar visit.cell.rule at.alternative) ≤ at.number + 1
@@ -470,8 +462,3 @@ module _ (p : PosedProblem) (Noted : Cell → Type 0) (visit : Visit) (walk : Is
       → MatchOption found (IsNoneSought p Noted visit) (IsNextLeft p Noted visit)
   later_from at stands noted last None is = none_later at stands noted last is
   later_from at stands noted last (Some position) is = next_later at position stands noted last is
-
-  pub start_from : visit.at ≡ None → (found : Option Position) → MatchOption found (IsNoneLeft p Noted visit 0)
-      (IsFirstLeft p Noted visit 0) → MatchOption found (IsNoneSought p Noted visit) (IsNextLeft p Noted visit)
-  start_from fresh None is = λ a child here asks behind. is a child here asks (omega arith)
-  start_from fresh (Some position) is = next_from_start position fresh is

@@ -20,7 +20,7 @@ use crate::skipping::{OpenPair, both_noted};
 use adp_model::laws::well_formed::{alternatives_fit, arguments_are_few_and_known};
 use adp_model::{Arg, Cell};
 use memo_model::Position;
-use split_lines::{KeptAlternative, Line, Lines, is_fixed, line_begins_later, line_here};
+use split_lines::{KeptAlternative, Line, Lines, Way, is_fixed, line_begins_later, line_here};
 use std::ops::Range;
 
 /// How far it is looked whether the cells of an alternative are noted.
@@ -162,10 +162,11 @@ fn are_others_noted<N: NotedCells>(
         (AreNotedOn lines.now (N.is_noted noted.now) alternative.now.others.now from cell.to) }
 {
     let others = alternative.others;
-    if others.len() == 1 {
-        return is_noted(noted, &others[0], from, cell.to);
-    }
-    let line = lines.line_behind(alternative, cell.rule, alt);
+    let line = match lines.way(alternative, cell.rule, alt) {
+        Way::Front => return true,
+        Way::Last(argument) => return is_noted(noted, argument, from, cell.to),
+        Way::Several(line) => line,
+    };
     let ahead = line.map_or(0, |line| line.first);
     if let Some(line) = line_here(line.as_ref(), ahead) {
         return is_line_noted(lines, noted, *line, others, true, from, cell.to);
@@ -202,10 +203,7 @@ pub(crate) fn are_all_noted<N: NotedCells>(
     alternatives_fit();
     arguments_are_few_and_known();
     let alternative = &lines.alternatives(cell.rule)[alt as usize];
-    if alternative.others.is_empty() {
-        return true;
-    }
-    match lines.front_end(alternative, cell.from, cell.to) {
+    match lines.opening(alternative, cell) {
         Some(end) => are_others_noted(lines, noted, cell, alternative, alt, depth, end),
         None => true,
     }

@@ -1,5 +1,5 @@
 -- The letters of words that are made.
-use Rattle.std.proofs.Common.{◌≡◌, ℕ, zero, suc, ◌+◌, ◌*◌, ◌/◌, ◌%◌, ◌^◌, ◌<◌, IsTrue, true, List, [], ◌∷◌, ◌++◌, length, get_or, codes, refl, subst, sym, ap, ◌∙◌, arith, append_assoc, append-nil, ◌⊎◌, inl, inr}
+use Rattle.std.proofs.Common.{◌≡◌, ℕ, zero, suc, ◌+◌, ◌*◌, ◌/◌, ◌%◌, ◌^◌, ◌<◌, IsTrue, true, List, [], ◌∷◌, ◌++◌, length, get_or, codes, refl, subst, sym, ap, ◌∙◌, arith, append_assoc, ◌⊎◌, inl, inr}
 use Rattle.std.specs.List.{list_all}
 use Rattle.std.proofs.lemmas.Bool.{and_from}
 use Rattle.std.proofs.lemmas.List.Folds.{list_all-append}
@@ -13,9 +13,6 @@ use Rattle.adp_model.specs.BigReport.{next_state, letter_of, made_word, pairs_gr
 pub made_more : (state left others : ℕ) → left ≡ suc others
     → made_word state left ≡ letter_of (next_state state) ∷ made_word (next_state state) others
 made_more state left others same = ap (made_word state) same
-
-pub made_none : (state left : ℕ) → left ≡ 0 → made_word state left ≡ []
-made_none state left same = ap (made_word state) same
 
 pub length_made : (state size : ℕ) → length (made_word state size) ≡ size
 length_made state zero = refl
@@ -83,8 +80,3 @@ printable_more letters longer state letter next printable moved here grown =
     (list_all-append is_printable_byte letters (letter ∷ [])
     ∙ and_from (list_all is_printable_byte letters) (list_all is_printable_byte (letter ∷ [])) printable
     (and_from (is_printable_byte letter) true one refl))
-
-pub word_done : (word letters : List ℕ) (state left : ℕ) → word ≡ letters ++ made_word state left → left ≡ 0
-    → letters ≡ word
-word_done word letters state left made none =
-    sym (made ∙ ap (λ rest. letters ++ rest) (made_none state left none) ∙ append-nil letters)

@@ -1,12 +1,8 @@
 -- The arguments of an alternative on a cell, as they are summed up.
-use Rattle.std.proofs.Common.{◌≡◌, ℕ, ◌+◌, ◌<◌, ◌≤◌, ℤ, ◌+ℤ◌, nat_abs, Option, List, length, map, ap, ◌∙◌, arith}
+use Rattle.std.proofs.Common.{◌≡◌, ℕ, ◌<◌, ◌≤◌, ℤ, ◌+ℤ◌, nat_abs, Option, List, length, ap, arith}
 use Rattle.std.specs.List.{AllByRecursion, Contains}
-use Rattle.std.proofs.lemmas.Int.{ints}
-use Rattle.std.proofs.lemmas.List.{length-map}
 use Rattle.adp_model.specs.declared.grammar.Arg.{Arg}
 use Rattle.adp_model.specs.declared.grammar.Arg.TheVariants.{Rule, Literal, Letter, Run}
-use Rattle.adp_model.specs.declared.grammar.Goal.{Goal}
-use Rattle.adp_model.specs.declared.grammar.Linear.{Linear}
 use Rattle.adp_model.specs.declared.cell.Cell.{Cell}
 use Rattle.adp_model.specs.PosedProblem.{PosedProblem, IsSpan}
 use Rattle.adp_model.specs.Parts.{algebra_of, alternatives_of, arguments_of, term_of}
@@ -21,13 +17,13 @@ use Rattle.adp_model.specs.Demand.{IsDemandedChild}
 use Rattle.adp_model.specs.Bellman.{HasBestScore}
 use Rattle.viable_splits.specs.Placing.{on_span}
 use Rattle.cell_tables.specs.Tables.{Table}
+use Rattle.split_lines.specs.Kept.{IsScoredBy}
 use Rattle.cell_answers.specs.Entries.{HasEntry}
 use Rattle.cell_answers.specs.Totals.{HasTotal, IsWithinBound, AreWeighted}
-use Rattle.score_numbers.specs.Turned.{turned}
 use Rattle.cell_answers.proofs.Splitting.{child_of_demands}
-use Rattle.cell_answers.proofs.Totalling.{values_kept, sum_low}
-use Rattle.cell_answers.proofs.Bounding.{magnitude_low, alternative_low}
-use Rattle.cell_answers.proofs.Scoring.{turned_low, turned_total, turned_are_low, HasScoreBefore}
+use Rattle.cell_answers.proofs.Totalling.{nat_abs-sum, values_kept, sum_low}
+use Rattle.cell_answers.proofs.Bounding.{value_low, scored_low, alternative_low}
+use Rattle.cell_answers.proofs.Scoring.{turned_low, HasScoreBefore}
 use Rattle.cell_answers.proofs.FirstEnds.{AreLaid, AreSound}
 
 -- best scores are within their bounds
@@ -58,57 +54,39 @@ module _ (p : PosedProblem) (admissible : IsAdmissible p) (bounded : TokensKeepB
   tokens_low (Letter class) from to stands fits = token_low (Letter class) from to stands fits.0 fits.1
   tokens_low (Run class low high) from to stands fits = token_low (Run class low high) from to stands fits.0 fits.1
 
-  pub weighted : (goal : Goal) → AllByRecursion (IsKnown p.grammar) (arguments_of p.grammar rule alternative) → length (arguments_of p.grammar rule alternative) ≤ 4
-      → length (term_of p rule alternative).factors ≡ length (arguments_of p.grammar rule alternative)
-      → AreWeighted p (arguments_of p.grammar rule alternative) (map (turned goal) (term_of p rule alternative).factors)
-  weighted goal known few each = record {
-    known = known;
-    few = few;
-    factors_each = length-map (term_of p rule alternative).factors (turned goal) ∙ each;
-    tokens_low = tokens_low;
+  pub weighted : (factors : List ℤ) → AllByRecursion (IsKnown p.grammar) (arguments_of p.grammar rule alternative) → length (arguments_of p.grammar rule alternative) ≤ 4
+      → length factors ≡ length (arguments_of p.grammar rule alternative) → AreWeighted p (arguments_of p.grammar rule alternative) factors
+  weighted factors known few each = record { known = known; few = few; factors_each = each; tokens_low = tokens_low }
+
+module _ (p : PosedProblem) (admissible : IsAdmissible p) (cell : Cell) (alternative : ℕ) (constant : ℤ) (factors : List ℤ) (is : IsScoredBy p cell.rule alternative constant factors)
+    (span : IsSpan p.word cell.from cell.to) (in_rules : cell.rule < length p.grammar.rules) (in_range : alternative < length (alternatives_of p.grammar cell.rule)) where
+  -- the arguments of an alternative on a cell whose demanded children have entries
+  pub alternative_laid : TokensKeepBound p → (table : Table ℤ) → AllByRecursion (IsKnown p.grammar) (arguments_of p.grammar cell.rule alternative) → length (arguments_of p.grammar cell.rule alternative) ≤ 4
+      → ((child : Cell) → IsDemandedChild p cell child → HasEntry table child)
+      → AreLaid p table (arguments_of p.grammar cell.rule alternative) factors cell.from cell.to
+  alternative_laid bounded table known few scored = record {
+    weighted = weighted p admissible bounded cell.rule alternative factors known few is.each;
+    span = span;
+    scored = λ child demands. scored child (child_of_demands p cell alternative child in_range few demands);
+    low = alternative_low p admissible cell alternative constant factors is span in_rules in_range;
   }
 
--- the arguments of an alternative on a cell whose demanded children have entries
-pub alternative_laid : (p : PosedProblem) → IsAdmissible p → TokensKeepBound p → (table : Table ℤ) (goal : Goal) (cell : Cell) (alternative : ℕ) → AllByRecursion (IsKnown p.grammar) (arguments_of p.grammar cell.rule alternative) → length (arguments_of p.grammar cell.rule alternative) ≤ 4
-    → length (term_of p cell.rule alternative).factors ≡ length (arguments_of p.grammar cell.rule alternative)
-    → IsSpan p.word cell.from cell.to → cell.rule < length p.grammar.rules → alternative < length (alternatives_of p.grammar cell.rule) → ((child : Cell) → IsDemandedChild p cell child → HasEntry table child)
-    → AreLaid p table (arguments_of p.grammar cell.rule alternative) (map (turned goal) (term_of p cell.rule alternative).factors) cell.from cell.to
-alternative_laid p admissible bounded table goal cell alternative known few each span in_rules in_range scored = record {
-  weighted = weighted p admissible bounded cell.rule alternative goal known few each;
-  span = span;
-  scored = λ child demands. scored child (child_of_demands p cell alternative child in_range few demands);
-  low = turned_are_low p goal (term_of p cell.rule alternative) cell alternative (alternative_low p admissible cell alternative span in_rules in_range);
-}
-
--- the constant and a total are no greater than the greatest score, alone and together
-pub with_constant_low : (p : PosedProblem) → IsAdmissible p → AreSound p → (goal : Goal) (cell : Cell) (alternative : ℕ) (total : ℤ) → IsSpan p.word cell.from cell.to → cell.rule < length p.grammar.rules → alternative < length (alternatives_of p.grammar cell.rule)
-    → HasTotal p (HasBestScore p) (arguments_of p.grammar cell.rule alternative) (map (turned goal) (term_of p cell.rule alternative).factors) cell.from cell.to total
-    → nat_abs (turned goal (term_of p cell.rule alternative).constant +ℤ total) ≤ greatest_score
-with_constant_low p admissible sound goal cell alternative total span in_rules in_range (values, have, is) =
-    let term : Linear = term_of p cell.rule alternative in
-    let within = values_kept p (HasBestScore p) (IsWithinBound p) sound.within (arguments_of p.grammar cell.rule alternative) cell.from cell.to values have in
-    let low = magnitude_low p admissible cell alternative values span in_rules in_range within in
-    let sum = sum_low (map (turned goal) term.factors) values in
-    let same = turned_total goal term.factors (map nat_abs values) in
-    let constant = turned_low goal term.constant in
-    let e : nat_abs total ≡ nat_abs (weighted_sum (map (turned goal) term.factors) values) = ap nat_abs is in
-    let both = nat_abs-sum (turned goal term.constant) total in
-    omega arith
-  where
-    nat_abs-sum : (a b : ℤ) → nat_abs (a +ℤ b) ≤ nat_abs a + nat_abs b
-    nat_abs-sum a b = omega (arith, ints)
+  -- the constant and a total are no greater than the greatest score, alone and together
+  pub with_constant_low : AreSound p → (total : ℤ) → HasTotal p (HasBestScore p) (arguments_of p.grammar cell.rule alternative) factors cell.from cell.to total
+      → nat_abs (constant +ℤ total) ≤ greatest_score
+  with_constant_low sound total (values, have, sum_is) =
+      let within = values_kept p (HasBestScore p) (IsWithinBound p) sound.within (arguments_of p.grammar cell.rule alternative) cell.from cell.to values have in
+      let low = scored_low p admissible cell alternative constant factors is span in_rules in_range values within in
+      let sum = sum_low factors values in
+      let e : nat_abs total ≡ nat_abs (weighted_sum factors values) = ap nat_abs sum_is in
+      let both = nat_abs-sum constant total in
+      omega arith
 
 -- the score of a split keeps the greatest score
 pub score_low : (p : PosedProblem) → IsAdmissible p → AreWithin p → (cell : Cell) (count : ℕ) (number : ℤ) → IsSpan p.word cell.from cell.to → cell.rule < length p.grammar.rules → count ≤ length (alternatives_of p.grammar cell.rule)
     → HasScoreBefore p cell count number → nat_abs number ≤ greatest_score
 score_low p admissible within cell count number span in_rules l (alternative, before, (values, have, is)) =
-    let term : Linear = term_of p cell.rule alternative in
-    let low = magnitude_low p admissible cell alternative values span in_rules (omega (arith, before, l)) (values_kept p (HasBestScore p) (IsWithinBound p) within (arguments_of p.grammar cell.rule alternative) cell.from cell.to values have) in
-    let sum = sum_low term.factors values in
+    let low = value_low p admissible cell alternative values span in_rules (omega (arith, before, l)) (values_kept p (HasBestScore p) (IsWithinBound p) within (arguments_of p.grammar cell.rule alternative) cell.from cell.to values have) in
     let same = ap nat_abs is in
-    let value = turned_low (algebra_of p).goal (term_value term values) in
-    let both = nat_abs-sum term.constant (weighted_sum term.factors values) in
+    let value = turned_low (algebra_of p).goal (term_value (term_of p cell.rule alternative) values) in
     omega arith
-  where
-    nat_abs-sum : (a b : ℤ) → nat_abs (a +ℤ b) ≤ nat_abs a + nat_abs b
-    nat_abs-sum a b = omega (arith, ints)

@@ -3,7 +3,7 @@ use Rattle.std.proofs.Common.{◌≡◌, ℕ, ◌+◌, ◌-◌, ◌*◌, ◌<◌
 use Rattle.std.specs.Prelude.{◌==◌}
 use Rattle.std.proofs.lemmas.Bool.{cases_Bool}
 use Rattle.std.proofs.lemmas.Int.{ints}
-use Rattle.std.proofs.lemmas.List.{length-take, length-drop}
+use Rattle.std.proofs.lemmas.List.{length-map, length-take, length-drop}
 use Rattle.std.proofs.lemmas.List.Sums.{sum_by-cons}
 use Rattle.std.proofs.Math.Nat.{mul-le-mul_left}
 use Rattle.adp_model.specs.declared.grammar.Arg.{Arg}
@@ -13,7 +13,7 @@ use Rattle.adp_model.specs.declared.cell.Cell.{Cell}
 use Rattle.adp_model.specs.PosedProblem.{PosedProblem, IsSpan}
 use Rattle.adp_model.specs.Parts.{letters_of, alternatives_of, arguments_of, term_of}
 use Rattle.adp_model.specs.Tokens.{letters_between, weight_of, total_weight}
-use Rattle.adp_model.specs.Terms.{weighted_total, magnitude}
+use Rattle.adp_model.specs.Terms.{weighted_sum, weighted_total, magnitude, term_value}
 use Rattle.adp_model.specs.Lengths.{AdmitsLength}
 use Rattle.adp_model.specs.Splits.{FitsSpan}
 use Rattle.adp_model.specs.FirstSplit.{IsValue}
@@ -25,7 +25,9 @@ use Rattle.adp_model.specs.Checks.{IsChecked}
 use Rattle.adp_model.specs.ProblemFields.{most_letters, greatest_score, IsAdmissible}
 use Rattle.adp_model.specs.Bounds.{IsInRange, AreInRange, greatest_weight, argument_bounds, IsGreatest, IsMagnitude, AreScoreBounds, IsRuleBound, IsTokenBound}
 use Rattle.viable_splits.specs.Placing.{on_span}
+use Rattle.split_lines.specs.Kept.{IsScoredBy}
 use Rattle.cell_answers.specs.Totals.{HaveValues, IsWithinBound, AreLow}
+use Rattle.cell_answers.proofs.Totalling.{nat_abs-sum, sum_low, values_length}
 
 -- ---- the weights of letters
 
@@ -54,9 +56,6 @@ total_more_low entries letter letters (Some weight) e low =
     let first = weight_low entries letter weight e in
     let both = nat_abs-sum weight (total_weight entries letters) in
     omega arith
-  where
-    nat_abs-sum : (a b : ℤ) → nat_abs (a +ℤ b) ≤ nat_abs a + nat_abs b
-    nat_abs-sum a b = omega (arith, ints)
 
 total_low : (entries : List (ℕ × ℤ)) (letters : List ℕ) → nat_abs (total_weight entries letters) ≤ greatest_weight entries * length letters
 total_low entries [] = omega arith
@@ -145,7 +144,7 @@ within_greatest Holds number other (inl (holds, greatest)) it = greatest other i
 within_greatest Holds number other (inr (zero, none)) it = absurd (none other it)
 
 -- the term of an alternative is low at all values of its arguments on a cell
-pub magnitude_low : (p : PosedProblem) → IsAdmissible p → (cell : Cell) (alternative : ℕ) (values : List ℤ) → IsSpan p.word cell.from cell.to → cell.rule < length p.grammar.rules → alternative < length (alternatives_of p.grammar cell.rule)
+magnitude_low : (p : PosedProblem) → IsAdmissible p → (cell : Cell) (alternative : ℕ) (values : List ℤ) → IsSpan p.word cell.from cell.to → cell.rule < length p.grammar.rules → alternative < length (alternatives_of p.grammar cell.rule)
     → HaveValues p (IsWithinBound p) (arguments_of p.grammar cell.rule alternative) cell.from cell.to values → magnitude (term_of p cell.rule alternative) (map nat_abs values) ≤ greatest_score
 magnitude_low p admissible cell alternative values span known in_range have =
     let scores = admissible.limits.scores in
@@ -164,11 +163,30 @@ magnitude_low p admissible cell alternative values span known in_range have =
     (inl (cell.rule, len, known, omega (arith, span.in_word), refl)) in
     omega (arith, low, of_rule, of_word, scores.2)
 
-pub alternative_low : (p : PosedProblem) → IsAdmissible p → (cell : Cell) (alternative : ℕ) → IsSpan p.word cell.from cell.to → cell.rule < length p.grammar.rules → alternative < length (alternatives_of p.grammar cell.rule)
-    → AreLow p (arguments_of p.grammar cell.rule alternative) (term_of p cell.rule alternative).factors cell.from cell.to
-alternative_low p admissible cell alternative span known in_range values have =
+pub value_low : (p : PosedProblem) → IsAdmissible p → (cell : Cell) (alternative : ℕ) (values : List ℤ) → IsSpan p.word cell.from cell.to → cell.rule < length p.grammar.rules → alternative < length (alternatives_of p.grammar cell.rule)
+    → HaveValues p (IsWithinBound p) (arguments_of p.grammar cell.rule alternative) cell.from cell.to values → nat_abs (term_value (term_of p cell.rule alternative) values) ≤ greatest_score
+value_low p admissible cell alternative values span known in_range have =
+    let term : Linear = term_of p cell.rule alternative in
     let low = magnitude_low p admissible cell alternative values span known in_range have in
-    omega (arith, low)
+    let sum = sum_low term.factors values in
+    let both = nat_abs-sum term.constant (weighted_sum term.factors values) in
+    omega arith
+
+-- so is what scores it
+module _ (p : PosedProblem) (admissible : IsAdmissible p) (cell : Cell) (alternative : ℕ) (constant : ℤ) (factors : List ℤ) (scored : IsScoredBy p cell.rule alternative constant factors)
+    (span : IsSpan p.word cell.from cell.to) (known : cell.rule < length p.grammar.rules) (in_range : alternative < length (alternatives_of p.grammar cell.rule)) where
+  pub scored_low : (values : List ℤ) → HaveValues p (IsWithinBound p) (arguments_of p.grammar cell.rule alternative) cell.from cell.to values
+      → nat_abs constant + weighted_total factors (map nat_abs values) ≤ greatest_score
+  scored_low values have =
+      let low = magnitude_low p admissible cell alternative values span known in_range have in
+      let long = values_length p (IsWithinBound p) (arguments_of p.grammar cell.rule alternative) cell.from cell.to values have in
+      let parts = scored.low (map nat_abs values) (length-map values nat_abs ∙ long) in
+      omega (arith, low, parts)
+
+  pub alternative_low : AreLow p (arguments_of p.grammar cell.rule alternative) factors cell.from cell.to
+  alternative_low values have =
+      let low = scored_low values have in
+      omega (arith, low)
 
 -- the scores of all trees are within their bounds
 abbrev pub AreBounded : PosedProblem → Type 0

@@ -1,7 +1,6 @@
 -- The arguments of a line up to its second one of open length, at a position of the boundary.
 use Rattle.std.proofs.Common.{◌≡◌, ℕ, ◌+◌, ◌≤◌, ℤ, ◌+ℤ◌, ◌*ℤ◌, nat_abs, Option, Some, List, [], ◌∷◌, ◌++◌, length, get_or, refl, sym, subst, ◌∙◌, arith}
 use Rattle.std.specs.List.{AllByRecursion, Contains}
-use Rattle.std.proofs.lemmas.Int.{ints}
 use Rattle.std.proofs.lemmas.List.{get_or_default, length-append}
 use Rattle.std.proofs.lemmas.List.Elements.{Contains-append_left, Contains-append_right, Contains-get_or}
 use Rattle.adp_model.specs.declared.grammar.Arg.{Arg}
@@ -19,7 +18,7 @@ use Rattle.cell_answers.specs.Through.{HasLineTotal}
 use Rattle.cell_answers.specs.Totals.{HasTotal, AreLow, AreWeighted}
 use Rattle.score_numbers.specs.Greatest.{IsGreatestOf}
 use Rattle.cell_answers.proofs.Greatest.{greatest_same, HasBefore}
-use Rattle.cell_answers.proofs.Totalling.{low_rest}
+use Rattle.cell_answers.proofs.Totalling.{low_rest, nat_abs-sum}
 use Rattle.cell_answers.proofs.FirstEnds.{AreSound, weighted_rest}
 use Rattle.cell_answers.proofs.LineTotals.{low_front, through_total, total_through, one_through, greatest_through, through_low}
 
@@ -121,6 +120,3 @@ sums_low a b c low =
     let one = nat_abs-sum a b in
     let two = nat_abs-sum (a +ℤ b) c in
     (omega arith, omega arith, omega arith, omega arith)
-  where
-    nat_abs-sum : (x y : ℤ) → nat_abs (x +ℤ y) ≤ nat_abs x + nat_abs y
-    nat_abs-sum x y = omega (arith, ints)

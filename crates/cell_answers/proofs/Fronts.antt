@@ -11,22 +11,11 @@ use Rattle.split_lines.specs.Laid.{IsFixed}
 use Rattle.cell_tables.specs.Tables.{Table}
 use Rattle.cell_answers.specs.Totals.{HasTotal, AreLow, AreWeighted}
 use Rattle.score_numbers.specs.Greatest.{IsGreatestOf}
-use Rattle.cell_answers.proofs.Dividing.{cover_forward}
 use Rattle.cell_answers.proofs.WholeLines.{demands_back}
 use Rattle.cell_answers.proofs.FirstEnds.{AreLaid, AreSound, total_low}
 use Rattle.cell_answers.proofs.FrontPositions.{weighted_front, weighted_back}
 use Rattle.cell_answers.proofs.LineTotals.{AreTotals, totals_parted, totals_joined, low_front, low_back, fixed_total_unique}
 use Rattle.cell_answers.proofs.Totalling.{values_cover}
-use Rattle.split_lines.specs.Ends.{IsFrontTold}
-
--- where the tokens have no end there is no total
-pub total_without : (p : PosedProblem) (front others : List Arg) (factors more : List ℤ) (from to : ℕ) → length factors ≡ length front → IsFrontTold p front from to None → IsGreatestOf (HasTotal p (HasBestScore p) (front ++ others) (factors ++ more) from to) None
-total_without p front others factors more from to each told total has =
-    let it = totals_parted p (HasBestScore p) front others factors more from to each total has in
-    let covers = values_cover p (HasBestScore p) front from it.middle it.front_has.0 it.front_has.1 in
-    let forward = cover_forward p others it.middle to (values_cover p (HasBestScore p) others it.middle to it.back_has.0 it.back_has.1) in
-    let e = (told it.middle).1 (forward, covers) in
-    absurd cc
 
 module _ (p : PosedProblem) (table : Table ℤ) (front others : List Arg) (factors more : List ℤ) (from end to : ℕ) (fixed : AllByRecursion IsFixed front) (each : length factors ≡ length front)
     (laid : AreLaid p table (front ++ others) (factors ++ more) from to) (within : end ≤ to) (covers : Cover p front from end) (only : (other : ℕ) → Cover p front from other → other ≡ end) where

@@ -1,13 +1,11 @@
 -- Splits of a cell by an alternative, as arguments laid by ends: the first ends with the greatest total are the cuts of
 -- the cell's answer.
-use Rattle.std.proofs.Common.{◌≡◌, ℕ, ◌+◌, ◌-◌, ◌<◌, ◌≤◌, ◌⊎◌, ℤ, ◌+ℤ◌, ◌*ℤ◌, ◌≤ℤ◌, ◌<ℤ◌, Some, List, [], ◌∷◌, ◌++◌, length, drop, map, refl, sym, ap, subst, ◌∙◌, inl, inr, arith}
+use Rattle.std.proofs.Common.{◌≡◌, ℕ, ◌+◌, ◌-◌, ◌<◌, ◌≤◌, ◌⊎◌, ℤ, ◌+ℤ◌, ◌*ℤ◌, ◌≤ℤ◌, ◌<ℤ◌, Some, List, [], ◌∷◌, ◌++◌, length, drop, refl, sym, ap, subst, ◌∙◌, inl, inr, arith}
 use Rattle.std.specs.List.{AllByRecursion}
 use Rattle.std.proofs.lemmas.Int.{ints}
-use Rattle.std.proofs.lemmas.List.{length-map}
 use Rattle.adp_model.specs.declared.grammar.Arg.{Arg}
 use Rattle.adp_model.specs.declared.grammar.Goal.{Goal}
 use Rattle.adp_model.specs.declared.grammar.Goal.TheVariants.{Least, Greatest}
-use Rattle.adp_model.specs.declared.grammar.Linear.{Linear}
 use Rattle.adp_model.specs.declared.cell.Answer.TheVariants.{Best}
 use Rattle.adp_model.specs.declared.cell.Cell.{Cell}
 use Rattle.adp_model.specs.declared.cell.Choice.{Choice}
@@ -16,7 +14,7 @@ use Rattle.adp_model.specs.Parts.{algebra_of, alternatives_of, arguments_of, ter
 use Rattle.adp_model.specs.Preference.{LexicographicallyLess}
 use Rattle.adp_model.specs.Scores.{IsBetter}
 use Rattle.adp_model.specs.Terms.{weighted_sum, term_value}
-use Rattle.adp_model.specs.Splits.{FitsSpan, place}
+use Rattle.adp_model.specs.Splits.{FitsSpan, IsViable, place, placed}
 use Rattle.adp_model.specs.FirstSplit.{AreArgumentValues, IsScoredSplit, SplitPrecedes}
 use Rattle.adp_model.specs.Answers.{IsAnswer}
 use Rattle.adp_model.specs.Bellman.{HasBestScore, Bellman}
@@ -24,10 +22,12 @@ use Rattle.score_numbers.specs.Greatest.{IsGreatestOf}
 use Rattle.score_numbers.specs.Turned.{turned}
 use Rattle.cell_answers.specs.LaidBy.{HasTotalBy, AreFirstEnds}
 use Rattle.cell_answers.specs.CellBest.{IsCellBest}
-use Rattle.cell_answers.specs.Totals.{HasTotal, HasTurnedScore}
+use Rattle.split_lines.specs.Kept.{IsScoredBy}
+use Rattle.cell_answers.specs.Totals.{HasTotal, HasTurnedScore, HaveValues}
 use Rattle.cell_answers.proofs.LaidEnds.{weighted_none}
-use Rattle.cell_answers.proofs.Scoring.{turned_twice, turned_sum, turned_weighted, scored_in, turned_in}
-use Rattle.cell_answers.proofs.Splitting.{length_ends}
+use Rattle.cell_answers.proofs.Scoring.{turned_twice, scored_in, turned_in}
+use Rattle.cell_answers.proofs.Splitting.{length_ends, values_of_split}
+use Rattle.cell_answers.proofs.Totalling.{values_length}
 
 lex_more : (xs ys zs ws : List ℕ) → LexicographicallyLess xs ys → LexicographicallyLess (xs ++ zs) (ys ++ ws)
 lex_more [] ys zs ws less = absurd less
@@ -103,16 +103,10 @@ module _ (p : PosedProblem) (bellman : Bellman p) (cell : Cell) (span : IsSpan p
     (some : (alternative : ℕ) → alternative < length (alternatives_of p.grammar cell.rule) → 1 ≤ length (arguments_of p.grammar cell.rule alternative))
     (few : (alternative : ℕ) → length (arguments_of p.grammar cell.rule alternative) ≤ 4)
     (alternative : ℕ) (in_range : alternative < length (alternatives_of p.grammar cell.rule))
-    (each : length (term_of p cell.rule alternative).factors ≡ length (arguments_of p.grammar cell.rule alternative))
+    (constant : ℤ) (factors : List ℤ) (is_scored : IsScoredBy p cell.rule alternative constant factors)
     (best : ℤ) (given : IsCellBest p cell best alternative) where
   abbrev goal : Goal
   goal = (algebra_of p).goal
-
-  abbrev factors : List ℤ
-  factors = map (turned goal) (term_of p cell.rule alternative).factors
-
-  abbrev constant : ℤ
-  constant = turned goal (term_of p cell.rule alternative).constant
 
   abbrev Scored : ℤ → List ℕ → Type 0
   Scored score cuts = IsScoredSplit p (HasBestScore p) cell score (record { alt = alternative; cuts = cuts })
@@ -125,10 +119,12 @@ module _ (p : PosedProblem) (bellman : Bellman p) (cell : Cell) (span : IsSpan p
       let it = bellman.only cell (Best best (record { alt = alternative; cuts = given.0 })) span given.1 in
       (it.1, λ score other scored precedes. it.2 score other tt scored precedes)
 
-  turned_value : (values : List ℤ) → turned goal (term_value (term_of p cell.rule alternative) values) ≡ (constant +ℤ weighted_sum factors values)
-  turned_value values =
-      let term : Linear = term_of p cell.rule alternative in
-      turned_sum goal term.constant (weighted_sum term.factors values) ∙ ap (λ it. constant +ℤ it) (turned_weighted goal term.factors values)
+  turned_value : (values : List ℤ) → HaveValues p (HasBestScore p) (arguments_of p.grammar cell.rule alternative) cell.from cell.to values → turned goal (term_value (term_of p cell.rule alternative) values) ≡ (constant +ℤ weighted_sum factors values)
+  turned_value values have = is_scored.value values (values_length p (HasBestScore p) (arguments_of p.grammar cell.rule alternative) cell.from cell.to values have)
+
+  -- the same of the values of a split
+  split_value : (cuts : List ℕ) (values : List ℤ) → IsViable p cell alternative cuts → AreArgumentValues p (HasBestScore p) (placed p cell alternative cuts) values → turned goal (term_value (term_of p cell.rule alternative) values) ≡ (constant +ℤ weighted_sum factors values)
+  split_value cuts values viable are = turned_value values (values_of_split p (HasBestScore p) cell alternative cuts values (some alternative in_range) (few alternative) viable are)
 
   -- ends with a total are the cuts of a split
   scored_by : (total : ℤ) (cuts : List ℕ) → length cuts ≡ 3 → Laid total (cuts ++ cell.to ∷ []) → Scored (turned goal (constant +ℤ total)) cuts
@@ -140,20 +136,17 @@ module _ (p : PosedProblem) (bellman : Bellman p) (cell : Cell) (span : IsSpan p
           let it = placed_by p argument arguments factors cell.from cell.to total (cuts ++ cell.to ∷ []) laid in
           let fewer : length arguments ≡ length (arguments_of p.grammar cell.rule alternative) - 1 = omega (arith, ap length e) in
           let ends = cuts ++ cell.to ∷ [] in
+          let viable : IsViable p cell alternative cuts = record {
+            in_range = in_range;
+            allowed = tt;
+            three = three;
+            last = subst (λ n. AllByRecursion (λ boundary. boundary ≡ cell.to) (drop n ends)) fewer it.closed;
+            fits = subst (λ them. AllByRecursion (FitsSpan p) (place them cell.from ends)) (sym e) it.fits;
+          } in
+          let are : AreArgumentValues p (HasBestScore p) (placed p cell alternative cuts) it.values = subst (λ them. AreArgumentValues p (HasBestScore p) (place them cell.from ends) it.values) (sym e) it.are in
           let score : turned goal (constant +ℤ total) ≡ term_value (term_of p cell.rule alternative) it.values =
-          ap (λ (t : ℤ). turned goal (constant +ℤ t)) it.is ∙ ap (turned goal) (sym (turned_value it.values)) ∙ turned_twice goal (term_value (term_of p cell.rule alternative) it.values) in
-          record {
-            viable = record {
-              in_range = in_range;
-              allowed = tt;
-              three = three;
-              last = subst (λ n. AllByRecursion (λ boundary. boundary ≡ cell.to) (drop n ends)) fewer it.closed;
-              fits = subst (λ them. AllByRecursion (FitsSpan p) (place them cell.from ends)) (sym e) it.fits;
-            };
-            values = it.values;
-            are_values = subst (λ them. AreArgumentValues p (HasBestScore p) (place them cell.from ends) it.values) (sym e) it.are;
-            scored = score;
-          }
+          ap (λ (t : ℤ). turned goal (constant +ℤ t)) it.is ∙ ap (turned goal) (sym (split_value cuts it.values viable are)) ∙ turned_twice goal (term_value (term_of p cell.rule alternative) it.values) in
+          record { viable = viable; values = it.values; are_values = are; scored = score }
 
   -- and the cuts of a split with the score are such ends
   by_scored : (total score : ℤ) (cuts : List ℕ) → turned goal score ≡ (constant +ℤ total) → Scored score cuts → Laid total (cuts ++ cell.to ∷ [])
@@ -170,9 +163,9 @@ module _ (p : PosedProblem) (bellman : Bellman p) (cell : Cell) (span : IsSpan p
           let closed = subst (λ n. AllByRecursion (λ boundary. boundary ≡ cell.to) (drop n ends)) fewer scored.viable.last in
           let fits = subst (λ them. AllByRecursion (FitsSpan p) (place them cell.from ends)) e scored.viable.fits in
           let are = subst (λ them. AreArgumentValues p (HasBestScore p) (place them cell.from ends) scored.values) e scored.are_values in
-          let long : length factors ≡ length (argument ∷ arguments) = length-map (term_of p cell.rule alternative).factors (turned goal) ∙ each ∙ ap length e in
+          let long : length factors ≡ length (argument ∷ arguments) = is_scored.each ∙ ap length e in
           let laid = by_placed p argument arguments factors cell.from cell.to ends scored.values long (omega (arith, four, ap length e, scored.viable.three, length_ends p cuts cell.to)) fits closed are in
-          let same : (constant +ℤ weighted_sum factors scored.values) ≡ (constant +ℤ total) = sym (turned_value scored.values) ∙ ap (turned goal) (sym scored.scored) ∙ told in
+          let same : (constant +ℤ weighted_sum factors scored.values) ≡ (constant +ℤ total) = sym (split_value cuts scored.values scored.viable scored.are_values) ∙ ap (turned goal) (sym scored.scored) ∙ told in
           let total_is : weighted_sum factors scored.values ≡ total = omega (arith, ints) in
           subst (λ them. HasTotalBy p (HasBestScore p) them factors cell.from cell.to total ends) (sym e) (subst (λ t. HasTotalBy p (HasBestScore p) (argument ∷ arguments) factors cell.from cell.to t ends) total_is laid)
 
@@ -190,12 +183,12 @@ module _ (p : PosedProblem) (bellman : Bellman p) (cell : Cell) (span : IsSpan p
   pub total_greatest : (total : ℤ) → turned goal best ≡ (constant +ℤ total) → IsGreatestOf (HasTotal p (HasBestScore p) (arguments_of p.grammar cell.rule alternative) factors cell.from cell.to) (Some total)
   total_greatest total told =
       let has = scored_in p bellman cell span some few best (record { alt = alternative; cuts = given.0 }) first_split.0 in
-      let same : (constant +ℤ weighted_sum factors has.0) ≡ (constant +ℤ total) = sym (turned_value has.0) ∙ sym has.2 ∙ told in
+      let same : (constant +ℤ weighted_sum factors has.0) ≡ (constant +ℤ total) = sym (turned_value has.0 has.1) ∙ sym has.2 ∙ told in
       ((has.0, has.1, omega (arith, ints)), λ number it. below number it)
     where
       below : (number : ℤ) → HasTotal p (HasBestScore p) (arguments_of p.grammar cell.rule alternative) factors cell.from cell.to number → number ≤ℤ total
       below number (values, have, is) =
-          let score : HasTurnedScore p cell alternative (constant +ℤ number) = (values, have, ap (λ (t : ℤ). constant +ℤ t) is ∙ sym (turned_value values)) in
+          let score : HasTurnedScore p cell alternative (constant +ℤ number) = (values, have, ap (λ (t : ℤ). constant +ℤ t) is ∙ sym (turned_value values have)) in
           let split = turned_in p bellman cell span some few (constant +ℤ number) alternative in_range score in
           let l = not_greater (constant +ℤ number) (λ better. first_split.1 (turned goal (constant +ℤ number)) (record { alt = alternative; cuts = split.0 }) split.1 (inl better)) in
           omega (arith, ints)

@@ -1,5 +1,5 @@
 -- The totals of a line: through each position of its boundary there is one at most.
-use Rattle.std.proofs.Common.{◌≡◌, ℕ, ◌+◌, ◌≤◌, ℤ, pos, ◌+ℤ◌, ◌*ℤ◌, nat_abs, Some, List, [], ◌∷◌, ◌++◌, length, map, refl, sym, ap, subst, ◌∙◌, inl, inr, arith}
+use Rattle.std.proofs.Common.{◌≡◌, ℕ, ◌+◌, ◌≤◌, ℤ, pos, ◌+ℤ◌, ◌*ℤ◌, nat_abs, Some, List, [], ◌∷◌, ◌++◌, length, map, refl, sym, ap, subst, ◌∙◌, arith}
 use Rattle.std.specs.List.{AllByRecursion, Contains}
 use Rattle.std.proofs.lemmas.Int.{ints, unsigned_abs-mul}
 use Rattle.adp_model.specs.declared.grammar.Arg.{Arg}
@@ -12,7 +12,7 @@ use Rattle.adp_model.specs.ProblemFields.{greatest_score}
 use Rattle.adp_model.specs.Splits.{FitsSpan}
 use Rattle.adp_model.specs.FirstSplit.{IsValue}
 use Rattle.viable_splits.specs.Placing.{on_span, Cover}
-use Rattle.split_lines.specs.Laid.{IsFixed, Demands, LineParts, AreBoundaries}
+use Rattle.split_lines.specs.Laid.{IsFixed, LineParts, AreBoundaries}
 use Rattle.cell_answers.specs.Through.{HasTotalThrough}
 use Rattle.cell_answers.specs.Totals.{HaveValues, HasTotal, IsWithinBound, AreLow}
 use Rattle.score_numbers.specs.Greatest.{IsGreatestOf}
@@ -91,16 +91,6 @@ module _ (p : PosedProblem) (HasScore : Cell → ℤ → Type 0) (front back : L
   totals_joined middle a b (values, have, is) (more, have', is') =
       let long : length factors ≡ length values = each ∙ sym (values_length p HasScore front from middle values have) in
       (values ++ more, values_joined p HasScore front back from middle to values more have have', (λ i. is i +ℤ is' i) ∙ sym (sum_joined factors others values more long))
-
--- what is demanded before, and what is demanded behind
-pub demands_front : (p : PosedProblem) (front back : List Arg) (from middle to : ℕ) (cell : Cell) → Demands p front from middle cell → Cover p back middle to → Demands p (front ++ back) from to cell
-demands_front p [] back from middle to cell demands cover = absurd demands
-demands_front p (argument ∷ front) back from middle to cell (end, fits, inl (is, covers)) cover = (end, fits, inl (is, covers_joined front end covers))
-  where
-    covers_joined : (front : List Arg) (from : ℕ) → Cover p front from middle → Cover p (front ++ back) from to
-    covers_joined [] from covers = subst (λ n. Cover p back n to) (sym covers) cover
-    covers_joined (argument ∷ front) from covers = (covers.0, covers.1, covers_joined front covers.0 covers.2)
-demands_front p (argument ∷ front) back from middle to cell (end, fits, inr later) cover = (end, fits, inr (demands_front p front back end middle to cell later cover))
 
 -- what covers has some values within bounds
 pub some_values : (p : PosedProblem) (arguments : List Arg) (from to : ℕ) → Cover p arguments from to → (values : List ℤ) × HaveValues p (IsWithinBound p) arguments from to values

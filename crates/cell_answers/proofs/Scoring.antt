@@ -1,27 +1,28 @@
 -- The best score of a cell is the greatest of its splits' scores, turned.
-use Rattle.std.proofs.Common.{◌≡◌, ℕ, zero, suc, negsuc, ◌*◌, ◌<◌, ◌≤◌, ◌⊎◌, ℤ, pos, neg_ℤ, ◌+ℤ◌, ◌*ℤ◌, ◌≤ℤ◌, ◌<ℤ◌, nat_abs, Option, Some, None, List, [], ◌∷◌, length, map, refl, sym, ap, subst, ◌∙◌, inl, inr, arith}
+use Rattle.std.proofs.Common.{◌≡◌, ℕ, zero, suc, negsuc, ◌*◌, ◌<◌, ◌≤◌, ◌⊎◌, ℤ, pos, neg_ℤ, ◌+ℤ◌, ◌*ℤ◌, ◌≤ℤ◌, ◌<ℤ◌, nat_abs, Option, Some, None, List, length, refl, sym, ap, subst, ◌∙◌, inl, inr, arith}
 use Rattle.std.specs.Prelude.{MatchOption}
 use Rattle.std.proofs.lemmas.Int.{ints}
 use Rattle.std.proofs.Math.IntN.{neg_ℤ-neg_ℤ, zero-*ℤ}
 use Rattle.adp_model.specs.declared.grammar.Goal.{Goal}
 use Rattle.adp_model.specs.declared.grammar.Goal.TheVariants.{Least, Greatest}
-use Rattle.adp_model.specs.declared.grammar.Linear.{Linear}
 use Rattle.adp_model.specs.declared.cell.Answer.{Answer}
 use Rattle.adp_model.specs.declared.cell.Answer.TheVariants.{Best}
 use Rattle.adp_model.specs.declared.cell.Cell.{Cell}
 use Rattle.adp_model.specs.declared.cell.Choice.{Choice}
 use Rattle.adp_model.specs.PosedProblem.{PosedProblem, IsSpan}
 use Rattle.adp_model.specs.Parts.{algebra_of, alternatives_of, arguments_of, term_of}
-use Rattle.adp_model.specs.Terms.{weighted_sum, weighted_total, term_value}
+use Rattle.adp_model.specs.Terms.{weighted_sum, term_value}
 use Rattle.adp_model.specs.Scores.{IsBetter}
 use Rattle.adp_model.specs.Answers.{IsAnswer}
 use Rattle.adp_model.specs.Bellman.{HasBestScore, Bellman}
 use Rattle.adp_model.specs.FirstSplit.{IsScoredSplit}
-use Rattle.cell_answers.specs.Totals.{HasTotal, AreLow, HasTurnedScore}
+use Rattle.cell_answers.specs.Totals.{HasTotal, HasTurnedScore, HaveValues}
 use Rattle.score_numbers.specs.Greatest.{IsGreatestOf}
 use Rattle.score_numbers.specs.Turned.{turned}
 use Rattle.cell_answers.proofs.Greatest.{greatest_same, greatest_moved, HasBefore}
+use Rattle.split_lines.specs.Kept.{IsScoredBy}
 use Rattle.cell_answers.proofs.Splitting.{split_of_values, values_of_split}
+use Rattle.cell_answers.proofs.Totalling.{values_length}
 
 -- ---- numbers, turned
 
@@ -32,10 +33,6 @@ turned_twice Greatest number = refl
 pub turned_low : (goal : Goal) (number : ℤ) → nat_abs (turned goal number) ≡ nat_abs number
 turned_low Least number = omega (arith, ints)
 turned_low Greatest number = refl
-
-pub turned_sum : (goal : Goal) (a b : ℤ) → turned goal (a +ℤ b) ≡ (turned goal a +ℤ turned goal b)
-turned_sum Least a b = omega (arith, ints)
-turned_sum Greatest a b = refl
 
 product_negated : (a b : ℤ) → neg_ℤ (a *ℤ b) ≡ (neg_ℤ a *ℤ b)
 product_negated (pos zero) b = ap neg_ℤ (zero-*ℤ b) ∙ sym (zero-*ℤ b)
@@ -48,41 +45,22 @@ pub turned_product : (goal : Goal) (a b : ℤ) → turned goal (a *ℤ b) ≡ (t
 turned_product Least a b = product_negated a b
 turned_product Greatest a b = refl
 
-turned_zero : (goal : Goal) → turned goal (pos 0) ≡ pos 0
-turned_zero Least = refl
-turned_zero Greatest = refl
-
-pub turned_weighted : (goal : Goal) (factors values : List ℤ) → turned goal (weighted_sum factors values) ≡ weighted_sum (map (turned goal) factors) values
-turned_weighted goal [] values = turned_zero goal
-turned_weighted goal (factor ∷ factors) [] = turned_zero goal
-turned_weighted goal (factor ∷ factors) (value ∷ values) =
-    turned_sum goal (factor *ℤ value) (weighted_sum factors values) ∙ (λ i. turned_product goal factor value i +ℤ turned_weighted goal factors values i)
-
-pub turned_total : (goal : Goal) (factors : List ℤ) (numbers : List ℕ) → weighted_total (map (turned goal) factors) numbers ≡ weighted_total factors numbers
-turned_total goal [] numbers = refl
-turned_total goal (factor ∷ factors) [] = refl
-turned_total goal (factor ∷ factors) (number ∷ numbers) = rw (turned_low goal factor, turned_total goal factors numbers)
-
-pub turned_are_low : (p : PosedProblem) (goal : Goal) (term : Linear) (cell : Cell) (alternative : ℕ) → AreLow p (arguments_of p.grammar cell.rule alternative) term.factors cell.from cell.to → AreLow p (arguments_of p.grammar cell.rule alternative) (map (turned goal) term.factors) cell.from cell.to
-turned_are_low p goal term cell alternative low values have = rw (turned_total goal term.factors (map nat_abs values)) (low values have)
-
--- the constant with the greatest total of the turned factors
-pub turned_greatest : (p : PosedProblem) (cell : Cell) (alternative : ℕ) (greatest : Option ℤ)
-    → IsGreatestOf (HasTotal p (HasBestScore p) (arguments_of p.grammar cell.rule alternative) (map (turned (algebra_of p).goal) (term_of p cell.rule alternative).factors) cell.from cell.to) greatest
-    → (all : Option ℤ) → MatchOption greatest (all ≡ None) (λ total. all ≡ Some (turned (algebra_of p).goal (term_of p cell.rule alternative).constant +ℤ total)) → IsGreatestOf (HasTurnedScore p cell alternative) all
-turned_greatest p cell alternative None none all is =
-    subst (IsGreatestOf (HasTurnedScore p cell alternative)) (sym is) (λ number has. none (weighted_sum (map (turned (algebra_of p).goal) (term_of p cell.rule alternative).factors) has.0) (has.0, has.1, refl))
-turned_greatest p cell alternative (Some greatest) it all is =
-    let goal = (algebra_of p).goal in
-    let term : Linear = term_of p cell.rule alternative in
-    let Total : ℤ → Type 0 = HasTotal p (HasBestScore p) (arguments_of p.grammar cell.rule alternative) (map (turned goal) term.factors) cell.from cell.to in
-    let value : (values : List ℤ) → turned goal (term_value term values) ≡ (turned goal term.constant +ℤ weighted_sum (map (turned goal) term.factors) values) =
-    λ values. turned_sum goal term.constant (weighted_sum term.factors values) ∙ ap (λ it. turned goal term.constant +ℤ it) (turned_weighted goal term.factors values) in
+-- the constant with the greatest total of the factors
+pub turned_greatest : (p : PosedProblem) (cell : Cell) (alternative : ℕ) (constant : ℤ) (factors : List ℤ) → IsScoredBy p cell.rule alternative constant factors → (greatest : Option ℤ)
+    → IsGreatestOf (HasTotal p (HasBestScore p) (arguments_of p.grammar cell.rule alternative) factors cell.from cell.to) greatest
+    → (all : Option ℤ) → MatchOption greatest (all ≡ None) (λ total. all ≡ Some (constant +ℤ total)) → IsGreatestOf (HasTurnedScore p cell alternative) all
+turned_greatest p cell alternative constant factors scored None none all is =
+    subst (IsGreatestOf (HasTurnedScore p cell alternative)) (sym is) (λ number has. none (weighted_sum factors has.0) (has.0, has.1, refl))
+turned_greatest p cell alternative constant factors scored (Some greatest) it all is =
+    let Total : ℤ → Type 0 = HasTotal p (HasBestScore p) (arguments_of p.grammar cell.rule alternative) factors cell.from cell.to in
+    let value : (values : List ℤ) → HaveValues p (HasBestScore p) (arguments_of p.grammar cell.rule alternative) cell.from cell.to values
+    → turned (algebra_of p).goal (term_value (term_of p cell.rule alternative) values) ≡ (constant +ℤ weighted_sum factors values) =
+    λ values have. scored.value values (values_length p (HasBestScore p) (arguments_of p.grammar cell.rule alternative) cell.from cell.to values have) in
     subst (IsGreatestOf (HasTurnedScore p cell alternative)) (sym is)
-    (greatest_same (λ number. (other : ℤ) × Total other × (number ≡ (turned goal term.constant +ℤ other))) (HasTurnedScore p cell alternative) (Some (turned goal term.constant +ℤ greatest))
-    (λ number h. (h.1.0, h.1.1, h.2 ∙ ap (λ it. turned goal term.constant +ℤ it) h.1.2 ∙ sym (value h.1.0)))
-    (λ number has. (weighted_sum (map (turned goal) term.factors) has.0, (has.0, has.1, refl), has.2 ∙ value has.0))
-    (greatest_moved Total (turned goal term.constant) greatest it))
+    (greatest_same (λ number. (other : ℤ) × Total other × (number ≡ (constant +ℤ other))) (HasTurnedScore p cell alternative) (Some (constant +ℤ greatest))
+    (λ number h. (h.1.0, h.1.1, h.2 ∙ ap (λ it. constant +ℤ it) h.1.2 ∙ sym (value h.1.0 h.1.1)))
+    (λ number has. (weighted_sum factors has.0, (has.0, has.1, refl), has.2 ∙ value has.0 has.1))
+    (greatest_moved Total constant greatest it))
 
 -- ---- the greatest over alternatives
 

@@ -60,6 +60,10 @@ module _ (p : PosedProblem) where
   some_value (Letter class) from to = (token_value p.grammar (Letter class) (letters_between p.word from to), refl)
   some_value (Run class low high) from to = (token_value p.grammar (Run class low high) (letters_between p.word from to), refl)
 
+-- a sum is no greater than both numbers
+pub nat_abs-sum : (a b : ℤ) → nat_abs (a +ℤ b) ≤ nat_abs a + nat_abs b
+nat_abs-sum a b = omega (arith, ints)
+
 -- a sum is no greater than the products that it adds up
 pub sum_low : (factors values : List ℤ) → nat_abs (weighted_sum factors values) ≤ weighted_total factors (map nat_abs values)
 sum_low [] values = omega arith
@@ -69,9 +73,6 @@ sum_low (factor ∷ factors) (value ∷ values) =
     let product = unsigned_abs-mul factor value in
     let sum = nat_abs-sum (factor *ℤ value) (weighted_sum factors values) in
     omega arith
-  where
-    nat_abs-sum : (a b : ℤ) → nat_abs (a +ℤ b) ≤ nat_abs a + nat_abs b
-    nat_abs-sum a b = omega (arith, ints)
 
 module _ (p : PosedProblem) (HasScore : Cell → ℤ → Type 0) (argument : Arg) (arguments : List Arg) (factor : ℤ) (factors : List ℤ) (from to : ℕ) where
   -- ends before this one

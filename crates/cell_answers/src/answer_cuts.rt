@@ -30,15 +30,13 @@ use crate::scores::Scores;
 use adp_model::laws::bellman::bellman;
 use adp_model::laws::bounds::{bounds_are_sound, words_keep_their_score_bound};
 use adp_model::laws::order::answer_is_unique;
-use adp_model::laws::well_formed::{
-    alternatives_fit, arguments_are_few_and_known, terms_fit_their_alternatives,
-};
+use adp_model::laws::well_formed::{alternatives_fit, arguments_are_few_and_known};
 use adp_model::{Answer, Arg, Cell, Choice};
 use score_numbers::{
     Positions, are_worthless, first_long, first_medium, first_short, lesser_positions_stand_before,
-    turned, turned_factors,
+    turned,
 };
-use split_lines::{Line, Lines, line_here};
+use split_lines::{Line, Lines, Way, line_here};
 
 /// The first position of the boundary at which the arguments of a line up to its second one of open length have this
 /// total, position by position.
@@ -306,14 +304,13 @@ pub fn first_cuts(lines: &Lines<'_>, scores: &Scores<'_>, cell: Cell, best: Best
     answer_is_unique();
     arguments_are_few_and_known();
     alternatives_fit();
-    terms_fit_their_alternatives();
-    let goal = problem.goal();
     let arguments = problem.arguments(cell.rule, best.alt);
-    let term = problem.term(cell.rule, best.alt);
-    let factors = turned_factors(goal, term.factors.as_slice());
-    let total = turned(goal, best.score) - turned(goal, term.constant);
-    let line = lines.line(cell.rule, best.alt);
-    let ahead = line.map_or(0, |line| line.first);
+    let alternative = &lines.alternatives(cell.rule)[best.alt as usize];
+    let total = turned(problem.goal(), best.score) - alternative.constant;
+    let (line, ahead) = match lines.way(alternative, cell.rule, best.alt) {
+        Way::Several(Some(line)) => (Some(line), alternative.front.len() as u8 + line.first),
+        Way::Front | Way::Last(_) | Way::Several(None) => (None, 0),
+    };
     let known = Known {
         lines,
         scores,
@@ -323,7 +320,7 @@ pub fn first_cuts(lines: &Lines<'_>, scores: &Scores<'_>, cell: Cell, best: Best
         &known,
         ahead,
         arguments,
-        &factors[..arguments.len()],
+        &alternative.factors[..arguments.len()],
         cell.from,
         cell.to,
         total,

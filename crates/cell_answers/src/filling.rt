@@ -8,10 +8,10 @@ ghost use Rattle.adp_model.specs.Parts.{alternatives_of};
 ghost use Rattle.adp_model.specs.Answers.{IsAnswer};
 ghost use Rattle.adp_model.specs.Bellman.{HasBestScore};
 ghost use Rattle.adp_model.specs.Demand.{IsDemandedChild};
-ghost use Rattle.viable_splits.specs.Placing.{Cover};
-ghost use Rattle.split_lines.specs.Kept.{IsAlternative, factors_behind};
+ghost use Rattle.split_lines.specs.Kept.{IsAlternative};
 ghost use Rattle.split_lines.specs.Laid.{Demands};
 ghost use Rattle.split_lines.specs.Lines.{IsLine};
+ghost use Rattle.split_lines.specs.Ways.{IsOpening};
 ghost use Rattle.cell_answers.specs.CellBest.{IsBestOfFirst, IsCellBest};
 ghost use Rattle.cell_answers.specs.Entries.{HasEntry};
 ghost use Rattle.cell_answers.specs.Totals.{AreLow, AreWeighted, HasTotal, HasTurnedScore};
@@ -23,13 +23,11 @@ use crate::scores::Scores;
 use adp_model::laws::bellman::bellman;
 use adp_model::laws::bounds::{bounds_are_sound, words_keep_their_score_bound};
 use adp_model::laws::order::answer_is_unique;
-use adp_model::laws::well_formed::{
-    alternatives_fit, arguments_are_few_and_known, terms_fit_their_alternatives,
-};
+use adp_model::laws::well_formed::{alternatives_fit, arguments_are_few_and_known};
 use adp_model::{Arg, Cell};
 use score_numbers::{greater, turned};
 use split_lines::{
-    KeptAlternative, Line, Lines, is_fixed, line_begins_here, line_begins_later, line_here,
+    KeptAlternative, Line, Lines, Way, is_fixed, line_begins_here, line_begins_later, line_here,
 };
 
 /// The best score of a cell and the first alternative that gives it.
@@ -133,50 +131,42 @@ pub(crate) fn greatest_total(
     greatest
 }
 
-/// The greatest total of the arguments behind the tokens in front of an alternative, laid from `from` to `to`.
+/// The greatest total of several arguments that are laid from `from` to `to`, along their line if they have one.
 #[inline(always)]
-fn total_behind(
+fn total_of_several(
     lines: &Lines<'_>,
     scores: &Scores<'_>,
-    rule: u32,
-    alternative: &KeptAlternative<'_>,
-    alt: u8,
+    line: Option<Line<'_>>,
+    arguments: &[Arg],
+    factors: &[i64],
     from: u16,
     to: u16,
 ) -> Option<i64>
     requires same_problem { scores.now.problem ≡ lines.now }
-    requires in_range { alt < length (alternatives_of lines.now.grammar rule) }
-    requires alternative { IsAlternative lines.now rule alt alternative.now }
-    requires weighted { AreWeighted lines.now alternative.now.others.now (factors_behind alternative.now) }
+    requires line { IfSome line (λ line. IsLine lines.now (drop line.first arguments.now) line) }
+    requires weighted { AreWeighted lines.now arguments.now factors.now }
     requires span { IsSpan lines.now.word from to }
-    requires scored { (cell : Cell) → Demands lines.now alternative.now.others.now from to cell
-        → HasEntry scores.now cell }
-    requires low { AreLow lines.now alternative.now.others.now (factors_behind alternative.now) from to }
-    ensures { IsGreatestOf (HasTotal lines.now (HasBestScore lines.now)
-        alternative.now.others.now (factors_behind alternative.now) from to) result }
+    requires scored { (cell : Cell) → Demands lines.now arguments.now from to cell → HasEntry scores.now cell }
+    requires low { AreLow lines.now arguments.now factors.now from to }
+    ensures { IsGreatestOf (HasTotal lines.now (HasBestScore lines.now) arguments.now factors.now from to) result }
 {
-    let (others, factors) = (alternative.others, alternative.other_factors());
-    if others.len() == 1 {
-        return last_total(lines, scores, &others[0], factors[0], from, to);
-    }
-    let line = lines.line_behind(alternative, rule, alt);
     let ahead = line.map_or(0, |line| line.first);
     let known = Known {
         lines,
         scores,
         line,
     };
-    greatest_total(&known, ahead, others, factors, from, to)
+    greatest_total(&known, ahead, arguments, factors, from, to)
 }
 
 /// The best score that an alternative gives a cell whose first letters its tokens in front have up to `from`, turned;
-/// `None` where it gives none.
+/// `None` where it gives none. All ways are scored by the total of the arguments, to which the constant is added.
 #[inline(never)]
-fn score_behind(
-    lines: &Lines<'_>,
+fn score_behind<'s>(
+    lines: &'s Lines<'_>,
     scores: &Scores<'_>,
     cell: Cell,
-    alternative: &KeptAlternative<'_>,
+    alternative: &KeptAlternative<'s>,
     alt: u8,
     from: u16,
 ) -> Option<i64>
@@ -186,17 +176,23 @@ fn score_behind(
     requires in_range { alt < length (alternatives_of lines.now.grammar cell.rule) }
     requires alternative { IsAlternative lines.now cell.rule alt alternative.now }
     requires scored { (child : Cell) → IsDemandedChild lines.now cell child → HasEntry scores.now child }
-    requires within { from ≤ cell.to }
-    requires covers { Cover lines.now alternative.now.front.now cell.from from }
+    requires opening { IsOpening lines.now alternative.now cell from }
     ensures { IsGreatestOf (HasTurnedScore lines.now cell alt) result }
 {
     lines.problem().admissible();
     bounds_are_sound();
     words_keep_their_score_bound();
     answer_is_unique();
-    terms_fit_their_alternatives();
     arguments_are_few_and_known();
-    let Some(rest) = total_behind(lines, scores, cell.rule, alternative, alt, from, cell.to) else {
+    let (others, factors) = (alternative.others, alternative.other_factors());
+    let rest = match lines.way(alternative, cell.rule, alt) {
+        Way::Front => Some(0),
+        Way::Last(argument) => last_total(lines, scores, argument, factors[0], from, cell.to),
+        Way::Several(line) => {
+            total_of_several(lines, scores, line, others, factors, from, cell.to)
+        }
+    };
+    let Some(rest) = rest else {
         return None;
     };
     let front = between_total(
@@ -227,10 +223,9 @@ fn alternative_score(
     requires scored { (child : Cell) → IsDemandedChild lines.now cell child → HasEntry scores.now child }
     ensures { IsGreatestOf (HasTurnedScore lines.now cell alt) result }
 {
-    if alternative.has_other_length(cell.from, cell.to) {
-        return None;
-    }
-    match lines.front_end(alternative, cell.from, cell.to) {
+    lines.problem().admissible();
+    alternatives_fit();
+    match lines.opening(alternative, cell) {
         Some(end) => score_behind(lines, scores, cell, alternative, alt, end),
         None => None,
     }

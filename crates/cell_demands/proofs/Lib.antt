@@ -2,7 +2,6 @@ pub mod BitPositions
 pub mod Dividing
 pub mod Fronts
 pub mod LineDemands
-pub mod Lists
 pub mod MarkSteps
 pub mod OneEnds
 pub mod RisingPositions

@@ -61,7 +61,7 @@ module _ (p : PosedProblem) where
   cuts_of_cover argument (next ∷ arguments) from to (suc room) few cover =
       lay argument next arguments from cover.0 to room (λ _. Unit {0}) (λ _. Unit {0}) cover.1 (λ others h. tt) (cuts_of_cover next arguments cover.0 to room (omega arith) cover.2)
 
-  abbrev Stands : Cell → List Placed → Type 0
+  abbrev pub Stands : Cell → List Placed → Type 0
   Stands cell placed = Contains placed (on_span (Rule cell.rule) cell.from cell.to)
 
   stands_first : (argument : Arg) (from end : ℕ) (cell : Cell) (others : List Placed) → IsCellOf argument from end cell → Stands cell (on_span argument from end ∷ others)
@@ -88,16 +88,22 @@ module _ (p : PosedProblem) where
   split_of_cuts cell alternative Holds in_range has =
       (has.cuts, record { in_range = in_range; allowed = tt; three = has.counted; last = has.closed; fits = has.fits }, has.holds)
 
-  -- the cells that an alternative's arguments demand on the cell's span are its demanded children
-  pub child_of_demands : (cell : Cell) (alternative : ℕ) (child : Cell) → alternative < length (alternatives_of p.grammar cell.rule) → length (arguments_of p.grammar cell.rule alternative) ≤ 4
-      → Demands p (arguments_of p.grammar cell.rule alternative) cell.from cell.to child → IsDemandedChild p cell child
-  child_of_demands cell alternative child in_range few demands =
-      let it = split_of_cuts cell alternative (Stands child) in_range (by (arguments_of p.grammar cell.rule alternative) few demands) in
-      (alternative, it.0, it.1, it.2)
+  -- where an alternative's arguments demand a cell on the cell's span, a viable split has it
+  pub split_of_demands : (cell : Cell) (alternative : ℕ) (child : Cell) → alternative < length (alternatives_of p.grammar cell.rule) → length (arguments_of p.grammar cell.rule alternative) ≤ 4
+      → Demands p (arguments_of p.grammar cell.rule alternative) cell.from cell.to child → (cuts : List ℕ) × IsViable p cell alternative cuts × Stands child (placed p cell alternative cuts)
+  split_of_demands cell alternative child in_range few demands =
+      split_of_cuts cell alternative (Stands child) in_range (by (arguments_of p.grammar cell.rule alternative) few demands)
     where
       by : (arguments : List Arg) → length arguments ≤ 4 → Demands p arguments cell.from cell.to child → HasCuts p arguments cell.from cell.to 3 (Stands child)
       by [] few demands = absurd demands
       by (argument ∷ arguments) few demands = cuts_of_demand argument arguments cell.from cell.to 3 child (omega arith) demands
+
+  -- so it is a demanded child
+  pub child_of_demands : (cell : Cell) (alternative : ℕ) (child : Cell) → alternative < length (alternatives_of p.grammar cell.rule) → length (arguments_of p.grammar cell.rule alternative) ≤ 4
+      → Demands p (arguments_of p.grammar cell.rule alternative) cell.from cell.to child → IsDemandedChild p cell child
+  child_of_demands cell alternative child in_range few demands =
+      let it = split_of_demands cell alternative child in_range few demands in
+      (alternative, it.0, it.1, it.2)
 
   -- ---- and back
 

@@ -20,7 +20,7 @@ use adp_model::laws::well_formed::{alternatives_fit, arguments_are_few_and_known
 use adp_model::{Arg, Cell};
 use cell_tables::Marks;
 use split_lines::{
-    Boundary, KeptAlternative, Line, Lines, is_fixed, line_begins_here, line_begins_later,
+    Boundary, KeptAlternative, Line, Lines, Way, is_fixed, line_begins_here, line_begins_later,
     line_here,
 };
 
@@ -234,23 +234,25 @@ fn mark_others(
         → IsCounted lines.now.grammar (length lines.now.word) child }
     ensures { AreMarkedFrom cell.from marks.old marks.new (Demands lines.now alternative.now.others.now from cell.to) }
 {
-    let others = alternative.others;
-    if others.len() == 1 {
-        mark_last(lines, &others[0], cell.from, from, cell.to, marks);
-        return;
+    match lines.way(alternative, cell.rule, alt) {
+        Way::Front => {}
+        Way::Last(argument) => {
+            mark_last(lines, argument, cell.from, from, cell.to, marks);
+        }
+        Way::Several(line) => {
+            let ahead = line.map_or(0, |line| line.first);
+            mark_arguments(
+                lines,
+                line.as_ref(),
+                ahead,
+                alternative.others,
+                cell.from,
+                from,
+                cell.to,
+                marks,
+            );
+        }
     }
-    let line = lines.line_behind(alternative, cell.rule, alt);
-    let ahead = line.map_or(0, |line| line.first);
-    mark_arguments(
-        lines,
-        line.as_ref(),
-        ahead,
-        others,
-        cell.from,
-        from,
-        cell.to,
-        marks,
-    );
 }
 
 /// Marks what an alternative demands on a cell; those that begin where the cell begins are marked in their rows.
@@ -272,10 +274,7 @@ fn mark_alternative(
     ensures { AreMarkedFrom cell.from marks.old marks.new
         (Demands lines.now (arguments_of lines.now.grammar cell.rule alt) cell.from cell.to) }
 {
-    if alternative.others.is_empty() {
-        return;
-    }
-    if let Some(end) = lines.front_end(alternative, cell.from, cell.to) {
+    if let Some(end) = lines.opening(alternative, cell) {
         mark_others(lines, cell, alternative, alt, end, marks);
     }
 }

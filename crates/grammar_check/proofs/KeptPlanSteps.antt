@@ -165,13 +165,6 @@ known_token tokens part len found =
     let above = of_above (token_number len) tokens found.0 part found.1 in
     nothing_more (greatest_of (token_number len) tokens) (token_number len part) (subst (λ p. token_number len p ≤ greatest_of (token_number len) tokens) found.2 above)
 
-pub none_kept : KeepsPlan [] [] []
-none_kept = record {
-  values = λ bound len short. refl;
-  parts = λ place inside. absurd (omega arith);
-  tokens_are = λ len. refl;
-}
-
 -- the plan with one entry more
 pub keeps_more : (entries : List (ℕ × List Part)) (before after : List (ℕ × ℕ × List Part)) (tokens tokens' parts : List Part) (constant : ℕ) → KeepsPlan entries before tokens → AddsKept before after (told (constant + fixed_worth parts), min (fixed_length parts) (2 ^ 64 - 1), open_parts parts) → ((len : ℕ) → greatest_of (token_number len) tokens' ≡ max (greatest_of (token_number len) tokens) (greatest_of (token_number len) parts)) → KeepsPlan (entries ++ (constant, parts) ∷ []) after tokens'
 keeps_more entries before after tokens tokens' parts constant keeps adds counts = record {

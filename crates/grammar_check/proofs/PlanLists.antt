@@ -1,6 +1,6 @@
 -- The plan of a grammar, one item at a time.
-use Rattle.std.proofs.Common.{◌≡◌, ℕ, ◌+◌, ◌<◌, List, [], ◌∷◌, ◌++◌, length, map, take, slice_index_or, refl, sym, ap, ap₂, subst, ◌∙◌, ◌≤◌, arith}
-use Rattle.std.proofs.lemmas.List.{take_more, map-append, get_or_read, get_or_default}
+use Rattle.std.proofs.Common.{◌≡◌, ℕ, ◌+◌, ◌<◌, List, [], ◌∷◌, length, slice_index_or, refl, sym, ap, subst, ◌∙◌, ◌≤◌, arith}
+use Rattle.std.proofs.lemmas.List.{get_or_read, get_or_default}
 use Rattle.adp_model.specs.declared.grammar.Alt.{Alt}
 use Rattle.adp_model.specs.declared.grammar.Rule as rules
 use Rattle.adp_model.specs.Parts.{arguments_of}
@@ -8,11 +8,6 @@ use Rattle.adp_model.specs.declared.grammar.Arg.{Arg}
 use Rattle.adp_model.specs.declared.grammar.Grammar.{Grammar}
 use Rattle.grammar_check.specs.declared.measure.Measure.{Measure}
 use Rattle.grammar_check.specs.GrammarPlans.{Lengths, parts_in}
-
-pub map_step : {A B C : Type 0} (f : A → C) (g : B → C) (xs : List A) (ys : List B) (i : ℕ) (x : A) (y : B) → i < length ys → y ≡ slice_index_or ys i y → f x ≡ g y → map f xs ≡ map g (take i ys) → map f (xs ++ x ∷ []) ≡ map g (take (i + 1) ys)
-map_step f g xs ys i x y inside y_is same before =
-    map-append f xs (x ∷ []) ∙ ap₂ (λ a b. a ++ b ∷ []) before (same ∙ ap g y_is)
-    ∙ sym (map-append g (take i ys) (slice_index_or ys i y ∷ [])) ∙ ap (map g) (sym (take_more ys i y inside))
 
 pub length-parts : (grammar : Grammar) (measure : Measure) (lengths : Lengths) (sign place : ℕ) (arguments : List Arg) → length (parts_in grammar measure lengths sign place arguments) ≡ length arguments
 length-parts grammar measure lengths sign place [] = refl

@@ -56,22 +56,6 @@ best_done bound parts part place spare rest_room best more first last inside par
     ∙ ap (λ p. told (greatest_from (added_by bound p (drop (place + 1) parts) spare) (spare - rooms (drop (place + 1) parts)) (min spare p.room + 1 - (spare - rooms (drop (place + 1) parts))))) part_is
     ∙ ap told (sym (spread_at bound parts place spare inside))
 
--- the last part takes all spare letters, where it has room for them
-pub last_taken : (bound : ℕ → ℕ → ℕ) (part : Part) (spare : ℕ) → spare ≤ part.room → spread bound (part ∷ []) spare ≡ worth_of bound part.worth (part.low + spare)
-last_taken bound part spare few =
-    let first : spare - 0 ≡ spare = omega arith in
-    let count : min spare part.room + 1 - (spare - 0) ≡ 1 = omega arith in
-    let all : greatest_from (added_by bound part [] spare) (spare - 0) (min spare part.room + 1 - (spare - 0)) ≡ greatest_from (added_by bound part [] spare) spare 1 =
-    ap (λ n. greatest_from (added_by bound part [] spare) (spare - 0) n) count ∙ ap (λ n. greatest_from (added_by bound part [] spare) n 1) first in
-    let place : spare + 0 ≡ spare = omega arith in
-    let one : added_by bound part [] spare (spare + 0) ≡ added_by bound part [] spare spare = ap (added_by bound part [] spare) place in
-    all ∙ omega (arith, one)
-
-pub last_too_many : (bound : ℕ → ℕ → ℕ) (part : Part) (spare : ℕ) → part.room < spare → spread bound (part ∷ []) spare ≡ 0
-last_too_many bound part spare many =
-    let count : min spare part.room + 1 - (spare - 0) ≡ 0 = omega arith in
-    ap (λ n. greatest_from (added_by bound part [] spare) (spare - 0) n) count
-
 -- the part at the last place stands alone
 pub last_alone : (bound : ℕ → ℕ → ℕ) (parts : List Part) (part : Part) (place spare : ℕ) → place + 1 ≡ length parts → part ≡ part_at parts place → spread bound (part ∷ []) spare ≡ spread bound (drop place parts) spare
 last_alone bound parts part place spare ends part_is =

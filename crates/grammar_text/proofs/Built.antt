@@ -1,11 +1,9 @@
 -- Parts that are built of declarations, one after the other.
-use Rattle.std.proofs.Common.{◌≡◌, ℕ, zero, suc, ◌+◌, ◌<◌, ◌≤◌, Bool, true, Option, Some, None, List, [], ◌∷◌, ◌++◌, length, map, take, drop, get_or, refl, sym, ◌∙◌, ap, ap₂, subst, arith}
+use Rattle.std.proofs.Common.{◌≡◌, ℕ, zero, suc, ◌+◌, ◌<◌, ◌≤◌, Bool, true, Option, List, [], ◌∷◌, ◌++◌, length, map, take, drop, get_or, refl, sym, ◌∙◌, ap, ap₂, subst, arith}
 use Rattle.std.specs.List.{list_all, filter_map, cons_option}
-use Rattle.std.specs.Option.{option_or}
 use Rattle.std.proofs.lemmas.Bool.{and_parts, and_from}
-use Rattle.std.proofs.lemmas.List.{take_more, drop_more, map_push}
+use Rattle.std.proofs.lemmas.List.{take_more, map_push}
 use Rattle.std.proofs.lemmas.List.Elements.{filter_map-append}
-use Rattle.job_texts.specs.DeclaredNames.{first_of_list}
 
 pub all_at : {X Y : Type 0} (test : Y → Bool) (seen : X → Y) (xs : List X) (i : ℕ) (x : X) → list_all test (map seen xs) ≡ true → i < length xs → x ≡ get_or xs i x → test (seen x) ≡ true
 all_at test seen [] i x h within e = absurd (omega arith)
@@ -34,28 +32,10 @@ none_left [] (suc i) h = refl
 none_left (x ∷ xs) zero h = absurd (omega arith)
 none_left (x ∷ xs) (suc i) h = none_left xs i (omega arith)
 
-pub none_from_not : {X : Type 0} (found : Option X) → ((x : X) → found ≡ Some x → ⊥) → found ≡ None
-none_from_not None h = refl
-none_from_not (Some x) h = absurd (h x refl)
-
 pub read_again : {X : Type 0} (xs : List X) (i : ℕ) (d : X) → i < length xs → get_or xs i d ≡ get_or xs i (get_or xs i d)
 read_again [] i d h = absurd (omega arith)
 read_again (x ∷ xs) zero d h = refl
 read_again (x ∷ xs) (suc i) d h = read_again xs i d (omega arith)
-
-first_cons : {Z : Type 0} (part : Option Z) (others : List Z) → first_of_list (cons_option part others) ≡ option_or part (first_of_list others)
-first_cons None others = refl
-first_cons (Some z) others = refl
-
--- the first part of those from one on is its own part, or else the first of the others
-pub first_step : {X Y Z : Type 0} (part_of : Y → Option Z) (seen : X → Y) (xs : List X) (i : ℕ) (x : X) (part : Option Z) → i < length xs → x ≡ get_or xs i x → part ≡ part_of (seen x)
-    → first_of_list (filter_map part_of (map seen (drop i xs))) ≡ option_or part (first_of_list (filter_map part_of (map seen (drop (i + 1) xs))))
-first_step part_of seen xs i x part within e part_is =
-    let left : drop i xs ≡ get_or xs i x ∷ drop (i + 1) xs = drop_more xs i x within in
-    let here : part_of (seen (get_or xs i x)) ≡ part = sym (part_is ∙ ap (λ z. part_of (seen z)) e) in
-    ap (λ l. first_of_list (filter_map part_of (map seen l))) left
-    ∙ first_cons (part_of (seen (get_or xs i x))) (filter_map part_of (map seen (drop (i + 1) xs)))
-    ∙ ap (λ o. option_or o (first_of_list (filter_map part_of (map seen (drop (i + 1) xs))))) here
 
 pub all_front : {X : Type 0} (test : X → Bool) (n : ℕ) (xs : List X) → list_all test xs ≡ true → list_all test (take n xs) ≡ true
 all_front test zero xs h = refl

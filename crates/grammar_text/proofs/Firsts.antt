@@ -107,9 +107,6 @@ or_nothing None = refl
 or_nothing (Some n) = refl
 
 module _ {X : Type 0} (test : List ℕ → X → Bool) (old : List ℕ → Option ℕ) (xs : List X) (x : X) (are : (name : List ℕ) → old name ≡ position (test name) xs) where
-  pub firsts_other : ((name : List ℕ) → test name x ≡ false) → (name : List ℕ) → old name ≡ position (test name) (xs ++ x ∷ [])
-  firsts_other fails name = are name ∙ sym (first_of_more (test name) xs x ∙ rw (fails name) (or_nothing (position (test name) xs)))
-
   pub firsts_kept : (key : List ℕ) → ((name : List ℕ) → test name x ≡ pointwise nat_eq name key) → is_some (old key) ≡ true → (name : List ℕ) → old name ≡ position (test name) (xs ++ x ∷ [])
   firsts_kept key is known name = are name ∙ sym (first_of_more (test name) xs x ∙ step (pointwise nat_eq name key) refl)
     where
@@ -188,12 +185,3 @@ gives_by_name (Let sign variables term) key h name = absurd cc
 gives_by_name (Rule n alternatives) key h name = absurd cc
 gives_by_name (Axiom rule) key h name = absurd cc
 gives_by_name Words key h name = absurd cc
-
-pub gives_nothing : (d : Declaration) → None ≡ sign_name_of d → (name : List ℕ) → gives_kinds name d ≡ false
-gives_nothing (Class n items) h name = refl
-gives_nothing (Sign n kinds) h name = absurd cc
-gives_nothing (Algebra n goal) h name = refl
-gives_nothing (Let sign variables term) h name = refl
-gives_nothing (Rule n alternatives) h name = refl
-gives_nothing (Axiom rule) h name = refl
-gives_nothing Words h name = refl

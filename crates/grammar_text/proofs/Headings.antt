@@ -1,5 +1,5 @@
 -- The header of a text, line by line up to the `words` line.
-use Rattle.std.proofs.Common.{◌≡◌, ℕ, zero, suc, ◌+◌, ◌<◌, ◌≤◌, true, false, List, [], ◌∷◌, ◌++◌, length, map, drop, get_or, refl, sym, ◌∙◌, ap, append_assoc, arith}
+use Rattle.std.proofs.Common.{◌≡◌, ℕ, ◌+◌, ◌<◌, true, false, List, [], ◌∷◌, ◌++◌, length, map, drop, get_or, refl, sym, ◌∙◌, ap, append_assoc}
 use Rattle.std.specs.Borrow.{Bor}
 use Rattle.std.proofs.lemmas.List.{drop_more}
 use Rattle.job_texts.specs.JobLines.{up_to_words_line}
@@ -7,12 +7,6 @@ use Rattle.job_texts.specs.Declarations as forms
 use Rattle.grammar_text.specs.Seen.{words_seen}
 use Rattle.grammar_text.specs.Collecting.{is_last}
 use Rattle.grammar_text.proofs.WordsLines.{last_is_words}
-
-pub nothing_behind : {A : Type 0} (xs : List A) (i : ℕ) → length xs ≤ i → drop i xs ≡ []
-nothing_behind [] zero h = refl
-nothing_behind [] (suc i) h = refl
-nothing_behind (x ∷ xs) zero h = absurd (omega arith)
-nothing_behind (x ∷ xs) (suc i) h = nothing_behind xs i (omega arith)
 
 -- the header lines from the i-th on
 abbrev pub heading_from : List (Bor (List ℕ)) → ℕ → List forms.HeaderLine
@@ -31,10 +25,6 @@ heading_goes_on : (lines : List (Bor (List ℕ))) (i : ℕ) (d : Bor (List ℕ))
 heading_goes_on lines i d inside last =
     rw (drop_more lines i d inside)
     (rw (sym (last_is_words (get_or lines i d).now) ∙ last) refl)
-
--- behind the last line no other stands
-heading_is_over : (lines : List (Bor (List ℕ))) (i : ℕ) → length lines ≤ i → heading_from lines i ≡ []
-heading_is_over lines i over = rw (nothing_behind lines i over) refl
 
 -- what is seen, with the `words` line last
 pub seen_ends : (seen all : List forms.HeaderLine) (found : forms.HeaderLine) (lines : List (Bor (List ℕ))) (i : ℕ) (d : Bor (List ℕ)) → i < length lines

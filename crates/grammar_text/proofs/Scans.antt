@@ -48,10 +48,6 @@ pub one_more_passes : {A B : Type 0} (seen : A → B) (p : B → Bool) (xs : Lis
     → list_all p (map seen xs) ≡ list_all p (map seen (drop i xs)) → list_all p (map seen xs) ≡ list_all p (map seen (drop (i + 1) xs))
 one_more_passes seen p xs i item inside is passes so_far = so_far ∙ rw (at_hand xs i item inside is) (rw passes refl)
 
-pub all_pass : {A B : Type 0} (seen : A → B) (p : B → Bool) (xs : List A) (i : ℕ) → length xs ≤ i
-    → list_all p (map seen xs) ≡ list_all p (map seen (drop i xs)) → list_all p (map seen xs) ≡ true
-all_pass seen p xs i over so_far = so_far ∙ rw (nothing_left xs i over) refl
-
 -- ---- what some items give
 
 -- what one of the items gives passes

@@ -60,9 +60,6 @@ place_more xs Words sign = ap (section_has sign) (since_other xs Words refl) ∙
 
 -- ---- the section below an algebra line
 
-pub section_ends : (d : Declaration) (ds : List Declaration) → is_algebra_line d ≡ true → section_of (d ∷ ds) ≡ []
-section_ends d ds h = rw h refl
-
 section_goes_on : (d : Declaration) (ds : List Declaration) → is_algebra_line d ≡ false → section_of (d ∷ ds) ≡ d ∷ section_of ds
 section_goes_on d ds h = let next : 1 + prefix_len (λ x. not (is_algebra_line x)) ds ≡ suc (prefix_len (λ x. not (is_algebra_line x)) ds) = omega arith in rw h (rw next refl)
 

@@ -11,7 +11,7 @@ use Rattle.grammar_text.specs.declared.reader.declaration.Argument.{Argument}
 use Rattle.grammar_text.specs.declared.reader.declaration.Argument.TheVariants as arguments
 use Rattle.grammar_text.specs.declared.reader.declaration.Alternative.{Alternative}
 use Rattle.grammar_text.specs.declared.reader.shape.Next.TheVariants as next
-use Rattle.grammar_text.specs.Seen.{tokens_seen, item_seen, argument_seen, words_seen, behind_class, high_bound, let_tokens_seen, IsFirstItem, IsFirstKind, IsFirstVariable, IsFirstArgument, IsArgumentEnd, IsHighBound, IsFirstSign, IsBehindArgument, AreArguments, with_arguments, alternative_seen}
+use Rattle.grammar_text.specs.Seen.{tokens_seen, item_seen, argument_seen, words_seen, behind_class, let_tokens_seen, IsFirstItem, IsFirstKind, IsFirstVariable, IsFirstArgument, IsArgumentEnd, IsHighBound, IsFirstSign, IsBehindArgument, AreArguments, with_arguments, alternative_seen}
 use Rattle.grammar_text.proofs.Fronts.{with_front, front_last, seen_more, front_more, with_variables, variables_more, arguments_more, alternative_closed}
 
 -- the symbols from a place on, cut off at their end
@@ -112,12 +112,6 @@ pub run_end : (class low : Bor (List ℕ)) (said : List Symbol) (high : Option (
     → IsArgumentEnd (λ tokens. behind_class class.now tokens) said (Some (arguments.RunOf class low high, 2 + used))
 run_end class low said high used front long bound =
     (rw (front, bound.0, drop-drop) refl, place_within said 2 used long bound.1)
-
-pub run_unended : (class : List ℕ) (low : List ℕ) (said : List Symbol)
-    → tokens_seen said ≡ Word low ∷ Dots ∷ tokens_seen (drop 2 said)
-    → high_bound (tokens_seen (drop 2 said)) ≡ None
-    → behind_class class (tokens_seen said) ≡ None
-run_unended class low said front none = rw (front, none) refl
 
 pub brackets_end : (class : Bor (List ℕ)) (said : List Symbol) (argument : Argument) (used : ℕ)
     → tokens_seen said ≡ OpenSquare ∷ Word class.now ∷ tokens_seen (drop 2 said) → 2 ≤ length said

@@ -1,5 +1,5 @@
 -- A header kept as what its lines are and, apart, what those that have form say.
-use Rattle.std.proofs.Common.{◌≡◌, ℕ, zero, suc, ◌+◌, List, [], ◌∷◌, ◌++◌, length, take, drop, refl, ap, arith}
+use Rattle.std.proofs.Common.{◌≡◌, suc, ◌+◌, List, [], ◌∷◌, ◌++◌, length, refl, ap, arith}
 use Rattle.std.specs.List.{filter_map}
 use Rattle.job_texts.specs.Declarations as forms
 use Rattle.job_texts.specs.DeclaredNames.{form_of}
@@ -57,25 +57,3 @@ forms-woven (Skipped ∷ sorts) declared e = forms-woven sorts declared e
 forms-woven (Unprintable ∷ sorts) declared e = forms-woven sorts declared e
 forms-woven (Unclosed ∷ sorts) declared e = forms-woven sorts declared e
 forms-woven (Shapeless ∷ sorts) declared e = forms-woven sorts declared e
-
--- the first lines of a header are woven of the first sorts
-pub take-woven : (k : ℕ) (sorts : List LineSort) (declared : List forms.Declaration) → says_in sorts ≡ length declared → take k (woven sorts declared) ≡ woven (take k sorts) (take (says_in (take k sorts)) declared)
-take-woven zero sorts declared e = refl
-take-woven (suc k) [] declared e = refl
-take-woven (suc k) (Says ∷ sorts) [] e = absurd (omega arith)
-take-woven (suc k) (Says ∷ sorts) (d ∷ declared) e = ap (λ x. forms.Says d ∷ x) (take-woven k sorts declared (omega arith))
-take-woven (suc k) (Skipped ∷ sorts) declared e = ap (λ x. forms.Skipped ∷ x) (take-woven k sorts declared e)
-take-woven (suc k) (Unprintable ∷ sorts) declared e = ap (λ x. forms.Unprintable ∷ x) (take-woven k sorts declared e)
-take-woven (suc k) (Unclosed ∷ sorts) declared e = ap (λ x. forms.Unclosed ∷ x) (take-woven k sorts declared e)
-take-woven (suc k) (Shapeless ∷ sorts) declared e = ap (λ x. forms.Shapeless ∷ x) (take-woven k sorts declared e)
-
--- and so are the others
-pub drop-woven : (k : ℕ) (sorts : List LineSort) (declared : List forms.Declaration) → says_in sorts ≡ length declared → drop k (woven sorts declared) ≡ woven (drop k sorts) (drop (says_in (take k sorts)) declared)
-drop-woven zero sorts declared e = refl
-drop-woven (suc k) [] declared e = refl
-drop-woven (suc k) (Says ∷ sorts) [] e = absurd (omega arith)
-drop-woven (suc k) (Says ∷ sorts) (d ∷ declared) e = drop-woven k sorts declared (omega arith)
-drop-woven (suc k) (Skipped ∷ sorts) declared e = drop-woven k sorts declared e
-drop-woven (suc k) (Unprintable ∷ sorts) declared e = drop-woven k sorts declared e
-drop-woven (suc k) (Unclosed ∷ sorts) declared e = drop-woven k sorts declared e
-drop-woven (suc k) (Shapeless ∷ sorts) declared e = drop-woven k sorts declared e

@@ -1,5 +1,5 @@
 -- What every pass keeps goes on to hold.
-use Rattle.std.proofs.Common.{◌≡◌, ◌≢◌, ℕ, ◌+◌, ◌<◌, ◌≤◌, ◌==◌, if◌then◌else◌, ◌⊎◌, inl, inr, ⊎_elim, List, [], ◌++◌, length, length-append, Option, None, Some, sym, refl, ap, ◌∙◌, subst, arith}
+use Rattle.std.proofs.Common.{◌≡◌, ◌≢◌, ℕ, ◌+◌, ◌<◌, ◌≤◌, ◌==◌, if◌then◌else◌, ◌⊎◌, inl, inr, ⊎_elim, List, ◌++◌, length, length-append, Option, None, Some, sym, refl, ap, ◌∙◌, subst, arith}
 use mathlib.Core.Logic.{dite}
 use native.Mathlib.Decide.{ℕ_discrete}
 use Rattle.atomic_table.specs.Table.{Me}
@@ -8,7 +8,7 @@ use Rattle.memo_words.specs.declared.view.Owned.{Owned}
 use Rattle.memo_words.specs.declared.view.Seen.{Seen}
 use Rattle.memo_words.specs.declared.view.View.{View}
 use Rattle.memo_words.specs.Layout.{Plan, records_of}
-use Rattle.memo_words.specs.Views.{IsSound, hands, owns, dropped, seen_at, seen_too, first_view, split_off, joined, record_loaded, record_exchanged, counter_added, arena_stored, hand_after, hand_of_both}
+use Rattle.memo_words.specs.Views.{IsSound, hands, owns, dropped, seen_at, seen_too, joined, record_loaded, record_exchanged, counter_added, arena_stored, hand_after, hand_of_both}
 use Rattle.memo_words.proofs.Records.{chosen, is_yes, is_no, one_if, none_if, seen-append, owns-append, length-dropped, owns-dropped, owns-dropped_other}
 use Rattle.memo_words.proofs.Stores.{owns-with_stored, length-with_stored}
 
@@ -18,26 +18,6 @@ empty number e = let h = ap hands e in omega arith
 one_hand : (hand : Option ℕ) → hands hand ≤ 1
 one_hand None = omega arith
 one_hand (Some number) = omega arith
-
-pub sound_first : (plan : Plan) → IsSound None (first_view plan, [])
-sound_first plan = (
-  refl,
-  omega arith,
-  (λ number e. absurd (empty number e)),
-  omega arith,
-  (λ p number is own. absurd (omega arith)),
-  (λ p position is. omega arith),
-)
-
-pub sound_off : (hand : Option ℕ) (v : View) → IsSound hand (v, []) → IsSound None (split_off v, [])
-sound_off hand v s = (
-  refl,
-  omega arith,
-  (λ number e. absurd (empty number e)),
-  omega arith,
-  (λ p number is own. absurd (omega arith)),
-  s.5,
-)
 
 pub sound_loaded : (plan : Plan) (hand : Option ℕ) (me : Me ℕ View) (position found : ℕ) → me.0.plan ≡ Some plan
     → found ≤ records_of plan → IsSound hand me → IsSound hand (record_loaded plan position found me.0, me.1)

@@ -1,5 +1,5 @@
 -- The lines of an answer.
-use Rattle.std.proofs.Common.{◌≡◌, ℕ, ℤ, inl, inr, List, [], ◌∷◌, ◌++◌, codes, ap, ap₂, subst, ◌∙◌, append_assoc}
+use Rattle.std.proofs.Common.{◌≡◌, ℕ, ℤ, inl, List, [], ◌∷◌, ◌++◌, codes, ap, ap₂, subst, ◌∙◌, append_assoc}
 use Rattle.std.specs.Fmt.{signed_decimal}
 use Rattle.adp_model.specs.declared.cell.Answer.{Answer}
 use Rattle.adp_model.specs.declared.cell.Answer.TheVariants.{Best}
@@ -10,17 +10,7 @@ use Rattle.adp_model.specs.Scores.{score_of}
 use Rattle.adp_model.specs.Preference.{IsPreferred}
 use Rattle.adp_model.specs.Answers.{IsAnswer}
 use Rattle.adp_model.specs.Report.{line, IsAnswerText}
-use Rattle.traceback.specs.declared.tree_nodes.NodeAt.{NodeAt}
-use Rattle.traceback.specs.Preorder.{IsPreorder}
-use Rattle.report.specs.Pieces.{AreBestNodes, IsBestText}
-
--- where there is a candidate the nodes are those of the preferred tree
-pub best_nodes : (p : PosedProblem) (answer : Answer) (score : ℤ) (choice : Choice) (nodes : List NodeAt) → answer ≡ Best score choice
-    → IsAnswer p (axiom_cell p) answer → IsPreorder p nodes → AreBestNodes p nodes
-best_nodes p answer score choice nodes is answered (inl best) = best
-best_nodes p answer score choice nodes is answered (inr (none, empty)) =
-    let a : IsAnswer p (axiom_cell p) (Best score choice) = subst (λ x. IsAnswer p (axiom_cell p) x) is answered in
-    absurd (none a.0 a.1.derived)
+use Rattle.report.specs.Pieces.{IsBestText}
 
 -- the lines of a candidate, as they are put together
 pub best_lines : (p : PosedProblem) (answer : Answer) (score : ℤ) (choice : Choice) (text : List ℕ) → answer ≡ Best score choice

@@ -1,5 +1,5 @@
 -- The greatest of numbers.
-use Rattle.std.proofs.Common.{◌≡◌, ℕ, ◌+◌, ◌<◌, ◌⊎◌, ℤ, ◌+ℤ◌, ◌≤ℤ◌, Option, Some, None, subst, inl, inr, arith}
+use Rattle.std.proofs.Common.{◌≡◌, ℕ, ◌+◌, ◌<◌, ◌⊎◌, ℤ, ◌≤ℤ◌, Option, Some, None, subst, inl, inr, arith}
 use Rattle.std.proofs.lemmas.Bool.{cases_lt}
 use Rattle.std.proofs.lemmas.Int.{ints}
 use Rattle.score_numbers.specs.Greatest.{IsGreatestOf}
@@ -28,10 +28,6 @@ greatest_either A B (Some a) (Some b) (Some both) is is' it = (
     | inr y ↦ let l = is'.1 number y in let m = it.1 b (inr (λ i. Some b)) in omega (arith, ints)
   ],
 )
-
--- the same number added to each
-pub greatest_moved : (A : ℤ → Type 0) (more greatest : ℤ) → IsGreatestOf A (Some greatest) → IsGreatestOf (λ number. (other : ℤ) × A other × (number ≡ (more +ℤ other))) (Some (more +ℤ greatest))
-greatest_moved A more greatest it = ((greatest, it.0, λ i. more +ℤ greatest), λ number h. let l = it.1 h.0 h.1 in let e = h.2 in omega (arith, ints))
 
 -- it holds at some position before the bound
 abbrev pub HasBefore : (ℕ → ℤ → Type 0) → ℕ → ℤ → Type 0

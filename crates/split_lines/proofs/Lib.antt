@@ -14,5 +14,7 @@ pub mod MatchLists
 pub mod Matched
 pub mod NextMatches
 pub mod OneEnds
+pub mod Openings
 pub mod RisingPositions
 pub mod TokenSpans
+pub mod TurnedTerms

@@ -3,6 +3,7 @@ use Rattle.std.proofs.Common.{◌≡◌, ℕ, zero, suc, ◌+◌, ◌-◌, ◌<�
 use Rattle.std.specs.Prelude.{IfSome}
 use Rattle.std.specs.List.{AllByRecursion}
 use Rattle.std.proofs.lemmas.List.{length-map, take-append-drop}
+use Rattle.std.proofs.Math.Seq.{take-add}
 use Rattle.adp_model.specs.declared.grammar.Arg.{Arg}
 use Rattle.adp_model.specs.declared.grammar.Arg.TheVariants.{Literal}
 use Rattle.adp_model.specs.PosedProblem.{PosedProblem}
@@ -11,10 +12,11 @@ use Rattle.adp_model.specs.WellFormed.{IsKnown}
 use Rattle.viable_splits.specs.Placing.{Cover}
 use Rattle.split_lines.specs.declared.kept.KeptAlternative.{KeptAlternative}
 use Rattle.score_numbers.specs.Worthless.{AreWorthless}
-use Rattle.split_lines.specs.Kept.{AreOneLetter, AreOneOfClass, BeginWith, IsAlternative}
+use Rattle.split_lines.specs.Kept.{AreOneLetter, AreOneOfClass, BeginWith, IsAlternative, factors_behind}
 use Rattle.split_lines.specs.Laid.{IsFixed}
 use Rattle.split_lines.specs.Matching.{HaveLetters}
 use Rattle.score_numbers.specs.Turned.{turned}
+use Rattle.split_lines.proofs.TurnedTerms.{scored_by_turned}
 use Rattle.split_lines.proofs.Lists.{all_front, all_back, slice_get-drop, empty_without}
 
 -- ---- the first letter
@@ -62,19 +64,6 @@ letter_covers p tokens letter from begin alone stands =
 
 -- ---- the parts
 
-take_none : {X : Type 0} (n : ℕ) → take {A = X} n [] ≡ []
-take_none zero = refl
-take_none (suc n) = refl
-
-take_both : {X : Type 0} (a b : ℕ) (xs : List X) → take (a + b) xs ≡ take a xs ++ take b (drop a xs)
-take_both zero b xs = ap (λ n. take n xs) (omega arith)
-take_both {X} (suc a) b [] =
-    let next : suc a + b ≡ suc (a + b) = omega arith in
-    ap (λ n. take {A = X} n []) next ∙ sym (take_none b)
-take_both (suc a) b (x ∷ xs) =
-    let next : suc a + b ≡ suc (a + b) = omega arith in
-    ap (λ n. take n (x ∷ xs)) next ∙ ap (λ them. x ∷ them) (take_both a b xs)
-
 -- the arguments up to this number stand in front
 pub alternative_kept : (p : PosedProblem) (rule alternative : ℕ) (kept : KeptAlternative) (all : List Arg) (n : ℕ)
     → all ≡ arguments_of p.grammar rule alternative → length all ≤ 4 → AllByRecursion (IsKnown p.grammar) all → n ≤ length all → AllByRecursion IsFixed (take n all) → kept.front.now ≡ take n all → kept.others.now ≡ drop n all
@@ -101,8 +90,8 @@ alternative_kept p rule alternative kept all n all_is few known within fixed fro
         class = class;
       };
       others_known = subst K (sym others_is) (all_back (IsKnown p.grammar) (take n all) (drop n all) parted);
-      constant = constant;
-      factors = sym factors ∙ ap (λ m. take m kept.factors) long ∙ take_both (length kept.front.now) (length kept.others.now) kept.factors;
+      scored = scored_by_turned p rule alternative kept.constant (take (length kept.front.now) kept.factors ++ factors_behind kept) constant
+          (sym factors ∙ ap (λ m. take m kept.factors) long ∙ take-add (length kept.front.now) (length kept.others.now) kept.factors) (each ∙ ap length all_is);
       front_each = omega (arith, long, all_there, length-take (length kept.front.now) kept.factors);
       worthless = λ none. subst (λ m. AreWorthless kept.front.now (take m kept.factors)) (sym front_long) (worthless none);
     }

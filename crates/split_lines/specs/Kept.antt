@@ -1,10 +1,11 @@
 -- What is kept of an alternative.
-use Rattle.std.specs.Prelude.{◌≡◌, ℕ, ◌+◌, ◌≤◌, ◌++◌, true, false, IfSome, ℤ, List, [], ◌∷◌, drop, length, map, take}
+use Rattle.std.specs.Prelude.{◌≡◌, ℕ, ◌+◌, ◌≤◌, ◌++◌, true, false, IfSome, ℤ, ◌+ℤ◌, nat_abs, List, [], ◌∷◌, drop, length, take}
 use Rattle.std.specs.List.{AllByRecursion}
 use Rattle.adp_model.specs.declared.grammar.Arg.{Arg}
 use Rattle.adp_model.specs.declared.grammar.Arg.TheVariants.{Literal, Letter}
 use Rattle.adp_model.specs.PosedProblem.{PosedProblem}
 use Rattle.adp_model.specs.Parts.{algebra_of, arguments_of, term_of}
+use Rattle.adp_model.specs.Terms.{magnitude, term_value, weighted_sum, weighted_total}
 use Rattle.adp_model.specs.WellFormed.{IsKnown}
 use Rattle.split_lines.specs.declared.kept.KeptAlternative.{KeptAlternative}
 use Rattle.score_numbers.specs.Worthless.{AreWorthless}
@@ -41,15 +42,23 @@ pub record AreInFront (p : PosedProblem) (kept : KeptAlternative) : Type 0 where
 abbrev pub factors_behind : KeptAlternative → List ℤ
 factors_behind kept = take (length kept.others.now) (drop (length kept.front.now) kept.factors)
 
--- the parts are those of the alternative of this number and of its term, which is turned
+-- the score of a split by the alternative, turned, is the constant and each factor times the value of its argument, added
+-- up, and no part of such a sum is greater in absolute value than the term can become
+pub record IsScoredBy (p : PosedProblem) (rule alternative : ℕ) (constant : ℤ) (factors : List ℤ) : Type 0 where
+  pub each : length factors ≡ length (arguments_of p.grammar rule alternative)
+  pub value : (values : List ℤ) → length values ≡ length (arguments_of p.grammar rule alternative)
+      → turned (algebra_of p).goal (term_value (term_of p rule alternative) values)
+      ≡ (constant +ℤ weighted_sum factors values)
+  pub low : (numbers : List ℕ) → length numbers ≡ length (arguments_of p.grammar rule alternative)
+      → nat_abs constant + weighted_total factors numbers ≤ magnitude (term_of p rule alternative) numbers
+
+-- the parts are those of the alternative of this number, and it is scored by the constant and the factors
 pub record IsAlternative (p : PosedProblem) (rule alternative : ℕ) (kept : KeptAlternative) : Type 0 where
   pub arguments : arguments_of p.grammar rule alternative ≡ kept.front.now ++ kept.others.now
   pub few : length kept.front.now + length kept.others.now ≤ 4
   pub in_front : AreInFront p kept
   pub others_known : AllByRecursion (IsKnown p.grammar) kept.others.now
-  pub constant : kept.constant ≡ turned (algebra_of p).goal (term_of p rule alternative).constant
-  pub factors : map (turned (algebra_of p).goal) (term_of p rule alternative).factors
-      ≡ take (length kept.front.now) kept.factors
-      ++ factors_behind kept
+  pub scored : IsScoredBy p rule alternative kept.constant
+      (take (length kept.front.now) kept.factors ++ factors_behind kept)
   pub front_each : length (take (length kept.front.now) kept.factors) ≡ length kept.front.now
   pub worthless : kept.weighs ≡ false → AreWorthless kept.front.now (take (length kept.front.now) kept.factors)

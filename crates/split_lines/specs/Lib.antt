@@ -9,3 +9,4 @@ pub mod Laid
 pub mod Lines
 pub mod LinesFields
 pub mod Matching
+pub mod Ways

@@ -1,6 +1,6 @@
 //! Alternatives, made ready for the cells of their rules.
 
-ghost use Rattle.std.specs.Prelude.{◌≡◌, ◌↔◌, ℕ, ◌+◌, ◌<◌, ◌≤◌, IfSome, IsTrue, Some, [], ◌∷◌, drop, length, slice_get, take};
+ghost use Rattle.std.specs.Prelude.{◌≡◌, ◌↔◌, ℕ, ◌+◌, ◌<◌, ◌≤◌, IfSome, IsTrue, MatchOption, Some, [], ◌∷◌, drop, length, slice_get, take};
 ghost use Rattle.std.specs.Bool.{OnTrue};
 ghost use Rattle.std.specs.List.{AllByRecursion};
 ghost use Rattle.adp_model.specs.declared.grammar.Arg.TheVariants.{Letter};
@@ -9,13 +9,14 @@ ghost use Rattle.adp_model.specs.Parts.{alternatives_of};
 ghost use Rattle.viable_splits.specs.Placing.{Cover};
 ghost use Rattle.split_lines.specs.Laid.{IsFixed};
 ghost use Rattle.split_lines.specs.Kept.{AreInFront, AreOneLetter, AreOneOfClass, BeginWith, IsAlternative, factors_behind};
+ghost use Rattle.split_lines.specs.Ways.{MaySpan, IsClosed, IsOpening};
 
 use crate::classes::ClassTables;
 use crate::lines::KeptLine;
 use crate::matches::{covers, fixed_letters};
 use crate::tokens::is_fixed;
-use adp_model::laws::well_formed::terms_fit_their_alternatives;
-use adp_model::{Arg, Problem};
+use adp_model::laws::well_formed::{alternatives_fit, terms_fit_their_alternatives};
+use adp_model::{Arg, Cell, Problem};
 use score_numbers::{are_worthless, turned, turned_factors};
 use viable_splits::Matcher;
 
@@ -36,21 +37,22 @@ pub struct KeptAlternative<'a> {
     pub class: Option<u32>,
     /// Whether they may add something to a total.
     pub weighs: bool,
-    /// The constant of the term, turned.
+    /// What is added to the total of the arguments of a split: the score, turned, is their sum.
     pub constant: i64,
-    /// The factor of each argument, turned; behind them stands 0.
+    /// The factor of each argument in the total; behind them stands 0.
     pub factors: [i64; 4],
     /// The line of all the arguments.
     pub line: Option<KeptLine>,
 }
 
 impl KeptAlternative<'_> {
-    /// Whether all arguments have fixed length, and not as many letters as lie between the two positions.
+    /// Whether the alternative may have as many letters as lie between the two positions, as far as lengths alone tell:
+    /// where all its arguments have fixed length, it has theirs and no other number.
     #[inline(always)]
-    pub fn has_other_length(&self, from: u16, to: u16) -> bool
-        ensures { OnTrue result ((length self.now.others.now ≡ 0) × (to ≡ from + self.now.letters → ⊥)) }
+    fn may_span(&self, from: u16, to: u16) -> bool
+        ensures { IsTrue result ↔ MaySpan self.now from to }
     {
-        self.others.is_empty() && from as usize + self.letters as usize != to as usize
+        !self.others.is_empty() || from as usize + self.letters as usize == to as usize
     }
 
     /// The factors of the tokens in front.
@@ -185,7 +187,7 @@ fn letter_end(tables: &ClassTables<'_>, class: u32, from: usize, to: usize) -> O
 /// Where the tokens in front end that begin at `from`, where they match there and end at `to` or before. In most cases
 /// how many letters they have, or the first of these, tells that they don't.
 #[inline(always)]
-pub fn front_end(
+fn front_end(
     tables: &ClassTables<'_>,
     alternative: &KeptAlternative<'_>,
     from: usize,
@@ -216,4 +218,26 @@ pub fn front_end(
     } else {
         None
     }
+}
+
+/// Where the tokens in front of an alternative end on a cell, where they match there and the alternative may have the
+/// letters of the cell: this is the one place that asks whether it may have so many.
+#[inline(always)]
+pub fn opening(
+    tables: &ClassTables<'_>,
+    alternative: &KeptAlternative<'_>,
+    cell: Cell,
+) -> Option<usize>
+    requires front { AreInFront tables.now alternative.now }
+    requires span { IsSpan tables.now.word cell.from cell.to }
+    requires short { cell.to ≤ 4000 }
+    ensures { MatchOption result (IsClosed tables.now alternative.now cell)
+        (IsOpening tables.now alternative.now cell) }
+{
+    tables.problem().admissible();
+    alternatives_fit();
+    if !alternative.may_span(cell.from, cell.to) {
+        return None;
+    }
+    front_end(tables, alternative, cell.from as usize, cell.to as usize)
 }

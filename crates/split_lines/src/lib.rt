@@ -12,9 +12,11 @@ mod matches;
 mod prepared;
 mod spans;
 mod tokens;
+mod ways;
 
 pub use kept::KeptAlternative;
 pub use laws::{line_begins_here, line_begins_later};
 pub use lines::{Boundary, Line, Lines, line_here};
 pub use prepared::Prepared;
 pub use tokens::{fixed_length, is_fixed};
+pub use ways::Way;

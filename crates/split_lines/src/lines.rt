@@ -19,14 +19,16 @@ ghost use Rattle.split_lines.specs.Classes.{AreSums};
 ghost use Rattle.split_lines.specs.Flags.{AreBitsAmong};
 ghost use Rattle.score_numbers.specs.Limits.{AreLimited};
 ghost use Rattle.split_lines.specs.Lines.{IsLine, IsLastOpen, HasLine, LeavesPosition, parts_by};
+ghost use Rattle.split_lines.specs.Ways.{IsClosed, IsOpening, IsWay};
 ghost use Rattle.split_lines.specs.LinesFields.{AreMiddles, HasAllOf, IsNumberOf, IsKeptOrNone, AreKept};
 
 use crate::classes::ClassTables;
 use crate::extents::{Extent, extent_of};
-use crate::kept::{KeptAlternative, front_end, kept_alternative};
+use crate::kept::{KeptAlternative, kept_alternative, opening};
 use crate::matches::{Matches, covers, fixed_letters};
 use crate::spans;
 use crate::tokens::is_fixed;
+use crate::ways::Way;
 use adp_model::laws::well_formed::arguments_are_few_and_known;
 use adp_model::{Arg, Cell, Problem};
 use std::alloc::{AllocError, Global};
@@ -316,27 +318,22 @@ impl<'a> Lines<'a> {
         &self.alternatives[rule as usize]
     }
 
-    /// Where the tokens in front of an alternative end that begin at `from`, where they match there and end at `to` or
-    /// before. Takes constant time, but for the letters of literals, and no memory.
+    /// Where the tokens in front of an alternative end on a cell; `None` where they don't match there, or the alternative
+    /// may not have so many letters as the cell. Takes constant time, but for the letters of literals, and no memory.
     #[inline(always)]
-    pub fn front_end(&self, alternative: &KeptAlternative<'_>, from: u16, to: u16) -> Option<u16>
+    pub fn opening(&self, alternative: &KeptAlternative<'_>, cell: Cell) -> Option<u16>
         requires front { AreInFront self.now alternative.now }
-        requires span { IsSpan self.now.word from to }
-        ensures { (end : ℕ) → (result ≡ Some end) ↔ ((end ≤ to) × Cover self.now alternative.now.front.now from end) }
+        requires span { IsSpan self.now.word cell.from cell.to }
+        ensures { MatchOption result (IsClosed self.now alternative.now cell)
+            (IsOpening self.now alternative.now cell) }
     {
         self.problem().admissible();
-        let end = front_end(&self.tables, alternative, from as usize, to as usize)?;
+        let end = opening(&self.tables, alternative, cell)?;
         Some(end as u16)
     }
 
-    /// The line of an alternative, with the number of its first argument among those behind the tokens in front. Takes
-    /// constant time and no memory.
-    pub fn line_behind(
-        &self,
-        alternative: &KeptAlternative<'_>,
-        rule: u32,
-        alt: u8,
-    ) -> Option<Line<'_>>
+    /// The line of an alternative, with the number of its first argument among those behind the tokens in front.
+    fn line_behind(&self, alternative: &KeptAlternative<'_>, rule: u32, alt: u8) -> Option<Line<'_>>
         requires in_range { alt < length (alternatives_of self.now.grammar rule) }
         requires alternative { IsAlternative self.now rule alt alternative.now }
         ensures { IfSome result (λ line. IsLine self.now (drop line.first alternative.now.others.now) line) }
@@ -347,6 +344,20 @@ impl<'a> Lines<'a> {
             first: line.first - alternative.front.len() as u8,
             ..line
         })
+    }
+
+    /// How an alternative is scored, and looked through, behind its tokens in front. Takes constant time and no memory.
+    #[inline(always)]
+    pub fn way<'l>(&'l self, alternative: &KeptAlternative<'l>, rule: u32, alt: u8) -> Way<'l>
+        requires in_range { alt < length (alternatives_of self.now.grammar rule) }
+        requires alternative { IsAlternative self.now rule alt alternative.now }
+        ensures { IsWay self.now alternative.now.others.now result }
+    {
+        match alternative.others {
+            [] => Way::Front,
+            [argument] => Way::Last(argument),
+            _ => Way::Several(self.line_behind(alternative, rule, alt)),
+        }
     }
 
     /// The positions at which the boundary of a line may stand, as far as the arguments on both sides of it and the

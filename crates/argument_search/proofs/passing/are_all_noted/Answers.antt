@@ -1,13 +1,12 @@
-use Rattle.std.proofs.Common.{Some, ◌++◌, length, ap, subst, sym, arith}
-use Rattle.std.proofs.lemmas.Bool.{OnTrue_at, OnTrue_from, eqb-true}
+use Rattle.std.proofs.Common.{◌++◌, length, ap, subst, sym, arith}
+use Rattle.std.proofs.lemmas.Bool.{OnTrue_at, OnTrue_from}
 use Rattle.adp_model.specs.PosedProblem.{PosedProblem}
 use Rattle.adp_model.specs.ProblemFields.{IsAdmissible}
 use Rattle.split_lines.specs.declared.kept.KeptAlternative.{KeptAlternative}
-use Rattle.split_lines.specs.Ends.{IsFrontTold}
 use Rattle.split_lines.specs.Kept.{IsAlternative}
 use Rattle.argument_search.specs.Seeking.{AreAllNoted}
 use Rattle.argument_search.specs.Skipping.{AreNotedOn}
-use Rattle.argument_search.proofs.Demanded.{all_noted, noted_behind, noted_nowhere, noted_alone, empty_without}
+use Rattle.argument_search.proofs.Demanded.{all_noted, noted_behind}
 use Rattle.argument_search.proofs.passing.are_all_noted.Given.{Over}
 use Rattle.argument_search.proofs.passing.are_all_noted.Goals as goal
 use Rattle.argument_search.proofs.passing.are_all_noted.Goals.{After-index-alternatives-alt}
@@ -42,33 +41,12 @@ all_of g c =
 
 pub are_others_noted-requires-clause-span : goal.are_others_noted-requires-clause-span
 are_others_noted-requires-clause-span g c =
-    let told : IsFrontTold c.args.lines.now c.index-alternatives-alt.result.front.now c.args.cell.from c.args.cell.to
-    (Some c.in-Some.end) =
-    subst
-    (IsFrontTold c.args.lines.now c.index-alternatives-alt.result.front.now c.args.cell.from c.args.cell.to)
-    c.in-Some.is c.front_end.ensures in
-    let there = (told c.in-Some.end).0 (λ i. Some c.in-Some.end) in
-    record { in_order = there.0; in_word = c.requires.span.in_word }
-
-pub returns-then-is_empty : goal.returns-then-is_empty
-returns-then-is_empty g c =
-    let at = (goal.at.returns-then-is_empty g c).After-index-alternatives-alt in
-    let kept = c.index-alternatives-alt.result in
-    all_of g at
-    (noted_alone c.args.lines.now (g.N.NotedCells.is_noted c.args.noted.now) kept.front.now kept.others.now
-    c.args.cell.from c.args.cell.to (kept_is g at).in_front.fixed
-    (empty_without kept.others.now (eqb-true _ _ (sym c.if-is_empty.ensures))))
+    record { in_order = c.in-Some.ensures.within; in_word = c.requires.span.in_word }
 
 pub returns-in-None : goal.returns-in-None
-returns-in-None g c =
+returns-in-None g c = λ cuts number child asks.
     let at = (goal.at.returns-in-None g c).After-index-alternatives-alt in
-    let p = c.args.lines.now in
-    let cell = c.args.cell in
-    let kept = c.index-alternatives-alt.result in
-    all_of g at
-    (noted_nowhere p (g.N.NotedCells.is_noted c.args.noted.now) kept.front.now kept.others.now cell.from cell.to
-    (kept_is g at).in_front.fixed
-    (subst (IsFrontTold p kept.front.now cell.from cell.to) c.in-None.is c.front_end.ensures))
+    absurd (c.in-None.ensures c.args.alt cuts (kept_is g at) asks.viable)
 
 pub returns-in-Some : goal.returns-in-Some
 returns-in-Some g c =
@@ -80,6 +58,4 @@ returns-in-Some g c =
     let kept = c.index-alternatives-alt.result in
     all_of g at
     (noted_behind p (g.N.NotedCells.is_noted c.args.noted.now) kept.front.now kept.others.now cell.from cell.to
-    (kept_is g at).in_front.fixed c.in-Some.end
-    (subst (IsFrontTold p kept.front.now cell.from cell.to) c.in-Some.is c.front_end.ensures)
-    (OnTrue_at e c.are_others_noted.ensures)))
+    (kept_is g at).in_front.fixed c.in-Some.end c.in-Some.ensures.only (OnTrue_at e c.are_others_noted.ensures)))

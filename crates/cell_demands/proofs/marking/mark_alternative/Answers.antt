@@ -1,31 +1,28 @@
-use Rattle.std.proofs.Common.{ℕ, Option, Some, None, List, sym, subst}
-use Rattle.std.proofs.lemmas.Bool.{eqb-true}
+use Rattle.std.proofs.Common.{◌≤◌, List, length, sym, ap, subst, arith, length-append}
 use Rattle.adp_model.specs.declared.grammar.Arg.{Arg}
+use Rattle.adp_model.specs.Parts.{arguments_of}
 use Rattle.split_lines.specs.Laid.{Demands}
+use Rattle.split_lines.specs.Ways.{IsOpening}
 use Rattle.cell_tables.specs.Marks.{AreMarkedFrom}
-use Rattle.split_lines.specs.Ends.{IsFrontTold}
-use Rattle.cell_demands.proofs.Fronts.{demanded_behind, marked_behind_front, marked_alone, marked_without}
+use Rattle.cell_demands.proofs.Fronts.{demanded_behind, marked_behind_front}
+use Rattle.cell_demands.proofs.MarkSteps.{none_marked}
+use Rattle.cell_demands.proofs.Splitting.{split_of_demands}
 use Rattle.cell_demands.proofs.Dividing.{cover_forward}
-use Rattle.cell_demands.proofs.OneEnds.{empty_without}
 use Rattle.cell_demands.proofs.marking.mark_alternative.Goals as goal
 use Rattle.cell_demands.proofs.marking.mark_alternative.Goals.{In-Some}
 
-told : (c : In-Some) → IsFrontTold c.args.lines.now c.args.alternative.now.front.now c.args.cell.from c.args.cell.to (Some c.in-Some.end)
-told c =
-    let T : Option ℕ → Type 0 = IsFrontTold c.args.lines.now c.args.alternative.now.front.now c.args.cell.from c.args.cell.to in
-    subst T c.in-Some.is c.front_end.ensures
+opened : (c : In-Some) → IsOpening c.args.lines.now c.args.alternative.now c.args.cell c.in-Some.end
+opened c = c.in-Some.ensures
 
 pub mark_others-requires-clause-span : goal.mark_others-requires-clause-span
 mark_others-requires-clause-span c =
     let at = (goal.at.mark_others-requires-clause-span c).In-Some in
-    let there = ((told at) c.in-Some.end).0 (λ i. Some c.in-Some.end) in
-    record { in_order = there.0; in_word = c.requires.span.in_word }
+    record { in_order = (opened at).within; in_word = c.requires.span.in_word }
 
 pub mark_others-requires-clause-behind : goal.mark_others-requires-clause-behind
 mark_others-requires-clause-behind c =
     let at = (goal.at.mark_others-requires-clause-behind c).In-Some in
-    let there = ((told at) c.in-Some.end).0 (λ i. Some c.in-Some.end) in
-    cover_forward c.args.lines.now c.args.alternative.now.front.now c.args.cell.from c.in-Some.end there.1
+    cover_forward c.args.lines.now c.args.alternative.now.front.now c.args.cell.from c.in-Some.end (opened at).covers
 
 pub mark_others-requires-clause-counted : goal.mark_others-requires-clause-counted
 mark_others-requires-clause-counted c = λ child demands.
@@ -35,7 +32,8 @@ mark_others-requires-clause-counted c = λ child demands.
     let cell = c.args.cell in
     let D : List Arg → Type 0 = λ arguments. Demands p arguments cell.from cell.to child in
     c.requires.counted child
-    (subst D (sym c.requires.alternative.arguments) (demanded_behind p kept.front.now kept.others.now cell.from cell.to c.requires.alternative.in_front.fixed c.in-Some.end (told at) child demands))
+    (subst D (sym c.requires.alternative.arguments)
+    (demanded_behind p kept.front.now kept.others.now cell.from cell.to c.requires.alternative.in_front.fixed c.in-Some.end (opened at).covers (opened at).only child demands))
 
 pub returns-in-Some : goal.returns-in-Some
 returns-in-Some c =
@@ -45,24 +43,14 @@ returns-in-Some c =
     let cell = c.args.cell in
     let M : List Arg → Type 0 = λ arguments. AreMarkedFrom cell.from c.args.marks.now c.mark_others.new.marks (Demands p arguments cell.from cell.to) in
     subst M (sym c.requires.alternative.arguments)
-    (marked_behind_front p kept.front.now kept.others.now cell.from cell.to c.requires.alternative.in_front.fixed c.in-Some.end (told at) cell.from c.args.marks.now c.mark_others.new.marks c.mark_others.ensures)
-
-pub returns-then-is_empty : goal.returns-then-is_empty
-returns-then-is_empty c =
-    let p = c.args.lines.now in
-    let kept = c.args.alternative.now in
-    let cell = c.args.cell in
-    let M : List Arg → Type 0 = λ arguments. AreMarkedFrom cell.from c.args.marks.now c.args.marks.now (Demands p arguments cell.from cell.to) in
-    subst M (sym c.requires.alternative.arguments)
-    (marked_alone p kept.front.now kept.others.now cell.from cell.to c.requires.alternative.in_front.fixed (empty_without kept.others.now (eqb-true _ _ (sym c.if-is_empty.ensures))) cell.from c.args.marks.now)
+    (marked_behind_front p kept.front.now kept.others.now cell.from cell.to c.requires.alternative.in_front.fixed c.in-Some.end (opened at).covers (opened at).only cell.from c.args.marks.now c.mark_others.new.marks c.mark_others.ensures)
 
 pub returns-in_default : goal.returns-in_default
 returns-in_default c =
     let p = c.args.lines.now in
     let kept = c.args.alternative.now in
     let cell = c.args.cell in
-    let T : Option ℕ → Type 0 = IsFrontTold p kept.front.now cell.from cell.to in
-    let none : T None = subst T c.in_default.is c.front_end.ensures in
-    let M : List Arg → Type 0 = λ arguments. AreMarkedFrom cell.from c.args.marks.now c.args.marks.now (Demands p arguments cell.from cell.to) in
-    subst M (sym c.requires.alternative.arguments)
-    (marked_without p kept.front.now kept.others.now cell.from cell.to c.requires.alternative.in_front.fixed none cell.from c.args.marks.now)
+    let is = c.requires.alternative in
+    let few : length (arguments_of p.grammar cell.rule c.args.alt) ≤ 4 = omega (arith, is.few, ap length is.arguments, length-append kept.front.now kept.others.now) in
+    none_marked cell.from c.args.marks.now (Demands p (arguments_of p.grammar cell.rule c.args.alt) cell.from cell.to)
+    (λ child demands. let split = split_of_demands p cell c.args.alt child c.requires.in_range few demands in c.in_default.ensures c.args.alt split.0 is split.1)

@@ -6,29 +6,35 @@ use Rattle.adp_model.specs.Cells.{IsCounted}
 use Rattle.adp_model.specs.WellFormed.{IsKnown}
 use Rattle.split_lines.specs.Laid.{Demands}
 use Rattle.cell_tables.specs.Marks.{AreMarkedFrom}
-use Rattle.cell_demands.proofs.Lists.{one_alone}
+use Rattle.cell_demands.proofs.MarkSteps.{none_marked}
 use Rattle.cell_demands.proofs.marking.mark_others.Goals as goal
-use Rattle.cell_demands.proofs.marking.mark_others.Goals.{After-index-others-0}
+use Rattle.cell_demands.proofs.marking.mark_others.Goals.{In-Last}
 
 -- the argument is the only one
-one : (c : After-index-others-0) → c.args.alternative.now.others.now ≡ c.index-others-0.result ∷ []
-one c = one_alone c.args.alternative.now.others.now c.index-others-0.result c.if-others-eq1.true c.index-others-0.is
+one : (c : In-Last) → c.args.alternative.now.others.now ≡ c.in-Last.argument.now ∷ []
+one c = c.in-Last.ensures
 
 pub mark_last-requires-clause-known : goal.mark_last-requires-clause-known
 mark_last-requires-clause-known c =
-    let at = (goal.at.mark_last-requires-clause-known c).After-index-others-0 in
+    let at = (goal.at.mark_last-requires-clause-known c).In-Last in
     let K : List Arg → Type 0 = AllByRecursion (IsKnown c.args.lines.now.grammar) in
     (subst K (one at) c.requires.alternative.others_known).0
 
 pub mark_last-requires-clause-counted : goal.mark_last-requires-clause-counted
 mark_last-requires-clause-counted c =
-    let at = (goal.at.mark_last-requires-clause-counted c).After-index-others-0 in
+    let at = (goal.at.mark_last-requires-clause-counted c).In-Last in
     let D : List Arg → Type 0 = λ arguments. (child : Cell) → Demands c.args.lines.now arguments c.args.from c.args.cell.to child
     → IsCounted c.args.lines.now.grammar (length c.args.lines.now.word) child in
     subst D (one at) c.requires.counted
 
-pub returns-then-others-eq1 : goal.returns-then-others-eq1
-returns-then-others-eq1 c =
-    let at = (goal.at.returns-then-others-eq1 c).After-index-others-0 in
+pub returns-in-Last : goal.returns-in-Last
+returns-in-Last c =
+    let at = (goal.at.returns-in-Last c).In-Last in
     let M : List Arg → Type 0 = λ arguments. AreMarkedFrom c.args.cell.from c.args.marks.now c.mark_last.new.marks (Demands c.args.lines.now arguments c.args.from c.args.cell.to) in
     subst M (sym (one at)) c.mark_last.ensures.marked
+
+pub returns-in-Front : goal.returns-in-Front
+returns-in-Front c =
+    let none : c.args.alternative.now.others.now ≡ [] = c.in-Front.ensures in
+    let M : List Arg → Type 0 = λ arguments. AreMarkedFrom c.args.cell.from c.args.marks.now c.args.marks.now (Demands c.args.lines.now arguments c.args.from c.args.cell.to) in
+    subst M (sym none) (none_marked c.args.cell.from c.args.marks.now (Demands c.args.lines.now [] c.args.from c.args.cell.to) (λ cell demands. demands))
