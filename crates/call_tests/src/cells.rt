@@ -1,231 +1,108 @@
+//! Calls on the problem of a word: where its cells are kept, and its machines.
+
 ghost use Rattle.std.specs.Prelude.{◌≡◌};
 
-use crate::grammars::{Admitted, LookAtWord, look_at};
-use crate::jobs::{FEWEST, PAIRS, TWO_LETTERS, WALKS, text};
+use crate::codes::cell_of;
+use crate::lines::{numbers, push_field, push_flag, push_no_call, push_text};
+use crate::machines::{push_plain, push_turns};
+use crate::schedules::{push_cell_answer, push_schedule, push_words};
 use adp_model::{Cell, Problem};
 use cell_layouts::{Places, places};
 use cell_tables::{Layout, Noted};
 use memo_words::Words;
 use std::alloc::{AllocError, Global};
-use std::process::Abort;
-use std::test::Fail;
 
-/// Some cells by rule, start and end, each with its place, and `NOWHERE` where it is not counted.
-type Placed = [[u32; 4]; 6];
+/// Appends what a call on a problem gave.
+pub(crate) fn push_problem_call(
+    alloc: Global,
+    problem: &Problem<'_>,
+    name: &str,
+    rest: &str,
+    out: &mut Vec<u8>,
+) -> Result<(), AllocError> {
+    let numbers = numbers(alloc, rest)?;
+    match name {
+        "bits" => push_bits(alloc, problem, out),
+        "place" => push_place(alloc, problem, &numbers, out),
+        "note" => push_noted(alloc, problem, &numbers, out),
+        "plain" => push_plain(alloc, problem, &numbers, out),
+        "turns" => push_turns(alloc, problem, &numbers, out),
+        "schedule" => push_schedule(alloc, problem, &numbers, out),
+        "answer" => push_cell_answer(alloc, problem, &numbers, out),
+        "words" => push_words(alloc, problem, &numbers, out),
+        _ => push_no_call(out),
+    }
+}
 
-const NOWHERE: u32 = u32::MAX;
+/// Appends the number of bits in a position of the word's table: it has two positions for each cell that is counted.
+fn push_bits(alloc: Global, problem: &Problem<'_>, out: &mut Vec<u8>) -> Result<(), AllocError> {
+    let (words, _pass) = Words::new(alloc, problem, 32)?;
+    push_field(out, " ", u64::from(words.bits()))
+}
 
-/// The place of a cell.
-fn place(layout: &Layout<'_>, places: &Places<'_>, cell: Cell) -> u32
+/// Appends the place of a cell, as the layout of tables and the count of cells alone tell it.
+fn push_place(
+    alloc: Global,
+    problem: &Problem<'_>,
+    numbers: &[u64],
+    out: &mut Vec<u8>,
+) -> Result<(), AllocError> {
+    let Some(cell) = cell_of(numbers) else {
+        return push_no_call(out);
+    };
+    let layout = Layout::new(alloc, problem)?;
+    push_place_in(&layout, &Places::of(&layout)?, cell, out)?;
+    push_place_in(&layout, &places(alloc, problem)?, cell, out)
+}
+
+fn push_place_in(
+    layout: &Layout<'_>,
+    places: &Places<'_>,
+    cell: Cell,
+    out: &mut Vec<u8>,
+) -> Result<(), AllocError>
     requires { places.now ≡ layout.now }
 {
     if layout.counts(cell) {
-        places.place(cell)
+        push_field(out, " ", u64::from(places.place(cell)))
     } else {
-        NOWHERE
+        push_text(out, " nowhere")
     }
 }
 
-// The cells of a word, with the number of bits in a position of its table: there are two positions for each cell that
-// the bound counts.
-#[derive(Drop)]
-struct Numbers<'l> {
-    placed: &'l Placed,
-    bits: u32,
-}
-
-impl LookAtWord for Numbers<'_> {
-    fn look<R: Abort>(&self, rt: &R, alloc: Global, problem: &Problem<'_>) -> Result<(), Fail> {
-        let layout = Layout::new(alloc, problem)?;
-        expect_places(rt, &layout, &Places::of(&layout)?, self.placed);
-        expect_places(rt, &layout, &places(alloc, problem)?, self.placed);
-        expect_bits(rt, alloc, problem, self.bits)?;
-        Ok(())
-    }
-}
-
-fn expect_places<R: Abort>(rt: &R, layout: &Layout<'_>, places: &Places<'_>, placed: &Placed)
-    requires { places.now ≡ layout.now }
-{
-    for [rule, from, to, want] in placed {
-        assert!(rt; *from <= 65_535 && *to <= 65_535);
-        let cell = Cell {
-            rule: *rule,
-            from: *from as u16,
-            to: *to as u16,
-        };
-        assert!(rt; place(layout, places, cell) == *want);
-    }
-}
-
-fn expect_bits<R: Abort>(
-    rt: &R,
+/// Appends whether two cells are noted, before and after the first of them is.
+fn push_noted(
     alloc: Global,
     problem: &Problem<'_>,
-    bits: u32,
+    numbers: &[u64],
+    out: &mut Vec<u8>,
 ) -> Result<(), AllocError> {
-    let (words, _pass) = Words::new(alloc, problem, 32)?;
-    assert!(rt; words.bits() == bits);
-    Ok(())
-}
-
-#[test]
-fn cells_that_lie_anywhere(rt: HostRuntime) -> Result<(), Fail> {
-    let word = text(rt.alloc(), b"pq")?;
-    let placed = [
-        [0, 0, 0, 0],
-        [0, 0, 2, 2],
-        [0, 1, 1, 3],
-        [0, 2, 2, 5],
-        [0, 2, 1, NOWHERE],
-        [0, 0, 3, NOWHERE],
-    ];
-    let look = Numbers {
-        placed: &placed,
-        bits: 4,
+    let [rule, from, to, other_to] = numbers else {
+        return push_no_call(out);
     };
-    look_at(
-        &rt,
-        rt.alloc(),
-        PAIRS,
-        &Admitted {
-            word: &word,
-            look: &look,
-        },
-    )
-}
-
-#[test]
-fn cells_that_end_with_the_word(rt: HostRuntime) -> Result<(), Fail> {
-    let word = text(rt.alloc(), b"abc")?;
-    let placed = [
-        [0, 0, 3, 0],
-        [0, 2, 3, 2],
-        [0, 3, 3, 3],
-        [0, 0, 2, NOWHERE],
-        [0, 4, 4, NOWHERE],
-        [1, 0, 3, NOWHERE],
-    ];
-    let look = Numbers {
-        placed: &placed,
-        bits: 3,
-    };
-    look_at(
-        &rt,
-        rt.alloc(),
-        FEWEST,
-        &Admitted {
-            word: &word,
-            look: &look,
-        },
-    )
-}
-
-#[test]
-fn cells_of_two_rules(rt: HostRuntime) -> Result<(), Fail> {
-    let word = text(rt.alloc(), b"aba")?;
-    let placed = [
-        [0, 3, 3, 3],
-        [1, 0, 1, 4],
-        [1, 1, 3, 7],
-        [1, 2, 3, 8],
-        [1, 0, 3, NOWHERE],
-        [1, 3, 3, NOWHERE],
-    ];
-    let look = Numbers {
-        placed: &placed,
-        bits: 5,
-    };
-    look_at(
-        &rt,
-        rt.alloc(),
-        WALKS,
-        &Admitted {
-            word: &word,
-            look: &look,
-        },
-    )
-}
-
-#[test]
-fn one_cell(rt: HostRuntime) -> Result<(), Fail> {
-    let word = text(rt.alloc(), b"ab")?;
-    let placed = [
-        [0, 0, 2, 0],
-        [0, 0, 0, NOWHERE],
-        [0, 0, 1, NOWHERE],
-        [0, 1, 2, NOWHERE],
-        [0, 2, 2, NOWHERE],
-        [u32::MAX, 65_535, 65_535, NOWHERE],
-    ];
-    let look = Numbers {
-        placed: &placed,
-        bits: 1,
-    };
-    look_at(
-        &rt,
-        rt.alloc(),
-        TWO_LETTERS,
-        &Admitted {
-            word: &word,
-            look: &look,
-        },
-    )
-}
-
-#[test]
-fn no_cell(rt: HostRuntime) -> Result<(), Fail> {
-    let word = text(rt.alloc(), b"abc")?;
-    let placed = [
-        [0, 0, 2, NOWHERE],
-        [0, 0, 3, NOWHERE],
-        [0, 1, 3, NOWHERE],
-        [0, 0, 0, NOWHERE],
-        [0, 3, 3, NOWHERE],
-        [1, 0, 2, NOWHERE],
-    ];
-    let look = Numbers {
-        placed: &placed,
-        bits: 1,
-    };
-    look_at(
-        &rt,
-        rt.alloc(),
-        TWO_LETTERS,
-        &Admitted {
-            word: &word,
-            look: &look,
-        },
-    )
-}
-
-#[derive(Drop)]
-struct Note {}
-
-impl LookAtWord for Note {
-    fn look<R: Abort>(&self, rt: &R, alloc: Global, problem: &Problem<'_>) -> Result<(), Fail> {
-        let layout = Layout::new(alloc, problem)?;
-        let mut noted = Noted::new(alloc, &layout)?;
-        let (rule, from) = (0, 1);
-        let (cell, other) = (Cell { rule, from, to: 2 }, Cell { rule, from, to: 1 });
-        assert!(rt; layout.counts(cell));
-        assert!(rt; !noted.has(cell) && !noted.has(other));
-        noted.note(cell);
-        assert!(rt; noted.has(cell) && !noted.has(other));
-        Ok(())
+    let cell = cell_of(&[*rule, *from, *to]);
+    let other = cell_of(&[*rule, *from, *other_to]);
+    match (cell, other) {
+        (Some(cell), Some(other)) => push_noted_beside(alloc, problem, cell, other, out),
+        _ => push_no_call(out),
     }
 }
 
-#[test]
-fn a_cell_is_noted(rt: HostRuntime) -> Result<(), Fail> {
-    let word = text(rt.alloc(), b"pq")?;
-    look_at(
-        &rt,
-        rt.alloc(),
-        PAIRS,
-        &Admitted {
-            word: &word,
-            look: &Note {},
-        },
-    )
+fn push_noted_beside(
+    alloc: Global,
+    problem: &Problem<'_>,
+    cell: Cell,
+    other: Cell,
+    out: &mut Vec<u8>,
+) -> Result<(), AllocError> {
+    let layout = Layout::new(alloc, problem)?;
+    let mut noted = Noted::new(alloc, &layout)?;
+    if !layout.counts(cell) {
+        return push_no_call(out);
+    }
+    push_flag(out, "", noted.has(cell))?;
+    push_flag(out, "", noted.has(other))?;
+    noted.note(cell);
+    push_flag(out, ", then", noted.has(cell))?;
+    push_flag(out, "", noted.has(other))
 }

@@ -1,62 +1,87 @@
+//! Calls of `memo_words` that tell the words of cells, scores and choices.
+
+use crate::lines::{numbers, push_field, push_no_call};
 use adp_model::{Cell, Choice};
 use memo_words::{cell_code, choice_code, home, score_code};
-use std::process::Abort;
-use std::test::Fail;
+use std::alloc::{AllocError, Global};
 
-#[test]
-fn words_of_cells(rt: HostRuntime) -> Result<(), Fail> {
-    for (rule, from, to, code) in [
-        (0, 0, 0, 1),
-        (0, 0, 2, 3),
-        (0, 1, 2, 4_099),
-        (2, 3, 5, 33_566_726u64),
-    ] {
-        assert!(rt; rule < 128 && from <= 4000 && to <= 4000);
-        assert!(rt; cell_code(Cell { rule, from, to }) == code);
-    }
-    Ok(())
-}
-
+/// The greatest score.
 const MOST: i64 = (1 << 62) - 1;
 
-#[test]
-fn words_of_scores(rt: HostRuntime) -> Result<(), Fail> {
-    assert!(rt; score_code(None) == 1);
-    assert!(rt; score_code(Some(0)) == 4_611_686_018_427_387_905);
-    assert!(rt; score_code(Some(1)) == 4_611_686_018_427_387_906);
-    assert!(rt; score_code(Some(-MOST)) == 2);
-    assert!(rt; score_code(Some(MOST)) == 9_223_372_036_854_775_808);
-    Ok(())
-}
-
-#[test]
-fn words_of_choices(rt: HostRuntime) -> Result<(), Fail> {
-    assert!(rt; choice_code(None) == 1);
-    let first = Choice {
-        alt: 0,
-        cuts: [0, 0, 0],
+/// Appends the number that a call gave.
+pub(crate) fn push_code_call(
+    alloc: Global,
+    name: &str,
+    rest: &str,
+    out: &mut Vec<u8>,
+) -> Result<(), AllocError> {
+    let numbers = numbers(alloc, rest)?;
+    let code = match name {
+        "cell" => code_of_cell(&numbers),
+        "score" => code_of_score(rest),
+        "choice" => code_of_choice(rest, &numbers),
+        _ => home_of(&numbers),
     };
-    assert!(rt; choice_code(Some(first)) == 2);
-    let other = Choice {
-        alt: 2,
-        cuts: [1, 1, 2],
-    };
-    assert!(rt; choice_code(Some(other)) == 8_590_983_428);
-    Ok(())
-}
-
-#[test]
-fn homes(rt: HostRuntime) -> Result<(), Fail> {
-    for (code, bits, position) in [
-        (1, 1, 1),
-        (1, 4, 9),
-        (2, 1, 0),
-        (2, 4, 3),
-        (3, 4, 13),
-        (3, 8, 218),
-    ] {
-        assert!(rt; 1 <= bits && bits <= 22);
-        assert!(rt; home(code, bits) == position);
+    match code {
+        Some(code) => push_field(out, " ", code),
+        None => push_no_call(out),
     }
-    Ok(())
+}
+
+/// The cell of a rule, a start and an end.
+pub(crate) fn cell_of(numbers: &[u64]) -> Option<Cell> {
+    match numbers {
+        [rule, from, to] => Some(Cell {
+            rule: u32::try_from(*rule).ok()?,
+            from: u16::try_from(*from).ok()?,
+            to: u16::try_from(*to).ok()?,
+        }),
+        _ => None,
+    }
+}
+
+fn code_of_cell(numbers: &[u64]) -> Option<u64> {
+    let cell = cell_of(numbers)?;
+    if cell.rule < 128 && cell.from <= 4000 && cell.to <= 4000 {
+        Some(cell_code(cell))
+    } else {
+        None
+    }
+}
+
+fn code_of_score(score: &str) -> Option<u64> {
+    if score == "none" {
+        return Some(score_code(None));
+    }
+    match score.parse::<i64>() {
+        Ok(score) if -MOST <= score && score <= MOST => Some(score_code(Some(score))),
+        _ => None,
+    }
+}
+
+fn code_of_choice(choice: &str, numbers: &[u64]) -> Option<u64> {
+    if choice == "none" {
+        return Some(choice_code(None));
+    }
+    match numbers {
+        [
+            alt @ 0..64,
+            first @ 0..=4000,
+            second @ 0..=4000,
+            third @ 0..=4000,
+        ] => {
+            Some(choice_code(Some(Choice {
+                alt: *alt as u8,
+                cuts: [*first as u16, *second as u16, *third as u16],
+            })))
+        }
+        _ => None,
+    }
+}
+
+fn home_of(numbers: &[u64]) -> Option<u64> {
+    match numbers {
+        [code, bits @ 1..=22] => Some(u64::from(home(*code, *bits as u32))),
+        _ => None,
+    }
 }

@@ -1,220 +1,205 @@
-ghost use Rattle.std.specs.Prelude.{◌≤◌, IsTrue, length};
-ghost use Rattle.verdicts.specs.Verdict.{greatest_length};
+//! Calls on a job: its spelling, the checks of its grammar, and what limits its words.
+
+ghost use Rattle.std.specs.Prelude.{IsTrue};
 ghost use Rattle.adp_model.specs.WellFormed.{is_well_formed};
 
-use crate::jobs::{DOUBLING, FEWEST, LENGTH, LINE, PAIRS, PIECES, TWO_LETTERS, job};
-use adp_model::{Grammar, Job, LimitFault, Problem, Text};
+use crate::cells::push_problem_call;
+use crate::lines::{first_word, numbers, push_field, push_flag, push_no_call, push_text};
+use adp_model::{Grammar, Job, Text, is_printable, is_well_formed};
 use cell_layouts::cell_bound;
 use grammar_check::{AdmitError, Checked, admit, check, node_bound, score_bound};
+use grammar_text::{TextError, read_text, write_text};
 use std::alloc::{AllocError, Global};
-use std::process::Abort;
-use std::test::Fail;
 
-/// What a test looks at, once the grammar of a job was checked: a function that has a checked grammar of its own takes
-/// long to prove, so that one has it for all tests.
-pub(crate) trait Look {
-    fn look<R: Abort>(
-        &self,
-        rt: &R,
-        alloc: Global,
-        checked: &Checked,
-        words: &[Text],
-    ) -> Result<(), Fail>;
-}
+/// The most bytes of a job.
+const MOST_BYTES: usize = 65_536;
 
-/// Looks at the grammar of the job that the text spells, checked under its first algebra, and at its words.
-pub(crate) fn look_at<R: Abort, L: Look>(
-    rt: &R,
+/// The most letters of a word that bounds are asked for.
+const MOST_LETTERS: u64 = 4000;
+
+/// Appends whether the job is written as it was read.
+pub(crate) fn push_spelling(
     alloc: Global,
     text: &str,
-    look: &L,
-) -> Result<(), Fail>
-    requires { length text.now ≤ greatest_length }
-{
-    let Job { grammar, words } = job(alloc, text)?;
-    look_at_grammar(rt, alloc, grammar, words.as_slice(), look)
+    out: &mut Vec<u8>,
+) -> Result<(), AllocError> {
+    let Some(job) = job_of(alloc, text)? else {
+        return push_text(out, " no job");
+    };
+    push_flag(out, " well-formed", is_well_formed(&job.grammar))?;
+    let spelling = write_text(alloc, &job)?;
+    push_flag(out, ", the same", spelling.as_slice() == text.as_bytes())
 }
 
-fn look_at_grammar<R: Abort, L: Look>(
-    rt: &R,
+/// The job that a text spells.
+fn job_of(alloc: Global, text: &str) -> Result<Option<Job>, AllocError> {
+    if text.len() > MOST_BYTES {
+        return Ok(None);
+    }
+    match read_text(alloc, text.as_bytes()) {
+        Ok(job) => Ok(Some(job)),
+        Err(TextError::Fault(_)) => Ok(None),
+        Err(TextError::Memory) => Err(AllocError),
+    }
+}
+
+/// Appends what a call on the grammar of a job gave, checked under its first algebra.
+pub(crate) fn push_grammar_call(
     alloc: Global,
-    grammar: Grammar,
-    words: &[Text],
-    look: &L,
-) -> Result<(), Fail>
+    text: &str,
+    name: &str,
+    rest: &str,
+    out: &mut Vec<u8>,
+) -> Result<(), AllocError> {
+    let Some(Job { grammar, words }) = job_of(alloc, text)? else {
+        return push_text(out, " no job");
+    };
+    match checked_grammar(alloc, grammar)? {
+        Some(checked) => push_checked_call(alloc, &checked, words.as_slice(), name, rest, out),
+        None => push_text(out, " refused"),
+    }
+}
+
+fn checked_grammar(alloc: Global, grammar: Grammar) -> Result<Option<Checked>, AllocError>
     requires { IsTrue (is_well_formed grammar) }
 {
-    let name = first_algebra(rt, alloc, &grammar)?;
-    match check(alloc, grammar, &name) {
-        Ok(checked) => look.look(rt, alloc, &checked, words),
-        Err(_) => Err(Fail::new("refused")),
-    }
+    let name = match grammar.algebras.as_slice().first() {
+        Some(algebra) => Vec::from_slice(alloc, algebra.name.bytes())?,
+        None => Vec::new(alloc),
+    };
+    Ok(check(alloc, grammar, &Text::new(name)).ok())
 }
 
-fn first_algebra<R: Abort>(rt: &R, alloc: Global, grammar: &Grammar) -> Result<Text, AllocError> {
-    let algebras = grammar.algebras.as_slice();
-    assert!(rt; !algebras.is_empty());
-    Ok(Text::new(Vec::from_slice(alloc, algebras[0].name.bytes())?))
-}
-
-/// What a test looks at, once a word was admitted.
-pub(crate) trait LookAtWord {
-    fn look<R: Abort>(&self, rt: &R, alloc: Global, problem: &Problem<'_>) -> Result<(), Fail>;
-}
-
-/// A word, which is to be admitted, and what is looked at then.
-#[derive(Drop)]
-pub(crate) struct Admitted<'l, L> {
-    pub(crate) word: &'l Text,
-    pub(crate) look: &'l L,
-}
-
-impl<L: LookAtWord> Look for Admitted<'_, L> {
-    fn look<R: Abort>(
-        &self,
-        rt: &R,
-        alloc: Global,
-        checked: &Checked,
-        _words: &[Text],
-    ) -> Result<(), Fail> {
-        match admit(alloc, checked, self.word) {
-            Ok(problem) => self.look.look(rt, alloc, &problem),
-            Err(_) => Err(Fail::new("refused")),
+/// Appends what a call on a checked grammar and the words of its job gave, or on a word that the call has.
+fn push_checked_call(
+    alloc: Global,
+    checked: &Checked,
+    words: &[Text],
+    name: &str,
+    rest: &str,
+    out: &mut Vec<u8>,
+) -> Result<(), AllocError> {
+    match name {
+        "rules" => push_rules(checked, out),
+        "bounds" => push_cell_bounds(checked, &numbers(alloc, rest)?, out),
+        "limits" => push_limits(alloc, checked, &numbers(alloc, rest)?, out),
+        "admit" => push_admissions(alloc, checked, words, out),
+        _ => {
+            let (word, rest) = first_word(rest);
+            match quoted_word(alloc, word)? {
+                Some(word) => push_word_call(alloc, checked, &word, name, rest, out),
+                None => push_no_call(out),
+            }
         }
     }
 }
 
-// What the checks have to find of each rule of a grammar, and cell bounds of words of some lengths.
-#[derive(Drop)]
-struct Found {
-    least: u32,
-    greatest: Option<u32>,
-    is_left: bool,
-    is_right: bool,
-    lengths: [u32; 2],
-    bounds: [u64; 2],
+/// Appends of each rule its least and its greatest length, the latter left out where there is none, `^` where it
+/// begins with the word, and `$` where it ends with it.
+fn push_rules(checked: &Checked, out: &mut Vec<u8>) -> Result<(), AllocError> {
+    let greatest = checked.sizes.greatest.as_slice();
+    let left = checked.anchors.left.as_slice();
+    let right = checked.anchors.right.as_slice();
+    for (rule, least) in checked.sizes.least.as_slice().iter().enumerate() {
+        push_field(out, " ", u64::from(*least))?;
+        push_text(out, "..")?;
+        if let Some(Some(greatest)) = greatest.get(rule) {
+            push_field(out, "", u64::from(*greatest))?;
+        }
+        push_side(out, left.get(rule), "^")?;
+        push_side(out, right.get(rule), "$")?;
+    }
+    Ok(())
 }
 
-impl Look for Found {
-    fn look<R: Abort>(
-        &self,
-        rt: &R,
-        _alloc: Global,
-        checked: &Checked,
-        _words: &[Text],
-    ) -> Result<(), Fail> {
-        for least in checked.sizes.least.as_slice() {
-            assert!(rt; *least == self.least);
-        }
-        for greatest in checked.sizes.greatest.as_slice() {
-            assert!(rt; *greatest == self.greatest);
-        }
-        for is_left in checked.anchors.left.as_slice() {
-            assert!(rt; *is_left == self.is_left);
-        }
-        for is_right in checked.anchors.right.as_slice() {
-            assert!(rt; *is_right == self.is_right);
-        }
-        for number in 0..2 {
-            expect_bound(rt, checked, self.lengths[number], self.bounds[number]);
-        }
-        Ok(())
+fn push_side(out: &mut Vec<u8>, anchored: Option<&bool>, mark: &str) -> Result<(), AllocError> {
+    match anchored {
+        Some(true) => push_text(out, mark),
+        _ => Ok(()),
     }
 }
 
-fn expect_bound<R: Abort>(rt: &R, checked: &Checked, letters: u32, bound: u64) {
-    assert!(rt; letters <= 4000);
-    let found = cell_bound(&checked.grammar, &checked.sizes, &checked.anchors, letters);
-    assert!(rt; found == bound);
+/// Appends the cell bounds of words of so many letters.
+fn push_cell_bounds(
+    checked: &Checked,
+    lengths: &[u64],
+    out: &mut Vec<u8>,
+) -> Result<(), AllocError> {
+    for letters in lengths {
+        match *letters {
+            letters @ 0..=MOST_LETTERS => {
+                let letters = letters as u32;
+                let bound = cell_bound(&checked.grammar, &checked.sizes, &checked.anchors, letters);
+                push_field(out, " ", bound)?;
+            }
+            _ => push_no_call(out)?,
+        }
+    }
+    Ok(())
 }
 
-#[test]
-fn rules_without_sizes_or_anchors(rt: HostRuntime) -> Result<(), Fail> {
-    let free = Found {
-        least: 0,
-        greatest: None,
-        is_left: false,
-        is_right: false,
-        lengths: [2, 2046],
-        bounds: [6, 2_096_128],
-    };
-    look_at(&rt, rt.alloc(), PAIRS, &free)
-}
-
-#[test]
-fn rules_that_end_with_the_word(rt: HostRuntime) -> Result<(), Fail> {
-    let right = Found {
-        least: 0,
-        greatest: None,
-        is_left: false,
-        is_right: true,
-        lengths: [7, 4000],
-        bounds: [8, 4001],
-    };
-    look_at(&rt, rt.alloc(), FEWEST, &right)?;
-    look_at(&rt, rt.alloc(), LENGTH, &right)?;
-    look_at(&rt, rt.alloc(), LINE, &right)
-}
-
-#[test]
-fn rules_of_one_length(rt: HostRuntime) -> Result<(), Fail> {
-    let whole = Found {
-        least: 2,
-        greatest: Some(2),
-        is_left: true,
-        is_right: true,
-        lengths: [2, 3],
-        bounds: [1, 0],
-    };
-    look_at(&rt, rt.alloc(), TWO_LETTERS, &whole)
-}
-
-#[test]
-fn empty_rules_are_anchored(rt: HostRuntime) -> Result<(), Fail> {
-    let empty = Found {
-        least: 0,
-        greatest: Some(0),
-        is_left: true,
-        is_right: true,
-        lengths: [0, 1],
-        bounds: [64, 0],
-    };
-    look_at(&rt, rt.alloc(), DOUBLING, &empty)
-}
-
-#[derive(Drop)]
-struct CostlyPieces {}
-
-impl Look for CostlyPieces {
-    fn look<R: Abort>(
-        &self,
-        rt: &R,
-        alloc: Global,
-        checked: &Checked,
-        words: &[Text],
-    ) -> Result<(), Fail> {
-        assert!(rt; score_bound(alloc, checked, 4)? == 9_223_372_036_854_775_808);
-        assert!(rt; node_bound(alloc, checked, 4)? == 5);
-        assert!(rt; words.len() == 2);
-        assert!(rt; refusal(alloc, checked, &words[0]) == None);
-        // two pieces may cost more than is kept
-        let limit = LimitFault {
-            kind: 4,
-            number: 4_611_686_018_427_387_904,
-        };
-        assert!(rt; refusal(alloc, checked, &words[1]) == Some(AdmitError::Fault(limit)));
-        Ok(())
+/// Appends the bounds on scores and on nodes of words of so many letters.
+fn push_limits(
+    alloc: Global,
+    checked: &Checked,
+    lengths: &[u64],
+    out: &mut Vec<u8>,
+) -> Result<(), AllocError> {
+    match lengths {
+        [letters @ 0..=MOST_LETTERS] => {
+            let letters = *letters as u32;
+            push_field(out, " scores ", score_bound(alloc, checked, letters)?)?;
+            push_field(out, ", nodes ", node_bound(alloc, checked, letters)?)
+        }
+        _ => push_no_call(out),
     }
 }
 
-fn refusal(alloc: Global, checked: &Checked, word: &Text) -> Option<AdmitError> {
+/// Appends of each word of the job whether it is admitted, or the limit that it passes.
+fn push_admissions(
+    alloc: Global,
+    checked: &Checked,
+    words: &[Text],
+    out: &mut Vec<u8>,
+) -> Result<(), AllocError> {
+    for word in words {
+        match admit(alloc, checked, word) {
+            Ok(_) => push_text(out, " admitted,")?,
+            Err(AdmitError::Fault(fault)) => {
+                push_field(out, " limit ", u64::from(fault.kind))?;
+                push_field(out, " passed by ", fault.number)?;
+            }
+            Err(AdmitError::Memory) => return Err(AllocError),
+        }
+    }
+    Ok(())
+}
+
+/// The word between quotes.
+fn quoted_word(alloc: Global, text: &str) -> Result<Option<Text>, AllocError> {
+    match text
+        .strip_prefix('"')
+        .and_then(|text| text.strip_suffix('"'))
+    {
+        Some(letters) if is_printable(letters.as_bytes()) => Ok(Some(Text::new(Vec::from_slice(
+            alloc,
+            letters.as_bytes(),
+        )?))),
+        _ => Ok(None),
+    }
+}
+
+/// Appends what a call on a word gave.
+fn push_word_call(
+    alloc: Global,
+    checked: &Checked,
+    word: &Text,
+    name: &str,
+    rest: &str,
+    out: &mut Vec<u8>,
+) -> Result<(), AllocError> {
     match admit(alloc, checked, word) {
-        Ok(_) => None,
-        Err(error) => Some(error),
+        Ok(problem) => push_problem_call(alloc, &problem, name, rest, out),
+        Err(_) => push_text(out, " refused"),
     }
-}
-
-#[test]
-fn bounds_and_limits_of_costly_pieces(rt: HostRuntime) -> Result<(), Fail> {
-    look_at(&rt, rt.alloc(), PIECES, &CostlyPieces {})
 }

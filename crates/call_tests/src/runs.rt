@@ -1,156 +1,124 @@
-use crate::jobs::PAIRS;
-use adp_io::{CleanSink, CleanSource};
+//! Runs of the top call on a job, over streams that never fail: what stands in no report.
+
+use crate::gates::CountingGate;
+use crate::lines::{first_word, push_field, push_flag, push_list, push_text};
+use crate::schedules::push_answer;
+use crate::sinks::PieceSink;
+use adp_io::CleanSource;
 use adp_main::{Status, run};
-use adp_model::{Answer, Choice, Problem};
-use evaluators::{Finished, Gate, LogGate, RunNote};
+use adp_model::push_quoted;
+use evaluators::RunNote;
 use std::alloc::{AllocError, Global};
-use std::process::Abort;
-use std::sync::atomic::{AtomicU64, Ordering};
-use std::test::Fail;
 use std::thread::Threads;
 
-// Runs the program on a word under the grammar of pairs, over streams that never fail. Gives the status and the number
-// of bytes of the report.
-fn run_pairs<R: Threads + Sync, G: Gate>(
+/// Appends the status of a run, in how many pieces its output came, how often the gate was passed, and the notes.
+pub(crate) fn push_run<R: Threads + Sync>(
     rt: &R,
     alloc: Global,
-    words: &[&str],
-    word: &str,
-    gate: &mut G,
-) -> Result<(Status, u64), AllocError> {
-    let mut command = Vec::new(alloc);
-    for part in words {
-        command.push(String::from_str(alloc, part)?)?;
-    }
-    let header = PAIRS.strip_suffix("pq\nx\n").unwrap_or(PAIRS);
-    let job = format!(in alloc; "{header}{word}\n")?;
-    let mut input = CleanSource::new(job.into_bytes());
-    let mut out = CleanSink::new();
-    let mut err = CleanSink::new();
-    let status = run(rt, alloc, &command, &mut input, &mut out, &mut err, gate);
-    Ok((status, out.taken()))
+    job: &str,
+    command: &str,
+    out: &mut Vec<u8>,
+) -> Result<(), AllocError> {
+    let mut gate = CountingGate::new(alloc, 0);
+    push_gated_run(rt, alloc, job, command, &mut gate, out)?;
+    push_passes_and_notes(&gate, out)
 }
 
-#[test]
-fn a_run_leaves_a_note(rt: HostRuntime) -> Result<(), Fail> {
-    let alloc = rt.alloc();
-    let mut gate = LogGate::new(alloc);
-    let (status, taken) = run_pairs(&rt, alloc, &["wins"], "pq", &mut gate)?;
-    assert!(rt; status == Status::Done && taken == 65);
-    expect_note(&rt, gate.notes());
+fn push_passes_and_notes(gate: &CountingGate, out: &mut Vec<u8>) -> Result<(), AllocError> {
+    push_list(out, ", passes", &gate.passes())?;
+    for note in gate.notes() {
+        push_note(note, out)?;
+    }
     Ok(())
 }
 
-fn expect_note(rt: &impl Abort, notes: &[RunNote]) {
-    assert!(rt; notes.len() == 1);
-    let note = &notes[0];
-    assert!(rt; note.word.bytes() == b"pq".as_slice() && note.algebra == 0 && note.seed == 0);
-    let choice = Choice {
-        alt: 2,
-        cuts: [1, 1, 2],
-    };
-    assert!(rt; note.answer == Answer::Best { score: 1, choice });
-    assert!(rt; note.cells == 4);
-    assert!(rt;
-        note.wins.as_slice() == [4].as_slice() && note.ended.as_slice() == [true].as_slice()
-    );
+/// Appends how two workers ran that were to meet at the gate so often: whether they did, how often each passed where
+/// they ran in step, and whether their moves are as many as so many passes take.
+pub(crate) fn push_meeting<R: Threads + Sync>(
+    rt: &R,
+    alloc: Global,
+    job: &str,
+    name: &str,
+    rest: &str,
+    out: &mut Vec<u8>,
+) -> Result<(), AllocError> {
+    let (meetings, command) = first_word(rest);
+    let mut gate = CountingGate::new(alloc, meetings.parse::<u64>().unwrap_or(0));
+    push_gated_run(rt, alloc, job, command, &mut gate, out)?;
+    push_met(&gate, name == "in-step", out)
 }
 
-// Two machines are stopped within their publications: the one has put the key, and the other stored its record.
-#[test]
-fn a_replayed_run_leaves_a_note_of_its_steps(rt: HostRuntime) -> Result<(), Fail> {
-    let alloc = rt.alloc();
-    let mut gate = LogGate::new(alloc);
-    let words = ["replay", "--workers", "3", "--schedule", "1122222"];
-    let (status, taken) = run_pairs(&rt, alloc, &words, "", &mut gate)?;
-    assert!(rt; status == Status::Done && taken == 47);
-    expect_steps(&rt, gate.notes());
+fn push_met(gate: &CountingGate, in_step: bool, out: &mut Vec<u8>) -> Result<(), AllocError> {
+    push_flag(out, ", met", gate.have_met())?;
+    if in_step {
+        push_list(out, ", passes", &gate.passes())?;
+    }
+    for note in gate.notes() {
+        push_flag(out, ", moves fit", moves_fit(&gate.passes(), note))?;
+    }
     Ok(())
 }
 
-fn expect_steps(rt: &impl Abort, notes: &[RunNote]) {
-    assert!(rt; notes.len() == 1);
-    let note = &notes[0];
-    assert!(rt; note.cells == 1);
-    assert!(rt; note.wins.as_slice() == [1, 0, 0].as_slice());
-    assert!(rt; note.moves.as_slice() == [6, 2, 5].as_slice());
-    assert!(rt; note.ended.as_slice() == [true, false, false].as_slice());
+/// Whether each worker made as many moves as its passes take. Each pass stands in a look of its own, behind a load of a
+/// key. Where m cells are demanded, a look takes at most 2m + 5 steps, and a publication four.
+fn moves_fit(passes: &[u64], note: &RunNote) -> bool {
+    let most = note.cells.saturating_mul(2).saturating_add(9);
+    passes.iter().zip(note.moves.as_slice()).all(|(passes, moves)| {
+        passes.saturating_mul(2) <= *moves && *moves <= passes.saturating_mul(most)
+    })
 }
 
-const AWAY: u64 = 0;
-
-const THERE: u64 = 1;
-
-const ALONE: u64 = 2;
-
-// How often a worker looks whether the other one is there.
-const LOOKS: u32 = 400_000_000;
-
-// A gate at which each of two workers, when it first comes to it, looks until the other one is there, too.
-#[derive(Drop)]
-struct Meeting {
-    first: AtomicU64,
-    second: AtomicU64,
+/// Runs the program, and appends the status and in how many pieces its output came.
+fn push_gated_run<R: Threads + Sync>(
+    rt: &R,
+    alloc: Global,
+    job: &str,
+    command: &str,
+    gate: &mut CountingGate,
+    out: &mut Vec<u8>,
+) -> Result<(), AllocError> {
+    let words = words_of(alloc, command)?;
+    let mut input = CleanSource::new(Vec::from_slice(alloc, job.as_bytes())?);
+    let mut sink = PieceSink::new(alloc)?;
+    let mut error = PieceSink::new(alloc)?;
+    let status = run(rt, alloc, &words, &mut input, &mut sink, &mut error, gate);
+    push_written(status, &sink, &error, out)
 }
 
-impl Meeting {
-    fn new() -> Meeting {
-        Meeting {
-            first: AtomicU64::new(AWAY),
-            second: AtomicU64::new(AWAY),
-        }
+/// The words of a command, with one space between two.
+fn words_of(alloc: Global, command: &str) -> Result<Vec<String>, AllocError> {
+    let mut words = Vec::new(alloc);
+    for word in command.split(' ') {
+        words.push(String::from_str(alloc, word)?)?;
     }
-
-    fn have_met(&self) -> bool {
-        self.first.load(Ordering::SeqCst) == THERE && self.second.load(Ordering::SeqCst) == THERE
-    }
+    Ok(words)
 }
 
-fn come(own: &AtomicU64, other: &AtomicU64) {
-    if own.load(Ordering::SeqCst) != AWAY {
-        return;
-    }
-    own.store(THERE, Ordering::SeqCst);
-    for _look in 0..LOOKS {
-        if other.load(Ordering::SeqCst) != AWAY {
-            return;
-        }
-    }
-    own.store(ALONE, Ordering::SeqCst);
+fn push_written(
+    status: Status,
+    sink: &PieceSink,
+    error: &PieceSink,
+    out: &mut Vec<u8>,
+) -> Result<(), AllocError> {
+    push_field(out, " status ", u64::from(status.number()))?;
+    push_field(out, ", pieces ", sink.pieces())?;
+    push_field(out, " of ", sink.bytes().len() as u64)?;
+    push_text(out, " bytes")?;
+    push_field(out, " and ", error.pieces())
 }
 
-impl Gate for Meeting {
-    ghost use Rattle.std.specs.Prelude.{None};
-
-    ghost runs = { λ _. None };
-
-    fn pass(&self, worker: u32) {
-        match worker {
-            0 => come(&self.first, &self.second),
-            _ => come(&self.second, &self.first),
-        }
-    }
-
-    fn finished(
-        &mut self,
-        _problem: &Problem<'_>,
-        _seed: u64,
-        _finished: &Finished<'_>,
-    ) -> Result<(), AllocError> {
-        Ok(())
-    }
-}
-
-// No contract tells whether workers run side by side: here each waits for the other inside its run.
-#[test]
-fn workers_run_side_by_side(rt: HostRuntime) -> Result<(), Fail> {
-    let alloc = rt.alloc();
-    let word = "pqrs".repeat(alloc, 15)?;
-    for mode in ["best", "wins"] {
-        let mut gate = Meeting::new();
-        let words = [mode, "--workers", "2"];
-        let (status, _taken) = run_pairs(&rt, alloc, &words, word.as_str(), &mut gate)?;
-        assert!(rt; status == Status::Done && gate.have_met(), "{mode}");
+/// Appends a note of a run.
+fn push_note(note: &RunNote, out: &mut Vec<u8>) -> Result<(), AllocError> {
+    push_text(out, "; ")?;
+    push_quoted(out, note.word.bytes())?;
+    push_field(out, " algebra ", u64::from(note.algebra))?;
+    push_field(out, " seed ", note.seed)?;
+    push_answer(note.answer, out)?;
+    push_field(out, " cells ", note.cells)?;
+    push_list(out, " wins", note.wins.as_slice())?;
+    push_list(out, " moves", note.moves.as_slice())?;
+    for ended in note.ended.as_slice() {
+        push_text(out, if *ended { " ended" } else { " stopped" })?;
     }
     Ok(())
 }

@@ -1,89 +1,130 @@
-ghost use Rattle.std.specs.Prelude.{◌<◌};
+//! Calls of `adp_io` over streams in memory and over readers and writers of std.
 
+use crate::lines::{
+    first_word, numbers, push_field, push_flag, push_list, push_no_call, push_text,
+};
 use adp_io::{
-    CleanSink, CleanSource, Failed, JOB_LIMIT, MemSink, MemSource, Sink, Source, StdSink,
-    StdSource, read_job, write_whole,
+    CleanSink, CleanSource, Failed, JobFault, MemSink, MemSource, Sink, Source, StdSink, StdSource,
+    read_job, write_whole,
 };
 use std::alloc::{AllocError, Global};
 use std::io;
 use std::io::{ErrorKind, Read, Write};
-use std::process::Abort;
-use std::test::Fail;
 
-// A text of this length.
-fn text(alloc: Global, len: usize) -> Result<Vec<u8>, AllocError> {
-    vec![in alloc; b'a'; len]
+/// Appends what a call on a stream gave.
+pub(crate) fn push_stream_call(
+    alloc: Global,
+    name: &str,
+    rest: &str,
+    out: &mut Vec<u8>,
+) -> Result<(), AllocError> {
+    let (stream, rest) = first_word(rest);
+    let numbers = numbers(alloc, rest)?;
+    match (name, stream) {
+        ("read", "memory") => push_read_memory(alloc, &numbers, out),
+        ("read", _) => push_read(alloc, stream, &numbers, out),
+        ("write", "memory") => push_written_memory(alloc, &numbers, out),
+        ("write", _) => push_written(alloc, stream, &numbers, out),
+        (_, "reader") => push_flaky_reads(out),
+        _ => push_flaky_writes(out),
+    }
 }
 
-fn expect_job<S: Source>(
-    rt: &impl Abort,
+/// A text of this length.
+fn text(alloc: Global, len: u64) -> Result<Vec<u8>, AllocError> {
+    vec![in alloc; b'a'; len as usize]
+}
+
+/// Appends whether a job of so many bytes comes whole from memory, so many of them at most in a read.
+fn push_read_memory(alloc: Global, numbers: &[u64], out: &mut Vec<u8>) -> Result<(), AllocError> {
+    let [len @ 0..=MOST_BYTES, piece @ 1..=MOST_BYTES] = numbers else {
+        return push_no_call(out);
+    };
+    let job = text(alloc, *len)?;
+    let mut source = MemSource::new(job.clone()?, *piece as usize, Vec::new(alloc));
+    push_job(alloc, &mut source, &job, out)
+}
+
+/// The most bytes of a job.
+const MOST_BYTES: u64 = 5_000_000;
+
+/// Appends whether a job of so many bytes comes whole from a stream of this name.
+fn push_read(
+    alloc: Global,
+    stream: &str,
+    numbers: &[u64],
+    out: &mut Vec<u8>,
+) -> Result<(), AllocError> {
+    let [len @ 0..=MOST_BYTES] = numbers else {
+        return push_no_call(out);
+    };
+    let job = text(alloc, *len)?;
+    match stream {
+        "standard" => push_job(alloc, &mut StdSource::new(job.as_slice()), &job, out),
+        "clean" => push_job(alloc, &mut CleanSource::new(job.clone()?), &job, out),
+        _ => push_no_call(out),
+    }
+}
+
+fn push_job<S: Source>(
     alloc: Global,
     source: &mut S,
     job: &[u8],
-) -> Result<(), Fail> {
-    assert!(rt; read_job(alloc, source)?.as_slice() == job);
-    Ok(())
+    out: &mut Vec<u8>,
+) -> Result<(), AllocError> {
+    match read_job(alloc, source) {
+        Ok(bytes) => push_flag(out, " the same", bytes.as_slice() == job),
+        Err(JobFault::ReadFault) => push_text(out, " failed"),
+        Err(JobFault::TooLong) => push_text(out, " too long"),
+        Err(JobFault::Memory) => Err(AllocError),
+    }
 }
 
-// The most that one read gives is `piece`.
-fn expect_pieces(rt: &impl Abort, alloc: Global, len: usize, piece: usize) -> Result<(), Fail>
-    requires { 0 < piece }
-{
-    let job = text(alloc, len)?;
-    let mut source = MemSource::new(job.clone()?, piece, Vec::new(alloc));
-    expect_job(rt, alloc, &mut source, &job)
+/// Appends whether a text of so many bytes is written whole into memory with that room, so many of them at most in a
+/// write, where the write of the last number fails.
+fn push_written_memory(
+    alloc: Global,
+    numbers: &[u64],
+    out: &mut Vec<u8>,
+) -> Result<(), AllocError> {
+    let [len @ 0..=MOST_BYTES, piece @ 1..=MOST_BYTES, fails] = numbers else {
+        return push_no_call(out);
+    };
+    let report = text(alloc, *len)?;
+    let fails = vec![in alloc; *fails]?;
+    let mut sink = MemSink::new(alloc, *len as usize, *piece as usize, fails)?;
+    push_flag(out, " written", write_whole(&mut sink, &report).is_ok())?;
+    push_flag(out, ", the same", sink.bytes() == report.as_slice())
 }
 
-#[test]
-fn a_job_comes_whole_in_pieces(rt: HostRuntime) -> Result<(), Fail> {
-    let alloc = rt.alloc();
-    expect_pieces(&rt, alloc, 0, 1)?;
-    expect_pieces(&rt, alloc, 300, 7)?;
-    expect_pieces(&rt, alloc, JOB_LIMIT, 70_000)
+/// Appends whether a text of so many bytes is written whole to a stream of this name.
+fn push_written(
+    alloc: Global,
+    stream: &str,
+    numbers: &[u64],
+    out: &mut Vec<u8>,
+) -> Result<(), AllocError> {
+    let [len @ 0..=MOST_BYTES] = numbers else {
+        return push_no_call(out);
+    };
+    let report = text(alloc, *len)?;
+    match stream {
+        "standard" => {
+            let mut written = Vec::new(alloc);
+            let whole = write_whole(&mut StdSink::new(&mut written), &report).is_ok();
+            push_flag(out, " written", whole)?;
+            push_flag(out, ", the same", written == report)
+        }
+        "clean" => {
+            let mut sink = CleanSink::new();
+            push_flag(out, " written", write_whole(&mut sink, &report).is_ok())?;
+            push_field(out, ", taken ", sink.taken())
+        }
+        _ => push_no_call(out),
+    }
 }
 
-#[test]
-fn a_job_comes_whole_from_std(rt: HostRuntime) -> Result<(), Fail> {
-    let alloc = rt.alloc();
-    let job = text(alloc, 300)?;
-    expect_job(&rt, alloc, &mut StdSource::new(job.as_slice()), &job)
-}
-
-#[test]
-fn a_job_comes_whole_at_once(rt: HostRuntime) -> Result<(), Fail> {
-    let alloc = rt.alloc();
-    let job = text(alloc, 300)?;
-    expect_job(&rt, alloc, &mut CleanSource::new(job.clone()?), &job)
-}
-
-#[test]
-fn a_text_is_written_whole_in_pieces(rt: HostRuntime) -> Result<(), Fail> {
-    let alloc = rt.alloc();
-    let report = text(alloc, 12)?;
-    let mut sink = MemSink::new(alloc, 12, 5, vec![in alloc; 3]?)?;
-    assert!(rt; write_whole(&mut sink, &report) == Ok(()));
-    assert!(rt; sink.bytes() == report.as_slice());
-    Ok(())
-}
-
-#[test]
-fn a_text_is_written_whole_to_std(rt: HostRuntime) -> Result<(), Fail> {
-    let alloc = rt.alloc();
-    let report = text(alloc, 12)?;
-    let mut written = Vec::new(alloc);
-    assert!(rt; write_whole(&mut StdSink::new(&mut written), &report) == Ok(()));
-    assert!(rt; written == report);
-    Ok(())
-}
-
-#[test]
-fn a_text_is_written_whole_at_once(rt: HostRuntime) {
-    let mut sink = CleanSink::new();
-    assert!(rt; write_whole(&mut sink, b"abcdefghijkl") == Ok(()));
-    assert!(rt; sink.taken() == 12);
-}
-
-// A stream whose first call fails, and which is then at its end and takes all that it is given.
+/// A stream whose first call fails, and which is then at its end and takes all that it is given.
 #[derive(Drop)]
 struct Flaky {
     calls: u32,
@@ -117,21 +158,27 @@ impl Write for Flaky {
     }
 }
 
-// Each read and write asks once: an error is answered, and nothing is tried again.
-#[test]
-fn an_error_of_a_reader_is_a_fault_at_once(rt: HostRuntime) {
+/// Appends what two reads gave of which the reader fails at the first: each asks once, and nothing is tried again.
+fn push_flaky_reads(out: &mut Vec<u8>) -> Result<(), AllocError> {
     let mut reader = Flaky { calls: 0 };
     let mut source = StdSource::new(&mut reader);
-    assert!(rt; source.read(&mut [0; 9]) == Err(Failed));
-    assert!(rt; source.read(&mut [0; 9]) == Ok(0));
-    assert!(rt; reader.calls == 2);
+    push_count(source.read(&mut [0; 9]), out)?;
+    push_count(source.read(&mut [0; 9]), out)?;
+    push_field(out, ", calls ", u64::from(reader.calls))
 }
 
-#[test]
-fn an_error_of_a_writer_is_a_fault_at_once(rt: HostRuntime) {
+/// The same of writes.
+fn push_flaky_writes(out: &mut Vec<u8>) -> Result<(), AllocError> {
     let mut writer = Flaky { calls: 0 };
     let mut sink = StdSink::new(&mut writer);
-    assert!(rt; sink.write(b"ab") == Err(Failed));
-    assert!(rt; sink.write(b"ab") == Ok(2));
-    assert!(rt; writer.calls == 2);
+    push_count(sink.write(b"ab"), out)?;
+    push_count(sink.write(b"ab"), out)?;
+    push_field(out, ", calls ", u64::from(writer.calls))
+}
+
+fn push_count(count: Result<usize, Failed>, out: &mut Vec<u8>) -> Result<(), AllocError> {
+    match count {
+        Ok(count) => push_field(out, " ", count as u64),
+        Err(Failed) => push_text(out, " failed"),
+    }
 }

@@ -1,77 +1,102 @@
-ghost use Rattle.std.specs.Prelude.{◌≤◌, ◌^◌, length};
+//! Calls of `algebra_terms`.
 
-use crate::jobs::text;
+ghost use Rattle.std.specs.Prelude.{◌≤◌, length};
+
+use crate::lines::{push_field, push_no_call, push_signed_field, push_text};
+use adp_model::{Linear, Text};
 use algebra_terms::{TermError, Token, TokenKind, is_term, line_tokens, read_term};
-use std::alloc::Global;
-use std::process::Abort;
-use std::test::Fail;
+use std::alloc::{AllocError, Global};
 
-// The constant and the first two factors, where the variables are `x`, `y` and `x` again, whose factor is 0.
-fn spelled(alloc: Global, spelling: &str) -> Result<(i64, i64, i64), TermError>
-    requires { length spelling.now ≤ 2 ^ 31 }
+/// The most bytes of a line that is read.
+const MOST_BYTES: usize = 1000;
+
+/// Appends what a call on a line of text gave.
+pub(crate) fn push_term_call(
+    alloc: Global,
+    name: &str,
+    rest: &str,
+    out: &mut Vec<u8>,
+) -> Result<(), AllocError> {
+    let Some(line) = between_marks(rest) else {
+        return push_no_call(out);
+    };
+    if line.len() > MOST_BYTES {
+        return push_no_call(out);
+    }
+    match name {
+        "term" => push_term(alloc, line, out),
+        _ => push_tokens(alloc, line, out),
+    }
+}
+
+/// What stands between `<` and `>`.
+fn between_marks(text: &str) -> Option<&str> {
+    text.strip_prefix('<')?.strip_suffix('>')
+}
+
+/// Appends the term that is spelled over the variables `x`, `y` and `x` again: its constant and its factors.
+fn push_term(alloc: Global, spelling: &str, out: &mut Vec<u8>) -> Result<(), AllocError>
+    requires { length spelling.now ≤ 1000 }
 {
+    let vars = variables(alloc)?;
+    match read_term(alloc, spelling.as_bytes(), &vars) {
+        Ok(term) => push_linear(&term, out),
+        Err(fault) => push_term_fault(fault, out),
+    }
+}
+
+fn variables(alloc: Global) -> Result<Vec<Text>, AllocError> {
     let mut vars = Vec::new(alloc);
-    vars.push(text(alloc, b"x")?)?;
-    vars.push(text(alloc, b"y")?)?;
-    vars.push(text(alloc, b"x")?)?;
-    let term = read_term(alloc, spelling.as_bytes(), &vars)?;
-    match term.factors.as_slice() {
-        [x, y, 0] => Ok((term.constant, *x, *y)),
-        _ => Err(TermError::Memory),
+    vars.push(Text::new(Vec::from_slice(alloc, b"x")?))?;
+    vars.push(Text::new(Vec::from_slice(alloc, b"y")?))?;
+    vars.push(Text::new(Vec::from_slice(alloc, b"x")?))?;
+    Ok(vars)
+}
+
+fn push_linear(term: &Linear, out: &mut Vec<u8>) -> Result<(), AllocError> {
+    push_signed_field(out, " ", term.constant)?;
+    push_text(out, ", factors")?;
+    for factor in term.factors.as_slice() {
+        push_signed_field(out, " ", *factor)?;
     }
-}
-
-fn expect_term(rt: &impl Abort, alloc: Global, spelling: &str, constant: i64, x: i64, y: i64)
-    requires { length spelling.now ≤ 2 ^ 31 }
-{
-    assert!(rt; spelled(alloc, spelling) == Ok((constant, x, y)));
-}
-
-fn expect_fault(rt: &impl Abort, alloc: Global, spelling: &str, fault: TermError)
-    requires { length spelling.now ≤ 2 ^ 31 }
-{
-    assert!(rt; spelled(alloc, spelling) == Err(fault));
-}
-
-const GREATEST: i64 = 4_611_686_018_427_387_903;
-
-#[test]
-fn spellings(rt: HostRuntime) {
-    let alloc = rt.alloc();
-    expect_term(&rt, alloc, "  -  007  ", -7, 0, 0);
-    expect_term(&rt, alloc, " 3 * x ", 0, 3, 0);
-    expect_term(&rt, alloc, "2*x+3*x-y", 0, 5, -1);
-    expect_term(&rt, alloc, "-4611686018427387903*x-x+x", 0, -GREATEST, 0);
-}
-
-#[test]
-fn faulty_spellings(rt: HostRuntime) {
-    let alloc = rt.alloc();
-    expect_fault(&rt, alloc, "", TermError::Shape);
-    expect_fault(&rt, alloc, "+1", TermError::Shape);
-    expect_fault(&rt, alloc, "1 + ..", TermError::Shape);
-    expect_fault(&rt, alloc, "x + \"y", TermError::Shape);
-    expect_fault(&rt, alloc, "_x + 9y + z", TermError::Name);
-    expect_fault(&rt, alloc, "9x*y + z", TermError::Number);
-    expect_fault(&rt, alloc, "4611686018427387903*z+z", TermError::Number);
-    expect_fault(&rt, alloc, "1 + 2*x + X", TermError::Unknown);
-}
-
-#[test]
-fn lines_have_tokens(rt: HostRuntime) -> Result<(), Fail> {
-    let line = b"r =\"\\\"\" 1..";
-    let found = line_tokens(rt.alloc(), line)?.expect(&rt, "each byte belongs to a token");
-    let want = [
-        (TokenKind::Word, 0, 1),
-        (TokenKind::Mark, 2, 3),
-        (TokenKind::Quoted, 3, 7),
-        (TokenKind::Word, 8, 9),
-        (TokenKind::Dots, 9, 11),
-    ];
-    assert_eq!(rt; found.len(), want.len());
-    for (token, (kind, from, to)) in found.iter().zip(want) {
-        assert_eq!(rt; *token, Token { kind, from, to });
-    }
-    assert!(rt; !is_term(line, &found));
     Ok(())
+}
+
+fn push_term_fault(fault: TermError, out: &mut Vec<u8>) -> Result<(), AllocError> {
+    match fault {
+        TermError::Shape => push_text(out, " no shape"),
+        TermError::Name => push_text(out, " no name"),
+        TermError::Number => push_text(out, " no number"),
+        TermError::Unknown => push_text(out, " unknown"),
+        TermError::Memory => Err(AllocError),
+    }
+}
+
+/// Appends the tokens of a line, each with its sort and where it stands, and whether they are a term.
+fn push_tokens(alloc: Global, line: &str, out: &mut Vec<u8>) -> Result<(), AllocError>
+    requires { length line.now ≤ 1000 }
+{
+    let bytes = line.as_bytes();
+    match line_tokens(alloc, bytes)? {
+        Some(tokens) => {
+            for token in &tokens {
+                push_token(token, out)?;
+            }
+            let verdict = is_term(bytes, &tokens);
+            push_text(out, if verdict { " a term" } else { " no term" })
+        }
+        None => push_text(out, " a byte of no token"),
+    }
+}
+
+fn push_token(token: &Token, out: &mut Vec<u8>) -> Result<(), AllocError> {
+    let kind = match token.kind {
+        TokenKind::Word => " word ",
+        TokenKind::Quoted => " quoted ",
+        TokenKind::Mark => " mark ",
+        TokenKind::Dots => " dots ",
+    };
+    push_field(out, kind, u64::from(token.from))?;
+    push_field(out, " to ", u64::from(token.to))?;
+    push_text(out, ",")
 }

@@ -1,4 +1,0 @@
-use Rattle.table_tests.proofs.machines.+run.Given as goal
-
-abbrev pub decreases-run : goal.decreases-run
-decreases-run g l = l.most

@@ -1,4 +1,0 @@
-use Rattle.table_tests.proofs.tables.+by_turns.Given as goal
-
-abbrev pub decreases-by_turns : goal.decreases-by_turns
-decreases-by_turns g l = l.count
