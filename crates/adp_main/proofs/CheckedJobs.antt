@@ -17,7 +17,7 @@ use Rattle.grammar_text.specs.Reading.{MatchReading}
 use Rattle.grammar_text.specs.declared.error.TextError.{TextError}
 use Rattle.grammar_text.specs.declared.error.TextError.TheVariants as text_errors
 use Rattle.report.specs.declared.fault.Fault.{Fault}
-use Rattle.adp_main.specs.Reporting.{IsJobRefusal, grammar_refusal, text_refusal}
+use Rattle.adp_main.specs.Reporting.{IsJobFault, IsJobRefusal, grammar_refusal, text_refusal}
 
 pub is_text : (bytes : List ℕ) (job : Job) (given : Result Job TextError) → MatchReading bytes given → given ≡ Ok job → IsText bytes job
 is_text bytes job given read is = subst (MatchReading bytes) is read
@@ -36,10 +36,10 @@ text_refused words bytes given fault asks fits read (error, is, turned) =
 
 -- the job's grammar has no fault under the algebra of the name
 pub is_checked : (words : List (List ℕ)) (bytes : List ℕ) (command : asked.Command) (job : Job) (name : List ℕ) (given : Result CheckedGrammar CheckError) (checked : CheckedGrammar)
-    → AsksFor words bytes command job → name ≡ asked_name words command job.grammar → MatchCheck job.grammar name given → given ≡ Ok checked
+    → AsksFor words bytes command job → name ≡ asked_name command job.grammar → MatchCheck job.grammar name given → given ≡ Ok checked
     → (asks : AsksUnder words bytes job checked.algebra) × (asks.command ≡ command) × (checked.grammar ≡ job.grammar)
 is_checked words bytes command job name given checked asks named found is =
-    let passed : MatchCheck job.grammar (asked_name words command job.grammar) (Ok checked) = subst (λ n. MatchCheck job.grammar n (Ok checked)) named (subst (MatchCheck job.grammar name) is found) in
+    let passed : MatchCheck job.grammar (asked_name command job.grammar) (Ok checked) = subst (λ n. MatchCheck job.grammar n (Ok checked)) named (subst (MatchCheck job.grammar name) is found) in
     (record { command = command; asks = asks; faultless = passed.1 }, refl, passed.0)
 
 -- each name is short, and rules and signs have names
@@ -55,15 +55,36 @@ short_name grammar name fault names named (Loop algebra rule under productive fi
 short_name grammar name fault names named (NotMonotone algebra sign under productive no_loop first) = names.short _ (names.signs sign first.in_range)
 
 refused : (words : List (List ℕ)) (bytes : List ℕ) (command : asked.Command) (job : Job) (name : List ℕ) (error : CheckError)
-    → AsksFor words bytes command job → name ≡ asked_name words command job.grammar → IsTrue (is_name name) → AreNamed job.grammar → MatchCheck job.grammar name (Err error)
+    → AsksFor words bytes command job → name ≡ asked_name command job.grammar → MatchCheck job.grammar name (Err error)
     → IsJobRefusal words bytes (grammar_refusal error)
-refused words bytes command job name (check_errors.Fault fault) asks named is_named names found =
-    ((command, job, asks, subst (λ n. IsGrammarFault job.grammar n fault) named found), short_name job.grammar name fault names is_named found)
-refused words bytes command job name check_errors.Memory asks named is_named names found = tt
+refused words bytes command job name (check_errors.Fault fault) asks named found =
+    (command, job, asks, subst (λ n. IsGrammarFault job.grammar n fault) named found)
+refused words bytes command job name check_errors.Memory asks named found = tt
 
 -- the grammar's fault is the verdict
 pub grammar_refused : (words : List (List ℕ)) (bytes : List ℕ) (command : asked.Command) (job : Job) (name : List ℕ) (given : Result CheckedGrammar CheckError) (fault : Fault)
-    → AsksFor words bytes command job → name ≡ asked_name words command job.grammar → IsTrue (is_name name) → AreNamed job.grammar → MatchCheck job.grammar name given
+    → AsksFor words bytes command job → name ≡ asked_name command job.grammar → MatchCheck job.grammar name given
     → (error : CheckError) × (given ≡ Err error) × (fault ≡ grammar_refusal error) → IsJobRefusal words bytes fault
-grammar_refused words bytes command job name given fault asks named is_named names found (error, is, turned) =
-    subst (IsJobRefusal words bytes) (sym turned) (refused words bytes command job name error asks named is_named names (subst (MatchCheck job.grammar name) is found))
+grammar_refused words bytes command job name given fault asks named found (error, is, turned) =
+    subst (IsJobRefusal words bytes) (sym turned) (refused words bytes command job name error asks named (subst (MatchCheck job.grammar name) is found))
+
+-- a fault of the grammar has a short name
+fault_named : (job : Job) (name : List ℕ) (error : CheckError) → IsTrue (is_name name) → AreNamed job.grammar
+    → MatchCheck job.grammar name (Err error) → IsJobFault (grammar_refusal error)
+fault_named job name (check_errors.Fault fault) is_named names found =
+    short_name job.grammar name fault names is_named found
+fault_named job name check_errors.Memory is_named names found = tt
+
+pub grammar_fault : (job : Job) (name : List ℕ) (given : Result CheckedGrammar CheckError) (fault : Fault)
+    → IsTrue (is_name name) → AreNamed job.grammar → MatchCheck job.grammar name given
+    → (error : CheckError) × (given ≡ Err error) × (fault ≡ grammar_refusal error) → IsJobFault fault
+grammar_fault job name given fault is_named names found (error, is, turned) =
+    subst IsJobFault (sym turned) (fault_named job name error is_named names (subst (MatchCheck job.grammar name) is found))
+
+text_fault_of : (error : TextError) → IsJobFault (text_refusal error)
+text_fault_of (text_errors.Fault fault) = tt
+text_fault_of text_errors.Memory = tt
+
+pub text_fault : (given : Result Job TextError) (fault : Fault)
+    → (error : TextError) × (given ≡ Err error) × (fault ≡ text_refusal error) → IsJobFault fault
+text_fault given fault (error, is, turned) = subst IsJobFault (sym turned) (text_fault_of error)

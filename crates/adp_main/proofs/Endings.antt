@@ -10,11 +10,12 @@ use Rattle.adp_io.specs.Causes.{RisesWhere, Rose}
 use Rattle.adp_io.specs.Streams.{AppendsProperPrefix, AsksForAtMost, CallsAtMost, LosesAtMost, SameTold, job_limit, piece_limit}
 use Rattle.adp_model.specs.declared.fault.LimitFault.{LimitFault}
 use Rattle.verdicts.specs.CheckableJobs.{AreCheckable}
-use Rattle.verdicts.specs.Command.{Big, Command, IsCommand, HasCommand, AsksForJob}
+use Rattle.verdicts.specs.declared.command.Mode.TheVariants.{Big}
+use Rattle.verdicts.specs.Command.{Command, IsCommand, HasCommand, AsksForJob}
 use Rattle.verdicts.specs.Verdict.{Verdict, IsLimit, IsReports, IsVerdict}
 use Rattle.evaluators.specs.declared.finished.RunNote.{RunNote}
-use Rattle.adp_main.specs.RunNotes.{ShowsRuns}
-use Rattle.adp_main.specs.Making.{IsBigEnding}
+use Rattle.adp_main.specs.RunNotes.{IsBigRun, ShowsRuns}
+use Rattle.adp_main.specs.Writing.{IsWordEnding}
 use Rattle.adp_main.proofs.Made.{made_ending}
 use Rattle.verdicts.specs.Verdict as verdicts
 use Rattle.report.specs.declared.fault.Fault.{Fault}
@@ -389,7 +390,7 @@ pub ends_made : {S K G : Type 0} (left : S → Option (List ℕ)) (read_faults :
     → OnlyReports → IsCommand words command → command.mode ≡ Big → (AsksForJob words → ⊥)
     → SameTold (held out) (held out')
     → RisesWhere (write_faults out) (write_faults out') (status_after result ≡ WriteFault)
-    → IsBigEnding command result (runs gate) (runs gate') (held out) (held out')
+    → IsWordEnding (IsBigRun command) result (runs gate) (runs gate') (held out) (held out')
     → Ending left read_faults calls asked held write_faults runs words input input out out' gate gate' (status_after result)
 ends_made left read_faults calls asked held write_faults runs words input out out' gate gate' command result only is makes none same counted ending =
     let made = made_ending words command is makes result (runs gate) (runs gate') (held out) (held out') ending in

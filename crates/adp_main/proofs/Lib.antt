@@ -4,10 +4,8 @@ mod CheckedJobs
 mod Endings
 pub mod Made
 pub mod MadeWords
-mod Options
 pub mod Noting
 pub mod Running
 pub mod Written
 pub mod FirstLimit
 pub mod Reported
-pub mod AskedNames

@@ -5,7 +5,8 @@ use Rattle.std.specs.Io.KnownBytes.{Appends}
 use Rattle.std.proofs.lemmas.List.{append-nil}
 use Rattle.adp_io.specs.Streams.{AppendsProperPrefix}
 use Rattle.adp_model.specs.BigReport.{IsBigReport}
-use Rattle.verdicts.specs.Command.{Big, Command, IsCommand}
+use Rattle.verdicts.specs.declared.command.Mode.TheVariants.{Big}
+use Rattle.verdicts.specs.Command.{Command, IsCommand}
 use Rattle.verdicts.specs.Verdict.{IsVerdict}
 use Rattle.verdicts.specs.Verdict as verdicts
 use Rattle.evaluators.specs.declared.finished.RunNote.{RunNote}
@@ -15,8 +16,8 @@ use Rattle.adp_main.specs.declared.status.Status.{Status}
 use Rattle.adp_main.specs.declared.status.Status.TheVariants.{Usage, ReadFault, WriteFault, Limit, Memory}
 use Rattle.adp_main.specs.Faults.{status_after}
 use Rattle.adp_main.specs.Ending.{IsBeforeWriting, IsOfVerdict, ShowsFirst, ShowsPart, ShowsVerdict}
-use Rattle.adp_main.specs.Making.{IsBigEnding}
-use Rattle.adp_main.specs.RunNotes.{ShowsRuns}
+use Rattle.adp_main.specs.RunNotes.{AddsNotes, IsBigRun, ShowsRuns}
+use Rattle.adp_main.specs.Writing.{IsWordEnding}
 
 -- what holds of the status and the output of such a run
 pub record MadeEnding (words : List (List ℕ)) (status : Status) (old new : Option (List RunNote))
@@ -40,8 +41,8 @@ module _ (words : List (List ℕ)) (command : Command) (is : IsCommand words com
   reported bytes report made = inr (command, is, makes, report, made, refl)
 
   pub made_ending : (result : Result (Unit {0}) Fault) (old new : Option (List RunNote)) (held held' : Option (List ℕ))
-      → IsBigEnding command result old new held held' → MadeEnding words (status_after result) old new held held'
-  made_ending (Ok written) old new held held' (report, note, made, whole, for, adds) = record {
+      → IsWordEnding (IsBigRun command) result old new held held' → MadeEnding words (status_after result) old new held held'
+  made_ending (Ok written) old new held held' (report, noted, (made, note, one, for), adds, whole) = record {
     not_usage = λ e. cc;
     not_read = λ e. cc;
     keeps = λ e. cc;
@@ -63,11 +64,11 @@ module _ (words : List (List ℕ)) (command : Command) (is : IsCommand words com
         makes = makes;
         note = note;
         is_note = for;
-        noted = adds;
+        noted = subst (AddsNotes old new) one adds;
       },
     ));
   }
-  made_ending (Err faults.Write) old new held held' (same, report, made, part) = record {
+  made_ending (Err faults.Write) old new held held' (same, report, noted, (made, note, one, for), part) = record {
     not_usage = λ e. cc;
     not_read = λ e. cc;
     keeps = λ e. cc;
@@ -93,7 +94,7 @@ module _ (words : List (List ℕ)) (command : Command) (is : IsCommand words com
     first = λ _ bytes. inl none;
     noted = λ _. inl (same, λ e. cc);
   }
-  made_ending (Err faults.Memory) old new held held' (same, inr (report, made, whole)) = record {
+  made_ending (Err faults.Memory) old new held held' (same, inr (report, noted, (made, note, one, for), whole)) = record {
     not_usage = λ e. cc;
     not_read = λ e. cc;
     keeps = λ e. cc;

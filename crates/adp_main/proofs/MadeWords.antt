@@ -1,5 +1,5 @@
 -- The word that is made: its grammar has no fault, its length is its size, and what is reported of it.
-use Rattle.std.proofs.Common.{◌≡◌, Option, Err, ℕ, zero, suc, List, [], ℤ, length, refl, ap, subst, ◌∙◌, arith}
+use Rattle.std.proofs.Common.{◌≡◌, Option, Result, ℕ, zero, suc, List, ℤ, length, refl, sym, ap, subst, ◌∙◌, arith}
 use Rattle.adp_model.specs.declared.cell.Answer.{Answer}
 use Rattle.adp_model.specs.declared.cell.Answer.TheVariants.{NoCandidate, Best}
 use Rattle.adp_model.specs.declared.cell.Choice.{Choice}
@@ -13,13 +13,14 @@ use Rattle.adp_model.specs.Derivation.{Derives}
 use Rattle.adp_model.specs.GrammarFaults.{HasOtherTerm, IsFaultless, IsGrammarFault, IsNamed, NoAlgebra, Unproductive, Loop, NotMonotone}
 use Rattle.adp_model.specs.PosedProblem.{PosedProblem, axiom_cell}
 use Rattle.adp_model.specs.Tree.{Tree}
+use Rattle.evaluators.specs.declared.finished.Finished.{Finished}
 use Rattle.evaluators.specs.declared.finished.RunNote.{RunNote}
 use Rattle.report.specs.declared.fault.Fault.{Fault}
-use Rattle.report.specs.declared.fault.Fault.TheVariants as faults
-use Rattle.adp_io.specs.Streams.{AppendsProperPrefix}
-use Rattle.adp_main.specs.Making.{IsBigEnding}
-use Rattle.adp_main.specs.RunNotes.{IsNoteFor}
-use Rattle.adp_main.specs.Writing.{IsReportWritten}
+use Rattle.adp_io.specs.Causes.{RisesWhere}
+use Rattle.adp_main.specs.declared.status.Status.TheVariants.{Memory, WriteFault}
+use Rattle.adp_main.specs.RunNotes.{IsBigRun, IsNoteFor}
+use Rattle.adp_main.specs.Writing.{IsRunWith, IsWordEnding}
+use Rattle.adp_main.proofs.Running.{ending_of}
 
 pub made_length : (seed size : ℕ) → length (made_word seed size) ≡ size
 made_length seed zero = refl
@@ -71,20 +72,20 @@ is_report p seed size is score choice answered cells counted report lines =
       lines ∙ ap (λ it. big_lines size it cells) there.2,
     )
 
-pub note_is : (command : Command) (p : PosedProblem) (seed size : ℕ) → p ≡ made_problem seed size → (note : RunNote)
-    → IsNoteFor command [] p note → IsNoteFor command [] (made_problem seed size) note
-note_is command p seed size is note for = subst (λ (q : PosedProblem). IsNoteFor command [] q note) is for
+-- no write failed where memory ran out
+pub no_write_failed : (count : ℕ) → RisesWhere count count (Memory ≡ WriteFault)
+no_write_failed count = record { later = omega arith; rises = λ e. cc; stands = λ _. refl }
 
--- its report was not written whole
-pub unwritten_made : (command : Command) (report bytes : List ℕ) → IsBigReport command.seed command.size report
-    → bytes ≡ report → (fault : Fault) (runs : Option (List RunNote)) (held held' : Option (List ℕ))
-    → IsReportWritten (Err fault) held held' bytes → IsBigEnding command (Err fault) runs runs held held'
-unwritten_made command report bytes is same faults.Write runs held held' part =
-    (refl, report, is, subst (AppendsProperPrefix held held') same part)
-unwritten_made command report bytes is same faults.Usage runs held held' h = absurd h
-unwritten_made command report bytes is same faults.Read runs held held' h = absurd h
-unwritten_made command report bytes is same faults.TooLong runs held held' h = absurd h
-unwritten_made command report bytes is same (faults.Text fault) runs held held' h = absurd h
-unwritten_made command report bytes is same (faults.Grammar fault) runs held held' h = absurd h
-unwritten_made command report bytes is same (faults.Limit word fault) runs held held' h = absurd h
-unwritten_made command report bytes is same faults.Memory runs held held' h = absurd h
+-- the run for it
+pub big_word : (command : Command) (p : PosedProblem) (finished : Finished) (report bytes : List ℕ)
+    → p ≡ made_problem command.seed command.size → IsBigReport command.seed command.size report → bytes ≡ report
+    → (result : Result (Unit {0}) Fault) (old new : Option (List RunNote)) (held held' : Option (List ℕ))
+    → IsWordEnding (IsRunWith command p finished bytes) result old new held held'
+    → IsWordEnding (IsBigRun command) result old new held held'
+big_word command p finished report bytes made is same =
+    ending_of (λ written noted (run : IsRunWith command p finished bytes written noted). (
+      subst (IsBigReport command.seed command.size) (sym (run.0 ∙ same)) is,
+      run.1,
+      run.2,
+      subst (λ (q : PosedProblem). IsNoteFor command q run.1) made run.3,
+    ))

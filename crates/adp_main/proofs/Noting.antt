@@ -1,17 +1,22 @@
 -- What a gate notes of evaluators that have run is the note that was asked for.
-use Rattle.std.proofs.Common.{◌≡◌, ℕ, List, [], ◌∷◌, length, map, sum, All, Bool, true, Option, None, Some, Ok, refl, sym, ap, subst, ◌∙◌}
+use Rattle.std.proofs.Common.{◌≡◌, ℕ, List, [], ◌∷◌, length, map, sum, Bool, true, Option, None, Some, Result, Ok, Err, IfOk, inr, vec_len, refl, sym, ap, subst, ◌∙◌, arith}
 use Rattle.std.proofs.lemmas.List.{length-map}
 use Rattle.std.proofs.lemmas.List.Elements.{All-map}
+use Rattle.std.specs.Io.KnownBytes.{Appends}
 use Rattle.adp_model.specs.PosedProblem.{PosedProblem, axiom_cell}
 use Rattle.adp_model.specs.Answers.{IsAnswer}
 use Rattle.adp_model.specs.Demand.{IsDemandedCount}
-use Rattle.verdicts.specs.Command.{Mode, Replay, Command}
+use Rattle.verdicts.specs.declared.command.Mode.{Mode}
+use Rattle.verdicts.specs.declared.command.Mode.TheVariants.{Replay}
+use Rattle.verdicts.specs.Command.{Command}
 use Rattle.evaluators.specs.declared.finished.Finished.{Finished}
 use Rattle.evaluators.specs.declared.finished.RunNote.{RunNote}
 use Rattle.evaluators.specs.Runs.{IsFinished, IsNoteOf, GrowsByNote, HaveAllEnded, wins_of, moves_of, ended_of}
-use Rattle.evaluators.specs.Schedules.{AreScheduled}
+use Rattle.evaluators.specs.Schedules.{HasKeptSchedule}
+use Rattle.report.specs.declared.fault.Fault.{Fault}
+use Rattle.report.specs.declared.fault.Fault.TheVariants as faults
 use Rattle.adp_main.specs.RunNotes.{AddsNotes, HaveRun, IsNoteFor}
-use Rattle.adp_main.specs.Writing.{HasRun}
+use Rattle.adp_main.specs.Writing.{IsReportWritten, IsRunFor, IsRunWith, IsWordEnding}
 
 -- a problem has one number of demanded cells
 abbrev pub CountsAgree : Type 0
@@ -43,42 +48,106 @@ is_made p seed finished done = record {
   ended = refl;
 }
 
-have_ended : (finished : Finished) (note : RunNote) → note.ended ≡ map ended_of finished.machines.items
-    → HaveAllEnded finished → All (λ ended. ended ≡ true) note.ended
-have_ended finished note is all =
-    subst (All (λ ended. ended ≡ true)) (sym is) (All-map (λ ended. ended ≡ true) ended_of finished.machines.items all)
+-- machines that have all ended have run as each mode runs them that follows no schedule
+all_ended : (mode : Mode) → (mode ≡ Replay → ⊥) → (schedule wins moves : List ℕ) (finished : Finished)
+    → HaveAllEnded finished → HaveRun mode schedule wins moves (map ended_of finished.machines.items)
+all_ended Replay free schedule wins moves finished all = absurd (free refl)
+all_ended mode free schedule wins moves finished all =
+    All-map (λ end. end ≡ true) ended_of finished.machines.items all
 
-have_run : (mode : Mode) (schedule : List ℕ) (p : PosedProblem) (seed : ℕ) (finished : Finished) (note : RunNote)
-    → IsNoteOf p seed finished note → HasRun mode schedule finished → HaveRun mode schedule note
-have_run Replay schedule p seed finished note is kept =
-    subst (λ (it : List ℕ × List ℕ × List Bool). AreScheduled schedule it.0 it.1 it.2)
-    (λ i. (sym is.wins i, sym is.moves i, sym is.ended i)) kept
-have_run mode schedule p seed finished note is all = have_ended finished note is.ended all
+-- what is known of a call that ran evaluators
+pub ran_freely : {E : Type 0} (command : Command) (p : PosedProblem) (seed workers : ℕ)
+    → (command.mode ≡ Replay → ⊥) → seed ≡ command.seed → workers ≡ command.workers
+    → (result : Result Finished E) → IfOk result (IsFinished p seed)
+    → IfOk result (λ finished. vec_len finished.machines ≡ workers) → IfOk result HaveAllEnded
+    → IfOk result (IsRunFor command p)
+ran_freely command p seed workers free seeded each (Ok finished) done machines all = record {
+  is_finished = subst (λ (seed : ℕ). IsFinished p seed finished) seeded done;
+  machines = machines ∙ each;
+  run = all_ended command.mode free command.schedule finished.wins.items (map moves_of finished.machines.items) finished
+      all;
+}
+ran_freely command p seed workers free seeded each (Err error) done machines all = tt
 
-module _ (agree : CountsAgree) (command : Command) (schedule : List ℕ) (p : PosedProblem) (finished : Finished)
-    (done : IsFinished p command.seed finished) (machines : length finished.machines.items ≡ command.workers)
-    (run : HasRun command.mode schedule finished) where
-  note_for : (note : RunNote) → IsNoteOf p command.seed finished note → IsNoteFor command schedule p note
+pub followed : {E : Type 0} (command : Command) (p : PosedProblem) (seed workers : ℕ) (schedule : List ℕ)
+    → command.mode ≡ Replay → seed ≡ command.seed → workers ≡ command.workers → schedule ≡ command.schedule
+    → (result : Result Finished E) → IfOk result (IsFinished p seed)
+    → IfOk result (λ finished. vec_len finished.machines ≡ workers) → IfOk result (HasKeptSchedule schedule)
+    → IfOk result (IsRunFor command p)
+followed command p seed workers schedule replay seeded each same (Ok finished) done machines kept = record {
+  is_finished = subst (λ (seed : ℕ). IsFinished p seed finished) seeded done;
+  machines = machines ∙ each;
+  run = subst (λ (it : Mode × List ℕ). HaveRun it.0 it.1 finished.wins.items (map moves_of finished.machines.items)
+      (map ended_of finished.machines.items)) (λ i. (sym replay i, same i)) kept;
+}
+followed command p seed workers schedule replay seeded each same (Err error) done machines kept = tt
+
+module _ (agree : CountsAgree) (command : Command) (p : PosedProblem) (finished : Finished)
+    (ran : IsRunFor command p finished) where
+  machines : length finished.machines.items ≡ command.workers
+  machines = omega (arith, finished.machines.ok.0, ran.machines)
+
+  note_for : (note : RunNote) → IsNoteOf p command.seed finished note → IsNoteFor command p note
   note_for note is = record {
     word = is.word;
     algebra = is.algebra;
     seed = is.seed_is;
-    answer = subst (λ a. IsAnswer p (axiom_cell p) a) (sym is.answer) done.answer;
+    answer = subst (λ a. IsAnswer p (axiom_cell p) a) (sym is.answer) ran.is_finished.answer;
     cells = is.cells;
     wins = agree p (sum note.wins) note.cells
-        (subst (λ (wins : List ℕ). IsDemandedCount p (sum wins)) (sym is.wins) done.wins_sum) is.cells;
-    wins_each = ap length (is.wins ∙ done.wins_are) ∙ length-map finished.machines.items wins_of ∙ machines;
+        (subst (λ (wins : List ℕ). IsDemandedCount p (sum wins)) (sym is.wins) ran.is_finished.wins_sum) is.cells;
+    wins_each = ap length (is.wins ∙ ran.is_finished.wins_are) ∙ length-map finished.machines.items wins_of ∙ machines;
     moves_each = ap length is.moves ∙ length-map finished.machines.items moves_of ∙ machines;
     ended_each = ap length is.ended ∙ length-map finished.machines.items ended_of ∙ machines;
-    run = have_run command.mode schedule p command.seed finished note is run;
+    run = subst (λ (it : List ℕ × List ℕ × List Bool). HaveRun command.mode command.schedule it.0 it.1 it.2)
+        (λ i. (sym is.wins i, sym is.moves i, sym is.ended i)) ran.run;
   }
 
-  -- what the gate was told is the note of a run with these wins
-  pub noted : (E : Type 0) (done' : Unit {0}) (old new : Option (List RunNote))
-      → GrowsByNote {E = E} p command.seed finished (Ok done') old new
-      → (note : RunNote) × IsNoteFor command schedule p note × (note.wins ≡ finished.wins.items)
-      × AddsNotes old new (note ∷ [])
-  noted E done' None new grows =
+  -- a run has a note
+  note_made : (report bytes : List ℕ) → bytes ≡ report
+      → (noted : List RunNote) × IsRunWith command p finished report bytes noted
+  note_made report bytes same =
       let note = made_note p command.seed finished in
-      (note, note_for note (is_made p command.seed finished done), refl, grows)
-  noted E done' (Some old) new (note, is, grew) = (note, note_for note is, is.wins, grew)
+      (note ∷ [], (same, note, refl, note_for note (is_made p command.seed finished ran.is_finished), refl))
+
+  -- what the gate was told is the note of the run
+  note_told : (E : Type 0) (done : Unit {0}) (report bytes : List ℕ) → bytes ≡ report → (old new : Option (List RunNote))
+      → GrowsByNote {E = E} p command.seed finished (Ok done) old new
+      → (noted : List RunNote) × IsRunWith command p finished report bytes noted × AddsNotes old new noted
+  note_told E done report bytes same None new grows =
+      let made = note_made report bytes same in
+      (made.0, made.1, grows)
+  note_told E done report bytes same (Some old) new (note, is, grew) =
+      (note ∷ [], (same, note, refl, note_for note is, is.wins), grew)
+
+  -- the report was written whole and its run noted
+  pub run_written : (E : Type 0) (done : Unit {0}) (seed : ℕ) → seed ≡ command.seed → (report : List ℕ)
+      (old new : Option (List RunNote)) (held held' : Option (List ℕ))
+      → GrowsByNote {E = E} p seed finished (Ok done) old new → Appends held held' report → IsWordEnding (IsRunWith command p finished report) (Ok done) old new held held'
+  run_written E done seed seeded report old new held held' grows whole =
+      let told = note_told E done report report refl old new
+      (subst (λ (seed : ℕ). GrowsByNote {E = E} p seed finished (Ok done) old new) seeded grows) in
+      (report, told.0, told.1, told.2, whole)
+
+  -- the report was not written whole
+  pub run_unwritten : (report : List ℕ) (fault : Fault) (runs : Option (List RunNote)) (held held' : Option (List ℕ))
+      → IsReportWritten (Err fault) held held' report
+      → IsWordEnding (IsRunWith command p finished report) (Err fault) runs runs held held'
+  run_unwritten report faults.Write runs held held' part =
+      let made = note_made report report refl in
+      (refl, report, made.0, made.1, part)
+  run_unwritten report faults.Usage runs held held' h = absurd h
+  run_unwritten report faults.Read runs held held' h = absurd h
+  run_unwritten report faults.TooLong runs held held' h = absurd h
+  run_unwritten report (faults.Text fault) runs held held' h = absurd h
+  run_unwritten report (faults.Grammar fault) runs held held' h = absurd h
+  run_unwritten report (faults.Limit word fault) runs held held' h = absurd h
+  run_unwritten report faults.Memory runs held held' h = absurd h
+
+  -- memory ran out when the gate was told
+  pub run_untold : (report : List ℕ) (old new : Option (List RunNote)) (held held' : Option (List ℕ)) → new ≡ old
+      → Appends held held' report
+      → IsWordEnding (IsRunWith command p finished report) (Err faults.Memory) old new held held'
+  run_untold report old new held held' untold whole =
+      let made = note_made report report refl in
+      (untold, inr (report, made.0, made.1, whole))

@@ -20,7 +20,8 @@ use Rattle.adp_main.specs.Posed.{posed_words}
 use Rattle.report.specs.Faults.{HasShortName}
 
 module _ (command : Command) where
-  reports_are : (grammar : Grammar) (algebra number : ℕ) (words reports : List (List ℕ)) → AreReportsOf command number (posed_words grammar algebra words) reports → AreReports command grammar algebra number words reports
+  reports_are : (grammar : Grammar) (algebra number : ℕ) (words reports : List (List ℕ))
+      → AreReportsOf command number (posed_words grammar algebra words) reports → AreReports command grammar algebra number words reports
   reports_are grammar algebra number [] [] h = tt
   reports_are grammar algebra number [] (report ∷ reports) h = absurd h
   reports_are grammar algebra number (word ∷ words) [] h = absurd h
@@ -30,13 +31,16 @@ module _ (command : Command) where
   all_keep grammar algebra [] h = tt
   all_keep grammar algebra (word ∷ words) h = (h.0.limits, all_keep grammar algebra words h.1)
 
-  is_reported : (grammar : Grammar) (algebra : ℕ) (words : List (List ℕ)) (problems : List PosedProblem) → problems ≡ posed_words grammar algebra words → AllByRecursion IsAdmissible problems → (reports : List (List ℕ)) → AreReportsOf command 1 problems reports → IsReported command grammar algebra words reports
+  is_reported : (grammar : Grammar) (algebra : ℕ) (words : List (List ℕ)) (problems : List PosedProblem) → problems ≡ posed_words grammar algebra words
+      → AllByRecursion IsAdmissible problems → (reports : List (List ℕ)) → AreReportsOf command 1 problems reports
+      → IsReported command grammar algebra words reports
   is_reported grammar algebra words problems e admissible reports h = record {
     limits = all_keep grammar algebra words (subst (λ (ps : List PosedProblem). AllByRecursion IsAdmissible ps) e admissible);
     reports_are = reports_are grammar algebra 1 words reports (subst (λ (ps : List PosedProblem). AreReportsOf command 1 ps reports) e h);
   }
 
-  pub job_ending : (grammar : Grammar) (algebra : ℕ) (words : List (List ℕ)) (problems : List PosedProblem) → problems ≡ posed_words grammar algebra words → AllByRecursion IsAdmissible problems → (result : Result (Unit {0}) Fault) (old new : Option (List ℕ))
+  pub job_ending : (grammar : Grammar) (algebra : ℕ) (words : List (List ℕ)) (problems : List PosedProblem) → problems ≡ posed_words grammar algebra words
+      → AllByRecursion IsAdmissible problems → (result : Result (Unit {0}) Fault) (old new : Option (List ℕ))
       → (reports : List (List ℕ)) × AreReportsOf command 1 problems reports × HasWritten result old new reports → IsJobEnding command grammar algebra words result old new
   job_ending grammar algebra words problems e admissible (Ok x) old new h = (h.0, is_reported grammar algebra words problems e admissible h.0 h.1, h.2)
   job_ending grammar algebra words problems e admissible (Err faults.Write) old new h = (h.0, is_reported grammar algebra words problems e admissible h.0 h.1, h.2)
@@ -49,9 +53,11 @@ module _ (command : Command) where
   job_ending grammar algebra words problems e admissible (Err (faults.Limit word fault)) old new h = absurd h.2
 
   -- the reports of a checked job are the verdict
-  reports_verdict : (words : List (List ℕ)) (bytes : List ℕ) (job : CheckedJob) → IsCheckedJob words bytes command job → (reports : List (List ℕ)) → IsReported command job.checked.grammar job.checked.algebra job.words reports → IsVerdict words bytes (verdicts.Reports reports)
+  reports_verdict : (words : List (List ℕ)) (bytes : List ℕ) (job : CheckedJob) → IsCheckedJob words bytes command job → (reports : List (List ℕ))
+      → IsReported command job.checked.grammar job.checked.algebra job.words reports → IsVerdict words bytes (verdicts.Reports reports)
   reports_verdict words bytes job asked reports h =
-      let there = subst (λ (ws : List (List ℕ)). IsReported command asked.0.grammar job.checked.algebra ws reports) asked.4 (subst (λ (g : Grammar). IsReported command g job.checked.algebra job.words reports) asked.3 h) in
+      let there = subst (λ (ws : List (List ℕ)). IsReported command asked.0.grammar job.checked.algebra ws reports) asked.4
+      (subst (λ (g : Grammar). IsReported command g job.checked.algebra job.words reports) asked.3 h) in
       inl (
         asked.0,
         job.checked.algebra,
@@ -61,7 +67,9 @@ module _ (command : Command) where
             there.reports_are,
       )
 
-  pub shows_part : (words : List (List ℕ)) (bytes : List ℕ) (job : CheckedJob) → IsCheckedJob words bytes command job → (result : Result (Unit {0}) Fault) (old new : Option (List ℕ)) → IsJobEnding command job.checked.grammar job.checked.algebra job.words result old new → IsErrOf result faults.Write → ShowsPart words bytes old new
+  pub shows_part : (words : List (List ℕ)) (bytes : List ℕ) (job : CheckedJob) → IsCheckedJob words bytes command job
+      → (result : Result (Unit {0}) Fault) (old new : Option (List ℕ)) → IsJobEnding command job.checked.grammar job.checked.algebra job.words result old new
+      → IsErrOf result faults.Write → ShowsPart words bytes old new
   shows_part words bytes job asked (Err faults.Write) old new h e = record { reports = h.0; is_verdict = reports_verdict words bytes job asked h.0 h.1; written = h.2 }
   shows_part words bytes job asked (Ok x) old new h e = cc
   shows_part words bytes job asked (Err faults.Usage) old new h e = cc
@@ -72,11 +80,14 @@ module _ (command : Command) where
   shows_part words bytes job asked (Err (faults.Limit word fault)) old new h e = cc
   shows_part words bytes job asked (Err faults.Memory) old new h e = cc
 
-  pub shows_first : (words : List (List ℕ)) (bytes : List ℕ) (job : CheckedJob) → IsCheckedJob words bytes command job → (old new : Option (List ℕ)) → IsJobEnding command job.checked.grammar job.checked.algebra job.words (Err faults.Memory) old new → ShowsFirst words bytes old new
+  pub shows_first : (words : List (List ℕ)) (bytes : List ℕ) (job : CheckedJob) → IsCheckedJob words bytes command job → (old new : Option (List ℕ))
+      → IsJobEnding command job.checked.grammar job.checked.algebra job.words (Err faults.Memory) old new → ShowsFirst words bytes old new
   shows_first words bytes job asked old new (inl none) = inl none
   shows_first words bytes job asked old new (inr h) = inr (h.0, h.2.0, reports_verdict words bytes job asked h.0 h.1, h.2.1)
 
-  pub first_of : (words : List (List ℕ)) (bytes : List ℕ) (job : CheckedJob) → IsCheckedJob words bytes command job → (result : Result (Unit {0}) Fault) (old new : Option (List ℕ)) → IsJobEnding command job.checked.grammar job.checked.algebra job.words result old new → IsErrOf result faults.Memory → ShowsFirst words bytes old new
+  pub first_of : (words : List (List ℕ)) (bytes : List ℕ) (job : CheckedJob) → IsCheckedJob words bytes command job
+      → (result : Result (Unit {0}) Fault) (old new : Option (List ℕ)) → IsJobEnding command job.checked.grammar job.checked.algebra job.words result old new
+      → IsErrOf result faults.Memory → ShowsFirst words bytes old new
   first_of words bytes job asked (Err faults.Memory) old new h e = shows_first words bytes job asked old new h
   first_of words bytes job asked (Err faults.Usage) old new h e = cc
   first_of words bytes job asked (Err faults.Read) old new h e = cc
@@ -87,11 +98,19 @@ module _ (command : Command) where
   first_of words bytes job asked (Err faults.Write) old new h e = cc
   first_of words bytes job asked (Err (faults.Limit word fault)) old new h e = cc
 
-  limit_verdict : (words : List (List ℕ)) (bytes : List ℕ) (job : CheckedJob) → IsCheckedJob words bytes command job → (word : ℕ) (fault : LimitFault) → IsFirstLimit job.checked.grammar job.checked.algebra 1 job.words word fault → IsVerdict words bytes (verdicts.Limit word fault)
-  limit_verdict words bytes job asked word fault h =
-      (asked.0, job.checked.algebra, asked.1, subst (λ (ws : List (List ℕ)). IsFirstLimit asked.0.grammar job.checked.algebra 1 ws word fault) asked.4 (subst (λ (g : Grammar). IsFirstLimit g job.checked.algebra 1 job.words word fault) asked.3 h))
+  limit_verdict : (words : List (List ℕ)) (bytes : List ℕ) (job : CheckedJob) → IsCheckedJob words bytes command job → (word : ℕ) (fault : LimitFault)
+      → IsFirstLimit job.checked.grammar job.checked.algebra 1 job.words word fault → IsVerdict words bytes (verdicts.Limit word fault)
+  limit_verdict words bytes job asked word fault h = (
+    asked.0,
+    job.checked.algebra,
+    asked.1,
+    subst (λ (ws : List (List ℕ)). IsFirstLimit asked.0.grammar job.checked.algebra 1 ws word fault) asked.4
+        (subst (λ (g : Grammar). IsFirstLimit g job.checked.algebra 1 job.words word fault) asked.3 h),
+  )
 
-  pub fault_of : (words : List (List ℕ)) (bytes : List ℕ) (job : CheckedJob) → IsCheckedJob words bytes command job → (result : Result (Unit {0}) Fault) (old new : Option (List ℕ)) → IsJobEnding command job.checked.grammar job.checked.algebra job.words result old new → IfErr result (λ fault. IfSome (fault_verdict fault) (λ verdict. IsVerdict words bytes verdict))
+  pub fault_of : (words : List (List ℕ)) (bytes : List ℕ) (job : CheckedJob) → IsCheckedJob words bytes command job
+      → (result : Result (Unit {0}) Fault) (old new : Option (List ℕ)) → IsJobEnding command job.checked.grammar job.checked.algebra job.words result old new
+      → IfErr result (λ fault. IfSome (fault_verdict fault) (λ verdict. IsVerdict words bytes verdict))
   fault_of words bytes job asked (Err (faults.Limit word fault)) old new h = limit_verdict words bytes job asked word fault h.0
   fault_of words bytes job asked (Ok x) old new h = tt
   fault_of words bytes job asked (Err faults.Write) old new h = tt
@@ -102,9 +121,12 @@ module _ (command : Command) where
   fault_of words bytes job asked (Err (faults.Text fault)) old new h = absurd h.2
   fault_of words bytes job asked (Err (faults.Grammar fault)) old new h = absurd h.2
 
-  pub verdict_of : (words : List (List ℕ)) (bytes : List ℕ) (job : CheckedJob) → IsCheckedJob words bytes command job → (result : Result (Unit {0}) Fault) (old new : Option (List ℕ)) → IsJobEnding command job.checked.grammar job.checked.algebra job.words result old new → IsOfVerdict (status_after result) → ShowsVerdict words bytes (status_after result) old new
+  pub verdict_of : (words : List (List ℕ)) (bytes : List ℕ) (job : CheckedJob) → IsCheckedJob words bytes command job
+      → (result : Result (Unit {0}) Fault) (old new : Option (List ℕ)) → IsJobEnding command job.checked.grammar job.checked.algebra job.words result old new
+      → IsOfVerdict (status_after result) → ShowsVerdict words bytes (status_after result) old new
   verdict_of words bytes job asked (Ok x) old new h of = record { verdict = verdicts.Reports h.0; is_verdict = reports_verdict words bytes job asked h.0 h.1; status_is = refl; written = h.2 }
-  verdict_of words bytes job asked (Err (faults.Limit word fault)) old new h of = record { verdict = verdicts.Limit word fault; is_verdict = limit_verdict words bytes job asked word fault h.0; status_is = refl; written = h.1 }
+  verdict_of words bytes job asked (Err (faults.Limit word fault)) old new h of =
+      record { verdict = verdicts.Limit word fault; is_verdict = limit_verdict words bytes job asked word fault h.0; status_is = refl; written = h.1 }
   verdict_of words bytes job asked (Err faults.Write) old new h of = absurd of
   verdict_of words bytes job asked (Err faults.Memory) old new h of = absurd of
   verdict_of words bytes job asked (Err faults.Usage) old new h of = absurd h.2
@@ -113,7 +135,8 @@ module _ (command : Command) where
   verdict_of words bytes job asked (Err (faults.Text fault)) old new h of = absurd h.2
   verdict_of words bytes job asked (Err (faults.Grammar fault)) old new h of = absurd h.2
 
-  pub grew_of : (grammar : Grammar) (algebra : ℕ) (words : List (List ℕ)) (result : Result (Unit {0}) Fault) (old new : Option (List ℕ)) → IsJobEnding command grammar algebra words result old new → (bytes : List ℕ) × Appends old new bytes
+  pub grew_of : (grammar : Grammar) (algebra : ℕ) (words : List (List ℕ)) (result : Result (Unit {0}) Fault) (old new : Option (List ℕ))
+      → IsJobEnding command grammar algebra words result old new → (bytes : List ℕ) × Appends old new bytes
   grew_of grammar algebra words (Ok x) old new h = (_, h.2)
   grew_of grammar algebra words (Err faults.Write) old new h = (_, h.2.2)
   grew_of grammar algebra words (Err faults.Memory) old new (inl none) = ([], none)
@@ -126,7 +149,8 @@ module _ (command : Command) where
   grew_of grammar algebra words (Err (faults.Grammar fault)) old new h = absurd h.2
 
   -- a fault of a checked job is none of its grammar
-  pub short_of : (grammar : Grammar) (algebra : ℕ) (words : List (List ℕ)) (result : Result (Unit {0}) Fault) (old new : Option (List ℕ)) → IsJobEnding command grammar algebra words result old new → IfErr result HasShortName
+  pub short_of : (grammar : Grammar) (algebra : ℕ) (words : List (List ℕ)) (result : Result (Unit {0}) Fault) (old new : Option (List ℕ))
+      → IsJobEnding command grammar algebra words result old new → IfErr result HasShortName
   short_of grammar algebra words (Ok x) old new h = tt
   short_of grammar algebra words (Err (faults.Grammar fault)) old new h = absurd h.2
   short_of grammar algebra words (Err faults.Usage) old new h = tt
@@ -138,12 +162,23 @@ module _ (command : Command) where
   short_of grammar algebra words (Err faults.Memory) old new h = tt
 
   -- the job was refused, and nothing was written
-  pub refused : (words : List (List ℕ)) (bytes : List ℕ) (fault : Fault) → IsJobRefusal words bytes fault → (old : Option (List ℕ)) → IsOfVerdict (status_after (Err fault)) → ShowsVerdict words bytes (status_after (Err fault)) old old
+  pub refused : (words : List (List ℕ)) (bytes : List ℕ) (fault : Fault) → IsJobRefusal words bytes fault → (old : Option (List ℕ))
+      → IsOfVerdict (status_after (Err fault)) → ShowsVerdict words bytes (status_after (Err fault)) old old
   refused words bytes (faults.Text fault) h old of = record { verdict = verdicts.Text fault; is_verdict = h; status_is = refl; written = Appends-nil old }
-  refused words bytes (faults.Grammar fault) h old of = record { verdict = verdicts.Grammar fault; is_verdict = h.0; status_is = refl; written = Appends-nil old }
+  refused words bytes (faults.Grammar fault) h old of = record { verdict = verdicts.Grammar fault; is_verdict = h; status_is = refl; written = Appends-nil old }
   refused words bytes faults.Memory h old of = absurd of
   refused words bytes faults.Usage h old of = absurd h
   refused words bytes faults.Read h old of = absurd h
   refused words bytes faults.Write h old of = absurd h
   refused words bytes faults.TooLong h old of = absurd h
   refused words bytes (faults.Limit word fault) h old of = absurd h
+
+  pub refusal_verdict : (words : List (List ℕ)) (bytes : List ℕ) (fault : Fault) → IsJobRefusal words bytes fault → IfSome (fault_verdict fault) (λ verdict. IsVerdict words bytes verdict)
+  refusal_verdict words bytes (faults.Text fault) h = h
+  refusal_verdict words bytes (faults.Grammar fault) h = h
+  refusal_verdict words bytes faults.Memory h = tt
+  refusal_verdict words bytes faults.Usage h = absurd h
+  refusal_verdict words bytes faults.Read h = absurd h
+  refusal_verdict words bytes faults.Write h = absurd h
+  refusal_verdict words bytes faults.TooLong h = absurd h
+  refusal_verdict words bytes (faults.Limit word fault) h = absurd h

@@ -5,7 +5,7 @@ use Rattle.adp_model.specs.declared.job.Job.{Job}
 use Rattle.adp_model.specs.declared.fault.LimitFault.{LimitFault}
 use Rattle.verdicts.specs.CheckableJobs.{AreCheckable}
 use Rattle.adp_model.specs.Checks.{IsChecked}
-use Rattle.verdicts.specs.Command.{Command, schedule_of}
+use Rattle.verdicts.specs.Command.{Command}
 use Rattle.adp_model.specs.PosedProblem.{PosedProblem}
 use Rattle.verdicts.specs.Verdict.{AsksUnder}
 use Rattle.evaluators.specs.declared.finished.RunNote.{RunNote}
@@ -65,19 +65,18 @@ checkable one_grammar one_algebra words bytes command checked asked (least, grea
           (λ i. (grammar i, number i)) passes,
     )
 
-pub runs_of : (words : List (List ℕ)) (bytes : List ℕ) (command : Command) (checked : CheckedJob) (schedule : List ℕ)
-    → IsCheckedJob words bytes command checked → schedule ≡ schedule_of words command
+pub runs_of : (words : List (List ℕ)) (bytes : List ℕ) (command : Command) (checked : CheckedJob)
+    → IsCheckedJob words bytes command checked
     → (status : Status) (old new : Option (List RunNote)) (held held' : Option (List ℕ))
-    → IsJobNoted command schedule (posed_words checked.checked.grammar checked.checked.algebra checked.words) status old
+    → IsJobNoted command (posed_words checked.checked.grammar checked.checked.algebra checked.words) status old
     new held held'
     → ShowsRuns words (Some bytes) status old new held held'
-runs_of words bytes command checked schedule asked same status old new held held' (inl none) = inl none
-runs_of words bytes command checked schedule asked same status old new held held' (inr noted) =
+runs_of words bytes command checked asked status old new held held' (inl none) = inl none
+runs_of words bytes command checked asked status old new held held' (inr noted) =
     let problems : posed_words checked.checked.grammar checked.checked.algebra checked.words
     ≡ posed_words asked.0.grammar checked.checked.algebra asked.0.words =
     λ i. posed_words (asked.3 i) checked.checked.algebra (asked.4 i) in
-    let here = subst (λ (it : List ℕ × List PosedProblem). AreNoted command it.0 it.1 status old new held held')
-    (λ i. (same i, problems i)) noted in
+    let here = subst (λ (it : List PosedProblem). AreNoted command it status old new held held') problems noted in
     inr (inl (
       bytes,
       refl,
@@ -85,7 +84,7 @@ runs_of words bytes command checked schedule asked same status old new held held
         job = asked.0;
         algebra = checked.checked.algebra;
         asked = asked.1;
-        noted = subst (λ (it : Command). AreNoted it (schedule_of words it)
+        noted = subst (λ (it : Command). AreNoted it
             (posed_words asked.0.grammar checked.checked.algebra asked.0.words) status old new held held') (sym asked.2)
             here;
       },

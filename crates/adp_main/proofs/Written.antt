@@ -1,6 +1,5 @@
 -- Reports that were written, and those that are still to come.
-use Rattle.std.proofs.Common.{◌≡◌, ℕ, zero, suc, ◌+◌, ◌<◌, List, [], ◌∷◌, ◌++◌, length, take, drop, get_or, Option, Result, Ok, Err, OnErr, OnOk, true, false, refl, sym, ap, subst, ◌∙◌, arith}
-use Rattle.std.specs.Result.{is_err}
+use Rattle.std.proofs.Common.{◌≡◌, ℕ, zero, suc, ◌+◌, ◌<◌, List, [], ◌∷◌, ◌++◌, length, take, drop, get_or, Option, refl, sym, ap, subst, ◌∙◌, arith}
 use Rattle.std.specs.List.{concat, AllByRecursion}
 use Rattle.std.specs.Io.KnownBytes.{Appends}
 use Rattle.std.proofs.KnownBytes.{Appends-trans}
@@ -13,14 +12,6 @@ use Rattle.verdicts.specs.Command.{Command}
 use Rattle.verdicts.specs.Verdict.{IsReportIn}
 use Rattle.adp_main.specs.Reporting.{AreReportsOf}
 
-pub on_err : {T E : Type 0} {P : Type 0} (r : Result T E) → is_err r ≡ true → OnErr r P → P
-on_err (Ok x) e h = cc
-on_err (Err x) e h = h
-
-pub on_ok : {T E : Type 0} {P : Type 0} (r : Result T E) → is_err r ≡ false → OnOk r P → P
-on_ok (Ok x) e h = h
-on_ok (Err x) e h = cc
-
 all_behind : (P : PosedProblem → Type 0) (k : ℕ) (ps : List PosedProblem) → AllByRecursion P ps → AllByRecursion P (drop k ps)
 all_behind P zero ps h = h
 all_behind P (suc k) [] h = tt
@@ -29,7 +20,8 @@ all_behind P (suc k) (p ∷ ps) h = all_behind P k ps h.1
 concat_more : (rs : List (List ℕ)) (report : List ℕ) → concat (rs ++ report ∷ []) ≡ concat rs ++ report
 concat_more rs report = concat-append rs (report ∷ []) ∙ ap (λ l. concat rs ++ l) (append-nil report)
 
-pub grew_more : (rs : List (List ℕ)) (report bytes : List ℕ) → bytes ≡ report → (old mid new : Option (List ℕ)) → Appends old mid (concat rs) → Appends mid new bytes → Appends old new (concat (rs ++ report ∷ []))
+pub grew_more : (rs : List (List ℕ)) (report bytes : List ℕ) → bytes ≡ report → (old mid new : Option (List ℕ)) → Appends old mid (concat rs)
+    → Appends mid new bytes → Appends old new (concat (rs ++ report ∷ []))
 grew_more rs report bytes e old mid new before here =
     subst (Appends old new) (ap (λ l. concat rs ++ l) e ∙ sym (concat_more rs report)) (Appends-trans old mid new (concat rs) bytes before here)
 
@@ -41,11 +33,12 @@ take_past (x ∷ a) b c (suc n) e = ap (λ l. x ∷ l) (take_past a b c n (omega
 -- each admissible word has a report that the command asks for
 abbrev pub AllReported : Command → Type 0
 AllReported command = (number : ℕ) (p : PosedProblem) → IsAdmissible p
-    → (report : List ℕ) × IsReportIn command.mode command.workers number p report
+    → (report : List ℕ) × IsReportIn command number p report
 
 module _ (command : Command) where
   -- reports of some problems, and of those behind them
-  joined : (number : ℕ) (ps qs : List PosedProblem) (rs ss : List (List ℕ)) → AreReportsOf command number ps rs → AreReportsOf command (number + length ps) qs ss → AreReportsOf command number (ps ++ qs) (rs ++ ss)
+  joined : (number : ℕ) (ps qs : List PosedProblem) (rs ss : List (List ℕ)) → AreReportsOf command number ps rs
+      → AreReportsOf command (number + length ps) qs ss → AreReportsOf command number (ps ++ qs) (rs ++ ss)
   joined number [] qs [] ss h k = let e : number + 0 ≡ number = omega arith in subst (λ n. AreReportsOf command n qs ss) e k
   joined number [] qs (r ∷ rs) ss h k = absurd h
   joined number (p ∷ ps) qs [] ss h k = absurd h
@@ -61,30 +54,34 @@ module _ (command : Command) where
       (first.0 ∷ others.0, (first.1, others.1))
 
   -- the reports of the first problems go on to reports of all
-  completed : AllReported command → (ps : List PosedProblem) (k : ℕ) → AllByRecursion IsAdmissible ps → (rs : List (List ℕ)) → AreReportsOf command 1 (take k ps) rs → (rest : List (List ℕ)) × AreReportsOf command 1 ps (rs ++ rest)
+  completed : AllReported command → (ps : List PosedProblem) (k : ℕ) → AllByRecursion IsAdmissible ps → (rs : List (List ℕ))
+      → AreReportsOf command 1 (take k ps) rs → (rest : List (List ℕ)) × AreReportsOf command 1 ps (rs ++ rest)
   completed each ps k admissible rs written =
       let rest = some_reports each (1 + length (take k ps)) (drop k ps) (all_behind IsAdmissible k ps admissible) in
       (rest.0, subst (λ qs. AreReportsOf command 1 qs (rs ++ rest.0)) (take-append-drop k ps) (joined 1 (take k ps) (drop k ps) rs rest.0 written rest.1))
 
   -- want of memory after the first reports
-  pub stopped : AllReported command → (ps : List PosedProblem) (k : ℕ) → AllByRecursion IsAdmissible ps → (rs : List (List ℕ)) → AreReportsOf command 1 (take k ps) rs → (old new : Option (List ℕ)) → Appends old new (concat rs)
+  pub stopped : AllReported command → (ps : List PosedProblem) (k : ℕ) → AllByRecursion IsAdmissible ps → (rs : List (List ℕ))
+      → AreReportsOf command 1 (take k ps) rs → (old new : Option (List ℕ)) → Appends old new (concat rs)
       → (reports : List (List ℕ)) × AreReportsOf command 1 ps reports × ((count : ℕ) × Appends old new (concat (take count reports)))
   stopped each ps k admissible rs written old new grew =
       let rest = completed each ps k admissible rs written in
       (rs ++ rest.0, rest.1, (length rs, subst (λ l. Appends old new (concat l)) (sym (take_at rs rest.0 (length rs) refl)) grew))
 
   -- one more report
-  pub one_more : (ps : List PosedProblem) (k : ℕ) (p : PosedProblem) → k < length ps → p ≡ get_or ps k p → (rs : List (List ℕ)) → AreReportsOf command 1 (take k ps) rs → (report : List ℕ) → IsReportIn command.mode command.workers (k + 1) p report
+  pub one_more : (ps : List PosedProblem) (k : ℕ) (p : PosedProblem) → k < length ps → p ≡ get_or ps k p → (rs : List (List ℕ))
+      → AreReportsOf command 1 (take k ps) rs → (report : List ℕ) → IsReportIn command (k + 1) p report
       → AreReportsOf command 1 (take (k + 1) ps) (rs ++ report ∷ [])
   one_more ps k p below is rs written report reported =
       let e : k + 1 ≡ 1 + length (take k ps) = omega (arith, length-take-le k ps (omega arith)) in
       let more : take (k + 1) ps ≡ take k ps ++ p ∷ [] = take_more ps k p below ∙ ap (λ q. take k ps ++ q ∷ []) (sym is) in
       subst (λ qs. AreReportsOf command 1 qs (rs ++ report ∷ [])) (sym more)
-      (joined 1 (take k ps) (p ∷ []) rs (report ∷ []) written (subst (λ n. IsReportIn command.mode command.workers n p report) e reported, tt))
+      (joined 1 (take k ps) (p ∷ []) rs (report ∷ []) written (subst (λ n. IsReportIn command n p report) e reported, tt))
 
   -- a write failed within the next report
-  pub broken : AllReported command → (ps : List PosedProblem) (k : ℕ) (p : PosedProblem) → k < length ps → p ≡ get_or ps k p → AllByRecursion IsAdmissible ps → (rs : List (List ℕ)) → AreReportsOf command 1 (take k ps) rs
-      → (report bytes : List ℕ) → IsReportIn command.mode command.workers (k + 1) p report → bytes ≡ report → (old mid new : Option (List ℕ)) → Appends old mid (concat rs) → AppendsProperPrefix mid new bytes
+  pub broken : AllReported command → (ps : List PosedProblem) (k : ℕ) (p : PosedProblem) → k < length ps → p ≡ get_or ps k p → AllByRecursion IsAdmissible ps
+      → (rs : List (List ℕ)) → AreReportsOf command 1 (take k ps) rs
+      → (report bytes : List ℕ) → IsReportIn command (k + 1) p report → bytes ≡ report → (old mid new : Option (List ℕ)) → Appends old mid (concat rs) → AppendsProperPrefix mid new bytes
       → (reports : List (List ℕ)) × AreReportsOf command 1 ps reports × AppendsProperPrefix old new (concat reports)
   broken each ps k p below is admissible rs written report bytes reported e old mid new before part =
       let rest = completed each ps (k + 1) admissible (rs ++ report ∷ []) (one_more ps k p below is rs written report reported) in

@@ -3,7 +3,5 @@ pub mod Faults
 pub mod Posed
 pub mod RunNotes
 pub mod Ending
-pub mod Commands
 pub mod Writing
-pub mod Making
 pub mod Reporting

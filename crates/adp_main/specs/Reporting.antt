@@ -34,11 +34,17 @@ IsCheckedJob words bytes command checked =
     (job : Job) × (asks : AsksUnder words bytes job checked.checked.algebra) × (asks.command ≡ command)
     × (checked.checked.grammar ≡ job.grammar) × (checked.words ≡ job.words)
 
--- the verdict is the fault of the text or of its grammar, with a short name; of want of memory nothing is said
+-- it is a fault of the text, or of its grammar with a short name, or want of memory
+abbrev pub IsJobFault : Fault → Type 0
+IsJobFault (faults.Text fault) = Unit {0}
+IsJobFault (faults.Grammar fault) = length fault.name ≤ 32
+IsJobFault faults.Memory = Unit {0}
+IsJobFault fault = ⊥
+
+-- the verdict is the fault of the text or of its grammar; of want of memory nothing is said
 abbrev pub IsJobRefusal : List (List ℕ) → List ℕ → Fault → Type 0
 IsJobRefusal words bytes (faults.Text fault) = IsVerdict words bytes (verdicts.Text fault)
-IsJobRefusal words bytes (faults.Grammar fault) =
-    IsVerdict words bytes (verdicts.Grammar fault) × (length fault.name ≤ 32)
+IsJobRefusal words bytes (faults.Grammar fault) = IsVerdict words bytes (verdicts.Grammar fault)
 IsJobRefusal words bytes faults.Memory = Unit {0}
 IsJobRefusal words bytes fault = ⊥
 
@@ -57,7 +63,7 @@ IsLimitOf grammar algebra words fault = ⊥
 abbrev pub AreReportsOf : asked.Command → ℕ → List PosedProblem → List (List ℕ) → Type 0
 AreReportsOf command number [] [] = Unit {0}
 AreReportsOf command number (problem ∷ problems) (report ∷ reports) =
-    IsReportIn command.mode command.workers number problem report × AreReportsOf command (number + 1) problems reports
+    IsReportIn command number problem report × AreReportsOf command (number + 1) problems reports
 AreReportsOf command number problems reports = ⊥
 
 -- what was written of these reports: all of them, a part that is not the whole, or the first of them

@@ -1,29 +1,31 @@
 -- What a gate was told of the evaluators that ran, beside what was written.
-use Rattle.std.specs.Prelude.{◌≡◌, ℕ, ◌+◌, ◌≤◌, ◌⊎◌, true, List, [], ◌∷◌, ◌++◌, length, take, sum, All, Option, None, Some, IfSome}
+use Rattle.std.specs.Prelude.{◌≡◌, ℕ, ◌+◌, ◌≤◌, ◌⊎◌, Bool, true, List, [], ◌∷◌, ◌++◌, length, take, sum, All, Option, None, Some, IfSome}
 use Rattle.std.specs.List.{concat}
 use Rattle.std.specs.Io.KnownBytes.{Appends}
 use Rattle.adp_model.specs.declared.job.Job.{Job}
 use Rattle.adp_model.specs.PosedProblem.{PosedProblem, axiom_cell}
 use Rattle.adp_model.specs.Answers.{IsAnswer}
 use Rattle.adp_model.specs.Demand.{IsDemandedCount}
-use Rattle.adp_model.specs.Report.{IsReport, IsWinsReport}
-use Rattle.adp_model.specs.BigReport.{made_problem}
-use Rattle.verdicts.specs.Command.{Mode, Best, Serial, Wins, Replay, Big, Command, IsCommand, schedule_of}
-use Rattle.verdicts.specs.Verdict.{AsksUnder}
+use Rattle.adp_model.specs.Report.{IsReport}
+use Rattle.adp_model.specs.BigReport.{made_problem, IsBigReport}
+use Rattle.verdicts.specs.declared.command.Mode.{Mode}
+use Rattle.verdicts.specs.declared.command.Mode.TheVariants.{Serial, Replay, Big}
+use Rattle.verdicts.specs.Command.{Command, IsCommand}
+use Rattle.verdicts.specs.Verdict.{AsksUnder, IsReportWith}
 use Rattle.evaluators.specs.declared.finished.RunNote.{RunNote}
 use Rattle.evaluators.specs.Schedules.{AreScheduled}
 use Rattle.adp_main.specs.declared.status.Status.{Status}
 use Rattle.adp_main.specs.declared.status.Status.TheVariants.{Done}
 use Rattle.adp_main.specs.Posed.{posed_words}
 
--- how far the machines of a run came: each has ended; or, in the order of a schedule, the first has ended, and each
--- other one made the steps of its entries
-abbrev pub HaveRun : Mode → List ℕ → RunNote → Type 0
-HaveRun Replay schedule note = AreScheduled schedule note.wins note.moves note.ended
-HaveRun mode schedule note = All (λ ended. ended ≡ true) note.ended
+-- how far the machines of a run came, of which this is told: each has ended; or, in the order of a schedule, the first
+-- has ended, and each other one made the steps of its entries
+abbrev pub HaveRun : Mode → List ℕ → List ℕ → List ℕ → List Bool → Type 0
+HaveRun Replay schedule wins moves ended = AreScheduled schedule wins moves ended
+HaveRun mode schedule wins moves ended = All (λ end. end ≡ true) ended
 
--- the note of the run for a problem that a command with this schedule asks for
-pub record IsNoteFor (command : Command) (schedule : List ℕ) (p : PosedProblem) (note : RunNote) : Type 0 where
+-- the note of the run for a problem that a command asks for
+pub record IsNoteFor (command : Command) (p : PosedProblem) (note : RunNote) : Type 0 where
   pub word : note.word ≡ p.word
   pub algebra : note.algebra ≡ p.algebra
   pub seed : note.seed ≡ command.seed
@@ -35,30 +37,28 @@ pub record IsNoteFor (command : Command) (schedule : List ℕ) (p : PosedProblem
   pub wins_each : length note.wins ≡ command.workers
   pub moves_each : length note.moves ≡ command.workers
   pub ended_each : length note.ended ≡ command.workers
-  pub run : HaveRun command.mode schedule note
-
--- the report of the word with this number, whose wins, where it tells them, are those of the note
-abbrev pub IsReportWith : Mode → ℕ → PosedProblem → RunNote → List ℕ → Type 0
-IsReportWith Best number p note report = IsReport number p report
-IsReportWith Serial number p note report = IsReport number p report
-IsReportWith Wins number p note report = IsWinsReport number p note.wins report
-IsReportWith Replay number p note report = IsWinsReport number p note.wins report
-IsReportWith Big number p note report = ⊥
+  pub run : HaveRun command.mode command.schedule note.wins note.moves note.ended
 
 -- the report of the word with this number, and what was noted beside it: the note of the run, or nothing of one sweep
-abbrev pub IsRunOf : Command → List ℕ → ℕ → PosedProblem → List ℕ → List RunNote → Type 0
-IsRunOf command schedule number p report noted =
+abbrev pub IsRunOf : Command → ℕ → PosedProblem → List ℕ → List RunNote → Type 0
+IsRunOf command number p report noted =
     ((command.mode ≡ Serial) × (noted ≡ []) × IsReport number p report)
-    ⊎ (((command.mode ≡ Serial) → ⊥) × (note : RunNote) × (noted ≡ note ∷ []) × IsNoteFor command schedule p note
-    × IsReportWith command.mode number p note report)
+    ⊎ (((command.mode ≡ Serial) → ⊥) × (note : RunNote) × (noted ≡ note ∷ []) × IsNoteFor command p note
+    × IsReportWith command.mode number p note.wins report)
+
+-- the report of the word that is made, and the note of its run beside it
+abbrev pub IsBigRun : Command → List ℕ → List RunNote → Type 0
+IsBigRun command report noted =
+    IsBigReport command.seed command.size report
+    × (note : RunNote) × (noted ≡ note ∷ []) × IsNoteFor command (made_problem command.seed command.size) note
 
 -- the reports of these problems in order, the first of which has this number, and all that was noted beside them
-abbrev pub AreRunsOf : Command → List ℕ → ℕ → List PosedProblem → List (List ℕ) → List RunNote → Type 0
-AreRunsOf command schedule number [] [] notes = notes ≡ []
-AreRunsOf command schedule number (p ∷ ps) (report ∷ reports) notes =
+abbrev pub AreRunsOf : Command → ℕ → List PosedProblem → List (List ℕ) → List RunNote → Type 0
+AreRunsOf command number [] [] notes = notes ≡ []
+AreRunsOf command number (p ∷ ps) (report ∷ reports) notes =
     (noted : List RunNote) × (others : List RunNote) × (notes ≡ noted ++ others)
-    × IsRunOf command schedule number p report noted × AreRunsOf command schedule (number + 1) ps reports others
-AreRunsOf command schedule number problems reports notes = ⊥
+    × IsRunOf command number p report noted × AreRunsOf command (number + 1) ps reports others
+AreRunsOf command number problems reports notes = ⊥
 
 -- told notes grew by these
 abbrev pub AddsNotes : Option (List RunNote) → Option (List RunNote) → List RunNote → Type 0
@@ -67,21 +67,21 @@ AddsNotes (Some old) new notes = new ≡ Some (old ++ notes)
 
 -- the first of these problems were reported and noted: notes grew by theirs, each once its report was written whole; a
 -- run that is done reported and noted all, and wrote nothing else
-pub record AreNoted (command : Command) (schedule : List ℕ) (problems : List PosedProblem) (status : Status)
+pub record AreNoted (command : Command) (problems : List PosedProblem) (status : Status)
     (old new : Option (List RunNote)) (held held' : Option (List ℕ)) : Type 0 where
   pub count : ℕ
   pub reports : List (List ℕ)
   pub notes : List RunNote
-  pub runs : AreRunsOf command schedule 1 (take count problems) reports notes
+  pub runs : AreRunsOf command 1 (take count problems) reports notes
   pub noted : AddsNotes old new notes
   pub written : (more : List ℕ) × Appends held held' (concat reports ++ more)
   pub done : status ≡ Done → (length problems ≤ count) × Appends held held' (concat reports)
 
 -- nothing was noted, in a run that is not done; or the first of these problems were reported and noted
-abbrev pub IsJobNoted : Command → List ℕ → List PosedProblem → Status → Option (List RunNote) → Option (List RunNote)
+abbrev pub IsJobNoted : Command → List PosedProblem → Status → Option (List RunNote) → Option (List RunNote)
     → Option (List ℕ) → Option (List ℕ) → Type 0
-IsJobNoted command schedule problems status old new held held' =
-    ((new ≡ old) × (status ≡ Done → ⊥)) ⊎ AreNoted command schedule problems status old new held held'
+IsJobNoted command problems status old new held held' =
+    ((new ≡ old) × (status ≡ Done → ⊥)) ⊎ AreNoted command problems status old new held held'
 
 -- the words of a job were reported and noted
 pub record RunsOfJob (words : List (List ℕ)) (bytes : List ℕ) (status : Status) (old new : Option (List RunNote))
@@ -89,7 +89,7 @@ pub record RunsOfJob (words : List (List ℕ)) (bytes : List ℕ) (status : Stat
   pub job : Job
   pub algebra : ℕ
   pub asked : AsksUnder words bytes job algebra
-  pub noted : AreNoted asked.command (schedule_of words asked.command) (posed_words job.grammar algebra job.words)
+  pub noted : AreNoted asked.command (posed_words job.grammar algebra job.words)
       status old new held held'
 
 -- the run for the word that is made was noted
@@ -98,7 +98,7 @@ pub record RunOfMade (words : List (List ℕ)) (old new : Option (List RunNote))
   pub is_command : IsCommand words command
   pub makes : command.mode ≡ Big
   pub note : RunNote
-  pub is_note : IsNoteFor command [] (made_problem command.seed command.size) note
+  pub is_note : IsNoteFor command (made_problem command.seed command.size) note
   pub noted : AddsNotes old new (note ∷ [])
 
 -- what a run with this status told its gate: nothing, which is not done then; notes of the words of the job that its

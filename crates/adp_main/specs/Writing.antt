@@ -1,31 +1,28 @@
 -- How one word was reported.
-use Rattle.std.specs.Prelude.{◌≡◌, ℕ, ◌⊎◌, List, [], Option, Result, Ok, Err}
+use Rattle.std.specs.Prelude.{◌≡◌, ℕ, ◌⊎◌, List, [], ◌∷◌, Option, Result, Ok, Err, map, vec_len}
 use Rattle.std.specs.Io.KnownBytes.{Appends}
 use Rattle.adp_io.specs.Streams.{AppendsProperPrefix}
 use Rattle.adp_model.specs.PosedProblem.{PosedProblem}
-use Rattle.adp_model.specs.Report.{IsReport, IsWinsReport}
-use Rattle.verdicts.specs.Command.{Mode, Best, Serial, Wins, Replay, Big, Command}
-use Rattle.verdicts.specs.Verdict.{IsReportIn}
+use Rattle.verdicts.specs.Command.{Command}
 use Rattle.evaluators.specs.declared.finished.Finished.{Finished}
 use Rattle.evaluators.specs.declared.finished.RunNote.{RunNote}
-use Rattle.evaluators.specs.Runs.{HaveAllEnded}
-use Rattle.evaluators.specs.Schedules.{HasKeptSchedule}
+use Rattle.evaluators.specs.Runs.{IsFinished, ended_of, moves_of}
 use Rattle.report.specs.declared.fault.Fault.{Fault}
 use Rattle.report.specs.declared.fault.Fault.TheVariants as faults
-use Rattle.adp_main.specs.RunNotes.{AddsNotes, IsRunOf}
+use Rattle.adp_main.specs.RunNotes.{AddsNotes, HaveRun, IsNoteFor}
 
--- how far the machines came that a mode runs: each to its end, or in the order of the schedule
-abbrev pub HasRun : Mode → List ℕ → Finished → Type 0
-HasRun Replay schedule finished = HasKeptSchedule schedule finished
-HasRun mode schedule finished = HaveAllEnded finished
+-- what evaluators left that a command ran for this problem
+pub record IsRunFor (command : Command) (p : PosedProblem) (finished : Finished) : Type 0 where
+  pub is_finished : IsFinished p command.seed finished
+  pub machines : vec_len finished.machines ≡ command.workers
+  pub run : HaveRun command.mode command.schedule finished.wins.items (map moves_of finished.machines.items)
+      (map ended_of finished.machines.items)
 
--- the report of a run, with its wins where the mode tells them
-abbrev pub IsReportOfRun : Mode → ℕ → PosedProblem → Finished → List ℕ → Type 0
-IsReportOfRun Best number p finished report = IsReport number p report
-IsReportOfRun Serial number p finished report = IsReport number p report
-IsReportOfRun Wins number p finished report = IsWinsReport number p finished.wins.items report
-IsReportOfRun Replay number p finished report = IsWinsReport number p finished.wins.items report
-IsReportOfRun Big number p finished report = ⊥
+-- the bytes are this report, and what is noted is the note of this run
+abbrev pub IsRunWith : Command → PosedProblem → Finished → List ℕ → List ℕ → List RunNote → Type 0
+IsRunWith command p finished report bytes noted =
+    (bytes ≡ report) × (note : RunNote) × (noted ≡ note ∷ []) × IsNoteFor command p note
+    × (note.wins ≡ finished.wins.items)
 
 -- a report was written whole, or a part of it was
 abbrev pub IsReportWritten : Result (Unit {0}) Fault → Option (List ℕ) → Option (List ℕ) → List ℕ → Type 0
@@ -33,17 +30,17 @@ IsReportWritten (Ok written) held held' report = Appends held held' report
 IsReportWritten (Err faults.Write) held held' report = AppendsProperPrefix held held' report
 IsReportWritten (Err fault) held held' report = ⊥
 
--- how the word with this number was reported: its report was written whole, and noted unless memory ran out then; or a
--- part of it was written; or nothing, where memory ran out before
-abbrev pub IsWordEnding : Command → List ℕ → ℕ → PosedProblem → Result (Unit {0}) Fault → Option (List RunNote)
+-- how a word was reported that has such a report and such notes: the report was written whole, and noted unless memory
+-- ran out then; or a part of it was written; or nothing, where memory ran out before
+abbrev pub IsWordEnding : (List ℕ → List RunNote → Type 0) → Result (Unit {0}) Fault → Option (List RunNote)
     → Option (List RunNote) → Option (List ℕ) → Option (List ℕ) → Type 0
-IsWordEnding command schedule number p (Ok written) old new held held' =
-    (report : List ℕ) × (noted : List RunNote) × IsRunOf command schedule number p report noted
-    × AddsNotes old new noted × Appends held held' report
-IsWordEnding command schedule number p (Err faults.Write) old new held held' =
-    (new ≡ old) × (report : List ℕ) × IsReportIn command.mode command.workers number p report
+IsWordEnding is_run (Ok written) old new held held' =
+    (report : List ℕ) × (noted : List RunNote) × is_run report noted × AddsNotes old new noted
+    × Appends held held' report
+IsWordEnding is_run (Err faults.Write) old new held held' =
+    (new ≡ old) × (report : List ℕ) × (noted : List RunNote) × is_run report noted
     × AppendsProperPrefix held held' report
-IsWordEnding command schedule number p (Err faults.Memory) old new held held' =
+IsWordEnding is_run (Err faults.Memory) old new held held' =
     (new ≡ old) × (Appends held held' []
-    ⊎ ((report : List ℕ) × IsReportIn command.mode command.workers number p report × Appends held held' report))
-IsWordEnding command schedule number p (Err fault) old new held held' = ⊥
+    ⊎ ((report : List ℕ) × (noted : List RunNote) × is_run report noted × Appends held held' report))
+IsWordEnding is_run (Err fault) old new held held' = ⊥

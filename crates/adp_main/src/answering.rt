@@ -1,10 +1,8 @@
-ghost use Rattle.std.specs.Prelude.{◌≡◌, ◌≤◌, ℕ, map, length, Some, IfErr, IfSome, IsErrOf};
-ghost use Rattle.std.specs.String.{string_bytes};
+ghost use Rattle.std.specs.Prelude.{◌≡◌, ◌≤◌, ℕ, length, Some, IfErr, IfSome, IsErrOf};
 ghost use Rattle.verdicts.specs.Verdict.{IsVerdict, greatest_length};
 ghost use Rattle.verdicts.specs.CheckableJobs.{AreCheckable};
-ghost use Rattle.verdicts.specs.Command.{ReadsJob, schedule_of};
+ghost use Rattle.verdicts.specs.Command.{ForWordsOf, ReadsJob};
 ghost use Rattle.adp_model.specs.declared.fault.LimitFault.{LimitFault};
-ghost use Rattle.adp_main.specs.Commands.{IsCommandOf, asked_command};
 ghost use Rattle.adp_main.specs.Posed.{posed_words};
 ghost use Rattle.adp_main.specs.RunNotes.{IsJobNoted, ShowsRuns};
 ghost use Rattle.adp_io.specs.Causes.{RisesWhere};
@@ -17,85 +15,76 @@ ghost use Rattle.report.specs.Faults.{HasShortName};
 
 use crate::checking::{CheckedJob, checked_job};
 use crate::limits::judge_words;
-use crate::schedule::schedule_entries;
-use crate::words::Command;
 use crate::writing::write_words;
 use adp_io::Sink;
 use evaluators::Gate;
 use report::Fault;
 use std::alloc::Global;
 use std::thread::Threads;
-use verdicts::laws::{asked_grammar_is_unique, command_is_unique};
+use verdicts::Command;
+use verdicts::laws::asked_grammar_is_unique;
 
 /// Reads the job that the bytes spell, checks its grammar, judges its words, and writes their reports, each by one
 /// `write_whole`. The gate is told of each run of evaluators.
 pub(crate) fn answer_bytes<R: Threads + Sync, K: Sink, G: Gate>(
     rt: &R,
     alloc: Global,
-    words: &[String],
-    command: &Command,
+    command: &Command<'_>,
     bytes: &[u8],
     out: &mut K,
     gate: &mut G,
 ) -> Result<(), Fault>
-    requires command { IsCommandOf (map string_bytes words.now) command.now }
-    requires reads { ReadsJob (asked_command command.now).mode }
+    requires reads { ReadsJob command.now.mode }
     requires fits { length bytes.now ≤ greatest_length }
     ensures usage { IsErrOf result Fault.Usage → ⊥ }
     ensures read { IsErrOf result Fault.Read → ⊥ }
     ensures writing { OutputAfter K.held K.faults out.old out.new (status_after result) }
     ensures short { IfErr result HasShortName }
-    ensures fault { IfErr result (λ fault. IfSome (fault_verdict fault)
-        (λ verdict. IsVerdict (map string_bytes words.now) bytes.now verdict)) }
-    ensures checkable { (word : ℕ) (limit : LimitFault) → IsErrOf result (Fault.Limit word limit)
-        → AreCheckable (map string_bytes words.now) bytes.now }
-    ensures verdict { IsOfVerdict (status_after result) → ShowsVerdict (map string_bytes words.now) bytes.now
-        (status_after result) (K.held out.old) (K.held out.new) }
-    ensures part { IsErrOf result Fault.Write → ShowsPart (map string_bytes words.now) bytes.now
-        (K.held out.old) (K.held out.new) }
-    ensures first { IsErrOf result Fault.Memory → ShowsFirst (map string_bytes words.now) bytes.now
-        (K.held out.old) (K.held out.new) }
-    ensures noted { ShowsRuns (map string_bytes words.now) (Some bytes.now) (status_after result)
-        (G.runs gate.old) (G.runs gate.new) (K.held out.old) (K.held out.new) }
+    ensures fault { ForWordsOf command.now (λ words. IfErr result (λ fault. IfSome (fault_verdict fault)
+        (λ verdict. IsVerdict words bytes.now verdict))) }
+    ensures checkable { ForWordsOf command.now (λ words. (word : ℕ) (limit : LimitFault)
+        → IsErrOf result (Fault.Limit word limit) → AreCheckable words bytes.now) }
+    ensures verdict { ForWordsOf command.now (λ words. IsOfVerdict (status_after result)
+        → ShowsVerdict words bytes.now (status_after result) (K.held out.old) (K.held out.new)) }
+    ensures part { ForWordsOf command.now (λ words. IsErrOf result Fault.Write
+        → ShowsPart words bytes.now (K.held out.old) (K.held out.new)) }
+    ensures first { ForWordsOf command.now (λ words. IsErrOf result Fault.Memory
+        → ShowsFirst words bytes.now (K.held out.old) (K.held out.new)) }
+    ensures noted { ForWordsOf command.now (λ words. ShowsRuns words (Some bytes.now) (status_after result)
+        (G.runs gate.old) (G.runs gate.new) (K.held out.old) (K.held out.new)) }
 {
-    command_is_unique();
     asked_grammar_is_unique();
-    let job = checked_job(alloc, words, command, bytes)?;
+    let job = checked_job(alloc, command, bytes)?;
     job.checked.passes();
-    write_job(rt, alloc, words, command, &job, out, gate)
+    write_job(rt, alloc, command, &job, out, gate)
 }
 
 /// Writes the reports of the words of a checked job, where each word keeps the limits.
 fn write_job<R: Threads + Sync, K: Sink, G: Gate>(
     rt: &R,
     alloc: Global,
-    words: &[String],
-    command: &Command,
+    command: &Command<'_>,
     job: &CheckedJob,
     out: &mut K,
     gate: &mut G,
 ) -> Result<(), Fault>
-    requires mode { ReadsJob (asked_command command.now).mode }
-    requires some { 1 ≤ (asked_command command.now).workers }
-    requires few_workers { (asked_command command.now).workers ≤ 32 }
+    requires mode { ReadsJob command.now.mode }
     requires few { length job.now.words ≤ 65536 }
     ensures told { SameTold (K.held out.old) (K.held out.new) }
     ensures faults { RisesWhere (K.faults out.old) (K.faults out.new) (status_after result ≡ WriteFault) }
     ensures untouched { IsBeforeWriting (status_after result) → out.new ≡ out.old }
-    ensures ending { IsJobEnding (asked_command command.now) job.now.checked.grammar job.now.checked.algebra
+    ensures ending { IsJobEnding command.now job.now.checked.grammar job.now.checked.algebra
         job.now.words result (K.held out.old) (K.held out.new) }
-    ensures noted { IsJobNoted (asked_command command.now) (schedule_of (map string_bytes words.now)
-        (asked_command command.now)) (posed_words job.now.checked.grammar job.now.checked.algebra job.now.words)
+    ensures noted { IsJobNoted command.now
+        (posed_words job.now.checked.grammar job.now.checked.algebra job.now.words)
         (status_after result) (G.runs gate.old) (G.runs gate.new) (K.held out.old) (K.held out.new) }
 {
-    let schedule = schedule_entries(alloc, words, command)?;
     let job_words = job.words.as_slice();
     let rows = judge_words(alloc, &job.checked, job_words)?;
     write_words(
         rt,
         alloc,
         command,
-        &schedule,
         &job.checked,
         &rows,
         job_words,

@@ -1,20 +1,18 @@
 //! A job whose grammar passed its checks under the algebra that the command asks for.
-ghost use Rattle.std.specs.Prelude.{◌≡◌, ◌≤◌, map, length, IfOk, IfErr, IsTrue};
-ghost use Rattle.std.specs.String.{string_bytes};
-ghost use Rattle.verdicts.specs.Command.{ReadsJob};
+ghost use Rattle.std.specs.Prelude.{◌≡◌, ◌≤◌, length, IfOk, IfErr, IsTrue};
+ghost use Rattle.verdicts.specs.Command.{ForWordsOf, ReadsJob};
 ghost use Rattle.verdicts.specs.Verdict.{asked_name, greatest_length};
 ghost use Rattle.adp_model.specs.WellFormed.{is_name, is_well_formed};
-ghost use Rattle.adp_main.specs.Commands.{IsCommandOf, asked_command};
-ghost use Rattle.adp_main.specs.Reporting.{IsCheckedJob, IsJobRefusal};
+ghost use Rattle.adp_main.specs.Reporting.{IsCheckedJob, IsJobFault, IsJobRefusal};
 
 use crate::fault::{grammar_refusal, text_refusal};
-use crate::words::Command;
 use adp_model::laws::well_formed::{names_are_short_and_printable, parts_have_names};
 use adp_model::{Grammar, Sequence, Text};
 use grammar_check::{Checked, check};
 use grammar_text::read_text;
 use report::Fault;
 use std::alloc::{AllocError, Global};
+use verdicts::Command;
 
 /// The checked grammar and the words.
 #[derive(Drop)]
@@ -24,23 +22,18 @@ pub struct CheckedJob {
 }
 
 /// Reads the job that the bytes spell, and checks its grammar under the algebra that the command asks for.
-pub fn checked_job(
-    alloc: Global,
-    words: &[String],
-    command: &Command,
-    bytes: &[u8],
-) -> Result<CheckedJob, Fault>
-    requires command { IsCommandOf (map string_bytes words.now) command.now }
-    requires reads { ReadsJob (asked_command command.now).mode }
+pub fn checked_job(alloc: Global, command: &Command<'_>, bytes: &[u8]) -> Result<CheckedJob, Fault>
+    requires reads { ReadsJob command.now.mode }
     requires fits { length bytes.now ≤ greatest_length }
-    ensures job { IfOk result (IsCheckedJob (map string_bytes words.now) bytes.now (asked_command command.now)) }
+    ensures job { ForWordsOf command.now (λ words. IfOk result (IsCheckedJob words bytes.now command.now)) }
     ensures few_words { IfOk result (λ job. length job.words ≤ 65536) }
-    ensures refusal { IfErr result (IsJobRefusal (map string_bytes words.now) bytes.now) }
+    ensures fault { IfErr result IsJobFault }
+    ensures refusal { ForWordsOf command.now (λ words. IfErr result (IsJobRefusal words bytes.now)) }
 {
     names_are_short_and_printable();
     parts_have_names();
     let job = read_text(alloc, bytes).map_err(text_refusal)?;
-    let name = named_algebra(words, command, &job.grammar);
+    let name = named_algebra(command, &job.grammar);
     let name = Text::new(Vec::from_slice(alloc, name)?);
     let checked = check(alloc, job.grammar, &name).map_err(grammar_refusal)?;
     Ok(CheckedJob {
@@ -50,14 +43,14 @@ pub fn checked_job(
 }
 
 /// The name of the algebra that the command asks for, or of the grammar's first.
-fn named_algebra<'a>(words: &'a [String], command: &Command, grammar: &'a Grammar) -> &'a [u8]
-    requires command { IsCommandOf (map string_bytes words.now) command.now }
+fn named_algebra<'a>(command: &Command<'a>, grammar: &'a Grammar) -> &'a [u8]
     requires formed { IsTrue (is_well_formed grammar.now) }
-    ensures asked { result.now ≡ asked_name (map string_bytes words.now) (asked_command command.now) grammar.now }
+    ensures asked { result.now ≡ asked_name command.now grammar.now }
     ensures name { IsTrue (is_name result.now) }
 {
+    command.in_range();
     match command.algebra {
-        Some(place) => words[place].as_bytes(),
+        Some(name) => name.as_bytes(),
         None => grammar.algebras.as_slice()[0].name.bytes(),
     }
 }

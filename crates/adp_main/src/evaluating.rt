@@ -1,84 +1,81 @@
-//! Reports by evaluators that share a table.
-ghost use Rattle.std.specs.Prelude.{◌≡◌, ◌≤◌, ◌++◌, IfOk, MatchBool, vec_len};
-ghost use Rattle.verdicts.specs.Command.{ReadsJob};
-ghost use Rattle.verdicts.specs.Command as asked;
-ghost use Rattle.adp_model.specs.Report.{wins_line};
+//! What the modes share that answer by evaluators.
+ghost use Rattle.std.specs.Prelude.{◌≡◌, ◌++◌, IfOk, ℕ};
+ghost use Rattle.verdicts.specs.declared.command.Mode.TheVariants.{Replay};
+ghost use Rattle.adp_io.specs.Causes.{RisesWhere};
+ghost use Rattle.adp_io.specs.Streams.{SameTold};
+ghost use Rattle.adp_model.specs.Report.{IsReport, IsWinsReport, wins_line};
 ghost use Rattle.evaluators.specs.Runs.{IsFinished};
-ghost use Rattle.adp_main.specs.Commands.{asked_command, mode_of};
-ghost use Rattle.adp_main.specs.Writing.{HasRun, IsReportOfRun};
+ghost use Rattle.adp_main.specs.Faults.{status_after};
+ghost use Rattle.adp_main.specs.Writing.{IsRunFor, IsRunWith, IsWordEnding};
+ghost use Rattle.adp_main.specs.declared.status.Status.TheVariants.{WriteFault};
 
 use crate::reporting::answered_report;
-use crate::words::{Command, Mode};
+use crate::writing::write_report;
+use adp_io::Sink;
 use adp_model::Problem;
+use adp_model::laws::demand::demanded_cells_are_unique;
+use command_words::schedule_entries;
 use evaluators::{Finished, Gate, run_schedule, run_workers};
-use report::push_wins;
+use report::{Fault, push_wins};
 use std::alloc::{AllocError, Global};
 use std::thread::Threads;
+use verdicts::Command;
 
-impl Mode {
-    /// Whether words are answered by evaluators, and not by one sweep.
-    pub(crate) fn runs_evaluators(self) -> bool
-        ensures { MatchBool result (mode_of self ≡ asked.Serial → ⊥) (mode_of self ≡ asked.Serial) }
-    {
-        match self {
-            Mode::Serial => false,
-            Mode::Best | Mode::Wins | Mode::Replay | Mode::Big => true,
-        }
-    }
-
-    /// Whether a job is read, and no word made.
-    pub fn reads_job(self) -> bool
-        ensures { MatchBool result (ReadsJob (mode_of self)) (mode_of self ≡ asked.Big) }
-    {
-        match self {
-            Mode::Big => false,
-            Mode::Best | Mode::Serial | Mode::Wins | Mode::Replay => true,
-        }
-    }
-}
-
-/// Solves the problem by evaluators: in threads, where the gate is passed, or in the order of the schedule.
-pub(crate) fn evaluate<'a, R: Threads + Sync, G: Gate>(
+/// Solves the problem by evaluators on threads, each of which runs to its end. The gate is passed.
+pub(crate) fn run_evaluators<'a, R: Threads + Sync, G: Gate>(
     rt: &R,
     alloc: Global,
-    command: &Command,
-    schedule: &[u8],
+    command: &Command<'_>,
     problem: &'a Problem<'a>,
     gate: &G,
 ) -> Result<Finished<'a>, AllocError>
-    requires some { 1 ≤ (asked_command command.now).workers }
-    requires few_workers { (asked_command command.now).workers ≤ 32 }
-    ensures finished { IfOk result (IsFinished problem.now (asked_command command.now).seed) }
-    ensures machines { IfOk result (λ finished. vec_len finished.machines ≡ (asked_command command.now).workers) }
-    ensures run { IfOk result (HasRun (asked_command command.now).mode schedule.now) }
+    requires { command.now.mode ≡ Replay → ⊥ }
+    ensures { IfOk result (IsRunFor command.now problem.now) }
 {
-    match command.mode {
-        Mode::Replay => run_schedule(alloc, problem, command.workers, command.seed, schedule),
-        Mode::Best | Mode::Serial | Mode::Wins | Mode::Big => {
-            run_workers(rt, alloc, problem, command.workers, command.seed, gate)
-        }
-    }
+    command.in_range();
+    run_workers(rt, alloc, problem, command.workers, command.seed, gate)
 }
 
-/// The report of a word, with the wins of its evaluators where the mode tells them.
-pub(crate) fn evaluated_report(
+/// Solves the problem by evaluators that are stepped in the order of the command's schedule.
+pub(crate) fn follow_schedule<'a>(
     alloc: Global,
-    command: &Command,
+    command: &Command<'_>,
+    problem: &'a Problem<'a>,
+) -> Result<Finished<'a>, AllocError>
+    requires { command.now.mode ≡ Replay }
+    ensures { IfOk result (IsRunFor command.now problem.now) }
+{
+    command.in_range();
+    let schedule = schedule_entries(alloc, command)?;
+    run_schedule(alloc, problem, command.workers, command.seed, &schedule)
+}
+
+/// The report of a word that evaluators solved.
+pub(crate) fn plain_report(
+    alloc: Global,
     number: u32,
     problem: &Problem<'_>,
     finished: &Finished<'_>,
 ) -> Result<Vec<u8>, AllocError>
-    requires mode { ReadsJob (asked_command command.now).mode }
-    requires finished { IsFinished problem.now (asked_command command.now).seed finished.now }
-    ensures { IfOk result (λ report. IsReportOfRun (asked_command command.now).mode number problem.now finished.now
-        report.items) }
+    requires { (seed : ℕ) × IsFinished problem.now seed finished.now }
+    ensures { IfOk result (λ report. IsReport number problem.now report.items) }
 {
     let closed = &finished.closed;
-    let report = answered_report(alloc, number, problem, closed, closed.len())?;
-    match command.mode {
-        Mode::Wins | Mode::Replay => with_wins(report, &finished.wins),
-        Mode::Best | Mode::Serial | Mode::Big => Ok(report),
-    }
+    answered_report(alloc, number, problem, closed, closed.len())
+}
+
+/// The report of a word that evaluators solved, with the line of their wins behind it.
+pub(crate) fn wins_report(
+    alloc: Global,
+    number: u32,
+    problem: &Problem<'_>,
+    finished: &Finished<'_>,
+) -> Result<Vec<u8>, AllocError>
+    requires { (seed : ℕ) × IsFinished problem.now seed finished.now }
+    ensures { IfOk result (λ report. IsWinsReport number problem.now finished.now.wins.items report.items) }
+{
+    let report = plain_report(alloc, number, problem, finished)?;
+    with_wins(report, &finished.wins)
 }
 
 /// The report with the line of the wins behind it.
@@ -87,4 +84,25 @@ fn with_wins(mut report: Vec<u8>, wins: &[u64]) -> Result<Vec<u8>, AllocError>
 {
     push_wins(&mut report, wins)?;
     Ok(report)
+}
+
+/// Writes the report of a run by one `write_whole`, and tells the gate of the run once it is written.
+pub(crate) fn write_run<K: Sink, G: Gate>(
+    command: &Command<'_>,
+    problem: &Problem<'_>,
+    finished: &Finished<'_>,
+    report: &[u8],
+    out: &mut K,
+    gate: &mut G,
+) -> Result<(), Fault>
+    requires { IsRunFor command.now problem.now finished.now }
+    ensures told { SameTold (K.held out.old) (K.held out.new) }
+    ensures faults { RisesWhere (K.faults out.old) (K.faults out.new) (status_after result ≡ WriteFault) }
+    ensures ending { IsWordEnding (IsRunWith command.now problem.now finished.now report.now) result
+        (G.runs gate.old) (G.runs gate.new) (K.held out.old) (K.held out.new) }
+{
+    demanded_cells_are_unique();
+    write_report(out, report)?;
+    gate.finished(problem, command.seed, finished)?;
+    Ok(())
 }

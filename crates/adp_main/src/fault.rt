@@ -3,7 +3,6 @@ ghost use Rattle.adp_main.specs.Faults.{reading_fault, status_of};
 ghost use Rattle.adp_main.specs.Reporting.{grammar_refusal, text_refusal};
 
 use crate::status::Status;
-use crate::words;
 use adp_io::JobFault;
 use grammar_check::CheckError;
 use grammar_text::TextError;
@@ -52,16 +51,5 @@ pub(crate) fn grammar_refusal(error: CheckError) -> Fault
     match error {
         CheckError::Fault(fault) => Fault::Grammar(fault),
         CheckError::Memory => Fault::Memory,
-    }
-}
-
-impl From<words::Usage> for Fault {
-    ghost use Rattle.std.specs.Prelude.{◌≡◌};
-    ghost use Rattle.report.specs.declared.fault.Fault.TheVariants.{Usage};
-
-    ghost from_gives = { λ _ result. result ≡ Usage };
-
-    fn from(_: words::Usage) -> Fault {
-        Fault::Usage
     }
 }

@@ -3,23 +3,22 @@
 
 mod answering;
 mod behind_name;
+mod best;
 mod big;
 mod checking;
 mod evaluating;
 mod fault;
 mod limits;
+mod replay;
 mod reporting;
-mod schedule;
+mod serial;
 mod status;
-mod sweeping;
 mod top_call;
-mod words;
+mod wins;
 mod writing;
 
 pub use behind_name::words_behind_name;
 pub use checking::{CheckedJob, checked_job};
 pub use fault::{reading_fault, status_of};
-pub use schedule::schedule_entries;
 pub use status::Status;
 pub use top_call::run;
-pub use words::{Command, Mode, Usage, read_words};

@@ -9,8 +9,8 @@ use crate::answering::answer_bytes;
 use crate::big::answer_big;
 use crate::fault::{reading_fault, status_of};
 use crate::status::Status;
-use crate::words::read_words;
 use adp_io::{Sink, Source, read_job, write_whole};
+use command_words::{Usage, read_words};
 use evaluators::Gate;
 use report::{Fault, fault_line};
 use std::alloc::Global;
@@ -64,13 +64,16 @@ fn answer<R: Threads + Sync, S: Source, K: Sink, G: Gate>(
 {
     command_is_unique();
     verdict_is_unique();
-    let command = read_words(words)?;
-    if !command.mode.reads_job() {
+    let command = match read_words(words) {
+        Ok(command) => command,
+        Err(Usage) => return Err(Fault::Usage),
+    };
+    if !command.reads_job() {
         return answer_big(rt, alloc, &command, out, gate);
     }
     let bytes = match read_job(alloc, input) {
         Ok(bytes) => bytes,
         Err(fault) => return Err(reading_fault(fault)),
     };
-    answer_bytes(rt, alloc, words, &command, &bytes, out, gate)
+    answer_bytes(rt, alloc, &command, &bytes, out, gate)
 }

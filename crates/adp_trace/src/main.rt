@@ -3,9 +3,8 @@
 //! It takes the options of the mode `replay` and a job on its standard input, of which it answers the first word.
 #![tactic(auto)]
 
-ghost use Rattle.std.specs.Prelude.{◌≤◌, IfErr};
+ghost use Rattle.std.specs.Prelude.{IfErr};
 ghost use Rattle.report.specs.Faults.{HasShortName};
-ghost use Rattle.adp_main.specs.Commands.{asked_command};
 
 mod lines;
 mod step_lines;
@@ -14,17 +13,15 @@ mod words;
 use crate::lines::push_trace;
 use crate::words::words;
 use adp_io::{Sink, Source, StdSink, StdSource, read_job, write_whole};
-use adp_main::{
-    CheckedJob, Command, Status, checked_job, read_words, reading_fault, schedule_entries,
-    status_of,
-};
+use adp_main::{CheckedJob, Status, checked_job, reading_fault, status_of};
+use command_words::{Usage, read_words, schedule_entries};
 use grammar_check::{AdmitError, admit};
 use report::{Fault, fault_line};
 use std::alloc::Global;
 use std::io;
 use std::process::ExitCode;
 use step_traces::trace_schedule;
-use verdicts::laws::command_is_unique;
+use verdicts::Command;
 
 fn main(rt: HostRuntime) -> ExitCode {
     let alloc = rt.alloc();
@@ -50,22 +47,23 @@ fn answer<S: Source, K: Sink>(
 ) -> Result<(), Fault>
     ensures { IfErr result HasShortName }
 {
-    command_is_unique();
     let words = match words(rt) {
         Ok(words) => words,
         Err(error) => return Err(words_fault(error)),
     };
-    let command = read_words(&words)?;
-    if !command.mode.reads_job() {
+    let command = match read_words(&words) {
+        Ok(command) => command,
+        Err(Usage) => return Err(Fault::Usage),
+    };
+    if !command.reads_job() {
         return Err(Fault::Usage);
     }
     let bytes = match read_job(alloc, input) {
         Ok(bytes) => bytes,
         Err(fault) => return Err(reading_fault(fault)),
     };
-    let job = checked_job(alloc, &words, &command, &bytes)?;
-    let schedule = schedule_entries(alloc, &words, &command)?;
-    let text = trace_text(alloc, &command, &schedule, &job)?;
+    let job = checked_job(alloc, &command, &bytes)?;
+    let text = trace_text(alloc, &command, &job)?;
     match write_whole(out, &text) {
         Ok(()) => Ok(()),
         Err(_) => Err(Fault::Write),
@@ -73,16 +71,10 @@ fn answer<S: Source, K: Sink>(
 }
 
 /// The trace of the first word; nothing where there is no word.
-fn trace_text(
-    alloc: Global,
-    command: &Command,
-    schedule: &[u8],
-    job: &CheckedJob,
-) -> Result<Vec<u8>, Fault>
-    requires some { 1 ≤ (asked_command command.now).workers }
-    requires few_workers { (asked_command command.now).workers ≤ 32 }
+fn trace_text(alloc: Global, command: &Command<'_>, job: &CheckedJob) -> Result<Vec<u8>, Fault>
     ensures { IfErr result HasShortName }
 {
+    command.in_range();
     let mut text = Vec::new(alloc);
     let Some(word) = job.words.as_slice().first() else {
         return Ok(text);
@@ -91,7 +83,8 @@ fn trace_text(
         Ok(problem) => problem,
         Err(error) => return Err(admit_fault(error)),
     };
-    let traced = trace_schedule(alloc, &problem, command.workers, command.seed, schedule)?;
+    let schedule = schedule_entries(alloc, command)?;
+    let traced = trace_schedule(alloc, &problem, command.workers, command.seed, &schedule)?;
     push_trace(&mut text, command.seed, &problem, &traced)?;
     Ok(text)
 }

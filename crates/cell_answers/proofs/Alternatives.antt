@@ -61,7 +61,8 @@ module _ (p : PosedProblem) (admissible : IsAdmissible p) (bounded : TokensKeepB
 module _ (p : PosedProblem) (admissible : IsAdmissible p) (cell : Cell) (alternative : ℕ) (constant : ℤ) (factors : List ℤ) (is : IsScoredBy p cell.rule alternative constant factors)
     (span : IsSpan p.word cell.from cell.to) (in_rules : cell.rule < length p.grammar.rules) (in_range : alternative < length (alternatives_of p.grammar cell.rule)) where
   -- the arguments of an alternative on a cell whose demanded children have entries
-  pub alternative_laid : TokensKeepBound p → (table : Table ℤ) → AllByRecursion (IsKnown p.grammar) (arguments_of p.grammar cell.rule alternative) → length (arguments_of p.grammar cell.rule alternative) ≤ 4
+  pub alternative_laid : TokensKeepBound p → (table : Table ℤ) → AllByRecursion (IsKnown p.grammar) (arguments_of p.grammar cell.rule alternative)
+      → length (arguments_of p.grammar cell.rule alternative) ≤ 4
       → ((child : Cell) → IsDemandedChild p cell child → HasEntry table child)
       → AreLaid p table (arguments_of p.grammar cell.rule alternative) factors cell.from cell.to
   alternative_laid bounded table known few scored = record {
@@ -86,7 +87,8 @@ module _ (p : PosedProblem) (admissible : IsAdmissible p) (cell : Cell) (alterna
 pub score_low : (p : PosedProblem) → IsAdmissible p → AreWithin p → (cell : Cell) (count : ℕ) (number : ℤ) → IsSpan p.word cell.from cell.to → cell.rule < length p.grammar.rules → count ≤ length (alternatives_of p.grammar cell.rule)
     → HasScoreBefore p cell count number → nat_abs number ≤ greatest_score
 score_low p admissible within cell count number span in_rules l (alternative, before, (values, have, is)) =
-    let low = value_low p admissible cell alternative values span in_rules (omega (arith, before, l)) (values_kept p (HasBestScore p) (IsWithinBound p) within (arguments_of p.grammar cell.rule alternative) cell.from cell.to values have) in
+    let low = value_low p admissible cell alternative values span in_rules (omega (arith, before, l))
+    (values_kept p (HasBestScore p) (IsWithinBound p) within (arguments_of p.grammar cell.rule alternative) cell.from cell.to values have) in
     let same = ap nat_abs is in
     let value = turned_low (algebra_of p).goal (term_value (term_of p cell.rule alternative) values) in
     omega arith

@@ -144,7 +144,8 @@ within_greatest Holds number other (inl (holds, greatest)) it = greatest other i
 within_greatest Holds number other (inr (zero, none)) it = absurd (none other it)
 
 -- the term of an alternative is low at all values of its arguments on a cell
-magnitude_low : (p : PosedProblem) → IsAdmissible p → (cell : Cell) (alternative : ℕ) (values : List ℤ) → IsSpan p.word cell.from cell.to → cell.rule < length p.grammar.rules → alternative < length (alternatives_of p.grammar cell.rule)
+magnitude_low : (p : PosedProblem) → IsAdmissible p → (cell : Cell) (alternative : ℕ) (values : List ℤ) → IsSpan p.word cell.from cell.to → cell.rule < length p.grammar.rules
+    → alternative < length (alternatives_of p.grammar cell.rule)
     → HaveValues p (IsWithinBound p) (arguments_of p.grammar cell.rule alternative) cell.from cell.to values → magnitude (term_of p cell.rule alternative) (map nat_abs values) ≤ greatest_score
 magnitude_low p admissible cell alternative values span known in_range have =
     let scores = admissible.limits.scores in
@@ -163,7 +164,8 @@ magnitude_low p admissible cell alternative values span known in_range have =
     (inl (cell.rule, len, known, omega (arith, span.in_word), refl)) in
     omega (arith, low, of_rule, of_word, scores.2)
 
-pub value_low : (p : PosedProblem) → IsAdmissible p → (cell : Cell) (alternative : ℕ) (values : List ℤ) → IsSpan p.word cell.from cell.to → cell.rule < length p.grammar.rules → alternative < length (alternatives_of p.grammar cell.rule)
+pub value_low : (p : PosedProblem) → IsAdmissible p → (cell : Cell) (alternative : ℕ) (values : List ℤ) → IsSpan p.word cell.from cell.to → cell.rule < length p.grammar.rules
+    → alternative < length (alternatives_of p.grammar cell.rule)
     → HaveValues p (IsWithinBound p) (arguments_of p.grammar cell.rule alternative) cell.from cell.to values → nat_abs (term_value (term_of p cell.rule alternative) values) ≤ greatest_score
 value_low p admissible cell alternative values span known in_range have =
     let term : Linear = term_of p cell.rule alternative in

@@ -45,21 +45,25 @@ module _ (p : PosedProblem) (cell : Cell) (alternative : ℕ) (kept : KeptAltern
 
   pub no_score : IsGreatestOf (HasTotal p (HasBestScore p) both all_factors cell.from cell.to) None → IsGreatestOf (HasTurnedScore p cell alternative) None
   no_score none =
-      turned_greatest p cell alternative kept.constant all_factors is.scored None (from_kept (λ arguments. IsGreatestOf (HasTotal p (HasBestScore p) arguments all_factors cell.from cell.to) None) none) None refl
+      turned_greatest p cell alternative kept.constant all_factors is.scored None
+      (from_kept (λ arguments. IsGreatestOf (HasTotal p (HasBestScore p) arguments all_factors cell.from cell.to) None) none) None refl
 
   -- nothing has a score where the cell has no viable split
-  pub no_score_closed : alternative < length (alternatives_of p.grammar cell.rule) → 1 ≤ length (arguments_of p.grammar cell.rule alternative) → IsClosed p kept cell → IsGreatestOf (HasTurnedScore p cell alternative) None
+  pub no_score_closed : alternative < length (alternatives_of p.grammar cell.rule) → 1 ≤ length (arguments_of p.grammar cell.rule alternative) → IsClosed p kept cell
+      → IsGreatestOf (HasTurnedScore p cell alternative) None
   no_score_closed in_range some closed number (values, have, scored) =
       let few : length (arguments_of p.grammar cell.rule alternative) ≤ 4 = omega (arith, is.few, ap length is.arguments, length-append kept.front.now kept.others.now) in
       let split = split_of_values p (HasBestScore p) cell alternative values in_range some few have in
       closed alternative split.0 is split.1
 
-  pub score_is : (total : ℤ) → IsGreatestOf (HasTotal p (HasBestScore p) both all_factors cell.from cell.to) (Some total) → IsGreatestOf (HasTurnedScore p cell alternative) (Some (kept.constant +ℤ total))
+  pub score_is : (total : ℤ) → IsGreatestOf (HasTotal p (HasBestScore p) both all_factors cell.from cell.to) (Some total)
+      → IsGreatestOf (HasTurnedScore p cell alternative) (Some (kept.constant +ℤ total))
   score_is total greatest =
       turned_greatest p cell alternative kept.constant all_factors is.scored (Some total)
       (from_kept (λ arguments. IsGreatestOf (HasTotal p (HasBestScore p) arguments all_factors cell.from cell.to) (Some total)) greatest) (Some (kept.constant +ℤ total)) refl
 
-  pub all_low : IsAdmissible p → AreSound p → (total : ℤ) → IsSpan p.word cell.from cell.to → cell.rule < length p.grammar.rules → alternative < length (alternatives_of p.grammar cell.rule) → HasTotal p (HasBestScore p) both all_factors cell.from cell.to total
+  pub all_low : IsAdmissible p → AreSound p → (total : ℤ) → IsSpan p.word cell.from cell.to → cell.rule < length p.grammar.rules → alternative < length (alternatives_of p.grammar cell.rule)
+      → HasTotal p (HasBestScore p) both all_factors cell.from cell.to total
       → nat_abs (kept.constant +ℤ total) ≤ greatest_score
   all_low admissible sound total span in_rules in_range has =
       with_constant_low p admissible cell alternative kept.constant all_factors is.scored span in_rules in_range sound total

@@ -119,11 +119,13 @@ module _ (p : PosedProblem) (bellman : Bellman p) (cell : Cell) (span : IsSpan p
       let it = bellman.only cell (Best best (record { alt = alternative; cuts = given.0 })) span given.1 in
       (it.1, λ score other scored precedes. it.2 score other tt scored precedes)
 
-  turned_value : (values : List ℤ) → HaveValues p (HasBestScore p) (arguments_of p.grammar cell.rule alternative) cell.from cell.to values → turned goal (term_value (term_of p cell.rule alternative) values) ≡ (constant +ℤ weighted_sum factors values)
+  turned_value : (values : List ℤ) → HaveValues p (HasBestScore p) (arguments_of p.grammar cell.rule alternative) cell.from cell.to values
+      → turned goal (term_value (term_of p cell.rule alternative) values) ≡ (constant +ℤ weighted_sum factors values)
   turned_value values have = is_scored.value values (values_length p (HasBestScore p) (arguments_of p.grammar cell.rule alternative) cell.from cell.to values have)
 
   -- the same of the values of a split
-  split_value : (cuts : List ℕ) (values : List ℤ) → IsViable p cell alternative cuts → AreArgumentValues p (HasBestScore p) (placed p cell alternative cuts) values → turned goal (term_value (term_of p cell.rule alternative) values) ≡ (constant +ℤ weighted_sum factors values)
+  split_value : (cuts : List ℕ) (values : List ℤ) → IsViable p cell alternative cuts → AreArgumentValues p (HasBestScore p) (placed p cell alternative cuts) values
+      → turned goal (term_value (term_of p cell.rule alternative) values) ≡ (constant +ℤ weighted_sum factors values)
   split_value cuts values viable are = turned_value values (values_of_split p (HasBestScore p) cell alternative cuts values (some alternative in_range) (few alternative) viable are)
 
   -- ends with a total are the cuts of a split
@@ -143,9 +145,11 @@ module _ (p : PosedProblem) (bellman : Bellman p) (cell : Cell) (span : IsSpan p
             last = subst (λ n. AllByRecursion (λ boundary. boundary ≡ cell.to) (drop n ends)) fewer it.closed;
             fits = subst (λ them. AllByRecursion (FitsSpan p) (place them cell.from ends)) (sym e) it.fits;
           } in
-          let are : AreArgumentValues p (HasBestScore p) (placed p cell alternative cuts) it.values = subst (λ them. AreArgumentValues p (HasBestScore p) (place them cell.from ends) it.values) (sym e) it.are in
+          let are : AreArgumentValues p (HasBestScore p) (placed p cell alternative cuts) it.values =
+          subst (λ them. AreArgumentValues p (HasBestScore p) (place them cell.from ends) it.values) (sym e) it.are in
           let score : turned goal (constant +ℤ total) ≡ term_value (term_of p cell.rule alternative) it.values =
-          ap (λ (t : ℤ). turned goal (constant +ℤ t)) it.is ∙ ap (turned goal) (sym (split_value cuts it.values viable are)) ∙ turned_twice goal (term_value (term_of p cell.rule alternative) it.values) in
+          ap (λ (t : ℤ). turned goal (constant +ℤ t)) it.is ∙ ap (turned goal) (sym (split_value cuts it.values viable are))
+          ∙ turned_twice goal (term_value (term_of p cell.rule alternative) it.values) in
           record { viable = viable; values = it.values; are_values = are; scored = score }
 
   -- and the cuts of a split with the score are such ends
@@ -165,7 +169,8 @@ module _ (p : PosedProblem) (bellman : Bellman p) (cell : Cell) (span : IsSpan p
           let are = subst (λ them. AreArgumentValues p (HasBestScore p) (place them cell.from ends) scored.values) e scored.are_values in
           let long : length factors ≡ length (argument ∷ arguments) = is_scored.each ∙ ap length e in
           let laid = by_placed p argument arguments factors cell.from cell.to ends scored.values long (omega (arith, four, ap length e, scored.viable.three, length_ends p cuts cell.to)) fits closed are in
-          let same : (constant +ℤ weighted_sum factors scored.values) ≡ (constant +ℤ total) = sym (split_value cuts scored.values scored.viable scored.are_values) ∙ ap (turned goal) (sym scored.scored) ∙ told in
+          let same : (constant +ℤ weighted_sum factors scored.values) ≡ (constant +ℤ total) = sym (split_value cuts scored.values scored.viable scored.are_values)
+          ∙ ap (turned goal) (sym scored.scored) ∙ told in
           let total_is : weighted_sum factors scored.values ≡ total = omega (arith, ints) in
           subst (λ them. HasTotalBy p (HasBestScore p) them factors cell.from cell.to total ends) (sym e) (subst (λ t. HasTotalBy p (HasBestScore p) (argument ∷ arguments) factors cell.from cell.to t ends) total_is laid)
 

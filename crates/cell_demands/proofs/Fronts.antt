@@ -10,7 +10,8 @@ use Rattle.cell_tables.specs.Marks.{CellMarks, AreMarkedFrom}
 use Rattle.cell_demands.proofs.LineDemands.{demands_behind, demands_join}
 use Rattle.cell_demands.proofs.MarkSteps.{marked_like}
 
-module _ (p : PosedProblem) (front others : List Arg) (from to : ℕ) (fixed : AllByRecursion IsFixed front) (end : ℕ) (covers : Cover p front from end) (only : (other : ℕ) → Cover p front from other → other ≡ end) where
+module _ (p : PosedProblem) (front others : List Arg) (from to : ℕ) (fixed : AllByRecursion IsFixed front) (end : ℕ) (covers : Cover p front from end)
+    (only : (other : ℕ) → Cover p front from other → other ≡ end) where
   pub demanded_behind : (cell : Cell) → Demands p others end to cell → Demands p (front ++ others) from to cell
   demanded_behind cell demands = demands_join p front others from end to cell covers demands
 

@@ -42,8 +42,8 @@ pub record AreInFront (p : PosedProblem) (kept : KeptAlternative) : Type 0 where
 abbrev pub factors_behind : KeptAlternative → List ℤ
 factors_behind kept = take (length kept.others.now) (drop (length kept.front.now) kept.factors)
 
--- the score of a split by the alternative, turned, is the constant and each factor times the value of its argument, added
--- up, and no part of such a sum is greater in absolute value than the term can become
+-- the score of a split by the alternative, turned, is the constant and each factor times the value of its argument,
+-- added up, and no part of such a sum is greater in absolute value than the term can become
 pub record IsScoredBy (p : PosedProblem) (rule alternative : ℕ) (constant : ℤ) (factors : List ℤ) : Type 0 where
   pub each : length factors ≡ length (arguments_of p.grammar rule alternative)
   pub value : (values : List ℤ) → length values ≡ length (arguments_of p.grammar rule alternative)

@@ -18,7 +18,8 @@ MaySpan kept from to = length kept.others.now ≡ 0 → to ≡ from + kept.lette
 -- the cell has no viable split by an alternative of which this is kept
 abbrev pub IsClosed : PosedProblem → KeptAlternative → Cell → Type 0
 IsClosed p kept cell =
-    (alternative : ℕ) (cuts : List ℕ) → IsAlternative p cell.rule alternative kept → IsViable p cell alternative cuts → ⊥
+    (alternative : ℕ) (cuts : List ℕ) → IsAlternative p cell.rule alternative kept
+    → IsViable p cell alternative cuts → ⊥
 
 -- the tokens in front have the first letters of the cell, up to this end and no other, and all of them where no
 -- argument stands behind

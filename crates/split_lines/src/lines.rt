@@ -318,8 +318,9 @@ impl<'a> Lines<'a> {
         &self.alternatives[rule as usize]
     }
 
-    /// Where the tokens in front of an alternative end on a cell; `None` where they don't match there, or the alternative
-    /// may not have so many letters as the cell. Takes constant time, but for the letters of literals, and no memory.
+    /// Where the tokens in front of an alternative end on a cell; `None` where they don't match there, or where the
+    /// alternative may not have as many letters as the cell. Takes constant time, but for the letters of literals, and
+    /// no memory.
     #[inline(always)]
     pub fn opening(&self, alternative: &KeptAlternative<'_>, cell: Cell) -> Option<u16>
         requires front { AreInFront self.now alternative.now }

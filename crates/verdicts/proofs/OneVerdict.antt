@@ -14,7 +14,9 @@ use Rattle.adp_model.specs.declared.fault.GrammarFault.{GrammarFault}
 use Rattle.adp_model.specs.declared.fault.LimitFault.{LimitFault}
 use Rattle.adp_model.specs.Parts.{sign_at}
 use Rattle.adp_model.specs.WellFormed.{are_distinct, is_well_formed, counts_fit, names_differ, parts_fit}
-use Rattle.verdicts.specs.Command.{Mode, Best, Serial, Wins, Replay, Big, mode_word, Setting, Algebra as ByAlgebra, Workers, Seed, Schedule, Size, option_word, IsValue, AreSettings, algebra_set, workers_set, seed_set, schedule_set, size_set, greatest_size, Command, IsCommand, HasCommand, ReadsJob, ShowsWins, AsksForJob}
+use Rattle.verdicts.specs.declared.command.Mode.{Mode}
+use Rattle.verdicts.specs.declared.command.Mode.TheVariants.{Best, Serial, Wins, Replay, Big}
+use Rattle.verdicts.specs.Command.{mode_word, Setting, Algebra as ByAlgebra, Workers, Seed, Schedule, Size, option_word, IsValue, AreSettings, algebra_set, workers_set, seed_set, schedule_set, size_set, greatest_size, Command, IsCommand, HasCommand, ReadsJob, ShowsWins, AsksForJob}
 use Rattle.job_texts.specs.JobText.{Accepted, IsText, IsFaultOf}
 use Rattle.adp_model.specs.Lengths.{IsProductive}
 use Rattle.adp_model.specs.Loops.{IsOnLoop}
@@ -28,7 +30,7 @@ use Rattle.adp_model.specs.LimitFaults.{IsLimitFault}
 use Rattle.adp_model.specs.ProblemFields.{KeepsLimits}
 use Rattle.adp_model.specs.Report.{IsReport}
 use Rattle.adp_model.specs.BigReport.{IsBigReport}
-use Rattle.verdicts.specs.Verdict.{IsReportIn}
+use Rattle.verdicts.specs.Verdict.{IsReportWith}
 
 -- ---- what is known of reports and limits
 
@@ -46,24 +48,24 @@ pub record ModelLaws : Type 0 where
 -- ---- the command
 
 -- the words of two options differ at their fourth letter
-setting_unique : (place : ℕ) (value : List ℕ) (a b : Setting) → option_word a ≡ option_word b → IsValue place value a → IsValue place value b → a ≡ b
-setting_unique place value (ByAlgebra m) (ByAlgebra n) e v w = ap ByAlgebra (v.1 ∙ sym w.1)
-setting_unique place value (Workers m) (Workers n) e v w = ap Workers (v.0.1 ∙ sym w.0.1)
-setting_unique place value (Seed m) (Seed n) e v w = ap Seed (v.0.1 ∙ sym w.0.1)
-setting_unique place value (Schedule m) (Schedule n) e v w = ap Schedule (v.1 ∙ sym w.1)
-setting_unique place value (Size m) (Size n) e v w = ap Size (v.0.1 ∙ sym w.0.1)
-setting_unique place value a b e v w = absurd (omega (arith, ap (λ (w : List ℕ). get_or w 3 0) e))
+setting_unique : (value : List ℕ) (a b : Setting) → option_word a ≡ option_word b → IsValue value a → IsValue value b → a ≡ b
+setting_unique value (ByAlgebra m) (ByAlgebra n) e v w = ap ByAlgebra (v.1 ∙ sym w.1)
+setting_unique value (Workers m) (Workers n) e v w = ap Workers (v.0.1 ∙ sym w.0.1)
+setting_unique value (Seed m) (Seed n) e v w = ap Seed (v.0.1 ∙ sym w.0.1)
+setting_unique value (Schedule m) (Schedule n) e v w = ap Schedule (v.1 ∙ sym w.1)
+setting_unique value (Size m) (Size n) e v w = ap Size (v.0.1 ∙ sym w.0.1)
+setting_unique value a b e v w = absurd (omega (arith, ap (λ (w : List ℕ). get_or w 3 0) e))
 
-settings_unique : (place : ℕ) (words : List (List ℕ)) (a b : List Setting) → AreSettings place words a → AreSettings place words b → a ≡ b
-settings_unique place [] [] [] h k = refl
-settings_unique place [] [] (t ∷ b) h k = absurd k
-settings_unique place [] (s ∷ a) b h k = absurd h
-settings_unique place (option ∷ []) [] b h k = absurd h
-settings_unique place (option ∷ []) (s ∷ a) b h k = absurd h
-settings_unique place (option ∷ value ∷ words) [] b h k = absurd h
-settings_unique place (option ∷ value ∷ words) (s ∷ a) [] h k = absurd k
-settings_unique place (option ∷ value ∷ words) (s ∷ a) (t ∷ b) h k =
-    ap₂ (λ x xs. x ∷ xs) (setting_unique (place + 1) value s t (sym h.0 ∙ k.0) h.1 k.1) (settings_unique (place + 2) words a b h.2 k.2)
+settings_unique : (words : List (List ℕ)) (a b : List Setting) → AreSettings words a → AreSettings words b → a ≡ b
+settings_unique [] [] [] h k = refl
+settings_unique [] [] (t ∷ b) h k = absurd k
+settings_unique [] (s ∷ a) b h k = absurd h
+settings_unique (option ∷ []) [] b h k = absurd h
+settings_unique (option ∷ []) (s ∷ a) b h k = absurd h
+settings_unique (option ∷ value ∷ words) [] b h k = absurd h
+settings_unique (option ∷ value ∷ words) (s ∷ a) [] h k = absurd k
+settings_unique (option ∷ value ∷ words) (s ∷ a) (t ∷ b) h k =
+    ap₂ (λ x xs. x ∷ xs) (setting_unique value s t (sym h.0 ∙ k.0) h.1 k.1) (settings_unique words a b h.2 k.2)
 
 -- the words of two modes differ at their third letter
 mode_unique : (a b : Mode) → mode_word a ≡ mode_word b → a ≡ b
@@ -79,7 +81,7 @@ command_unique words a b h k =
     let heads : mode_word a.mode ∷ h.options ≡ mode_word b.mode ∷ k.options = sym h.words_are ∙ k.words_are in
     let mode = mode_unique a.mode b.mode (ap (λ (ws : List (List ℕ)). slice_index_or ws 0 []) heads) in
     let options : h.options ≡ k.options = ap (λ (ws : List (List ℕ)). drop 1 ws) heads in
-    let settings = settings_unique 1 h.options h.settings k.settings h.set (subst (λ o. AreSettings 1 o k.settings) (sym options) k.set) in
+    let settings = settings_unique h.options h.settings k.settings h.set (subst (λ o. AreSettings o k.settings) (sym options) k.set) in
     let algebra = h.algebra_is ∙ ap algebra_set settings ∙ sym k.algebra_is in
     let workers = h.workers_are ∙ ap workers_set settings ∙ sym k.workers_are in
     let seed = h.seed_is ∙ ap seed_set settings ∙ sym k.seed_is in
@@ -95,38 +97,38 @@ command_unique words a b h k =
     }
 
 -- the numbers of settings are in range
-numbers_in_range : (place : ℕ) (words : List (List ℕ)) (settings : List Setting) → AreSettings place words settings
+numbers_in_range : (words : List (List ℕ)) (settings : List Setting) → AreSettings words settings
     → (1 ≤ workers_set settings) × (workers_set settings ≤ 32) × (seed_set settings < 2 ^ 64)
     × (size_set settings ≤ greatest_size)
-numbers_in_range place words [] h = (omega arith, omega arith, omega arith, omega arith)
-numbers_in_range place [] (setting ∷ settings) h = absurd h
-numbers_in_range place (option ∷ []) (setting ∷ settings) h = absurd h
-numbers_in_range place (option ∷ value ∷ words) (ByAlgebra named ∷ settings) h =
-    numbers_in_range (place + 2) words settings h.2
-numbers_in_range place (option ∷ value ∷ words) (Workers workers ∷ settings) h =
-    let rest = numbers_in_range (place + 2) words settings h.2 in
+numbers_in_range words [] h = (omega arith, omega arith, omega arith, omega arith)
+numbers_in_range [] (setting ∷ settings) h = absurd h
+numbers_in_range (option ∷ []) (setting ∷ settings) h = absurd h
+numbers_in_range (option ∷ value ∷ words) (ByAlgebra named ∷ settings) h =
+    numbers_in_range words settings h.2
+numbers_in_range (option ∷ value ∷ words) (Workers workers ∷ settings) h =
+    let rest = numbers_in_range words settings h.2 in
     (h.1.1, h.1.2, rest.2, rest.3)
-numbers_in_range place (option ∷ value ∷ words) (Seed seed ∷ settings) h =
-    let rest = numbers_in_range (place + 2) words settings h.2 in
+numbers_in_range (option ∷ value ∷ words) (Seed seed ∷ settings) h =
+    let rest = numbers_in_range words settings h.2 in
     (rest.0, rest.1, h.1.1, rest.3)
-numbers_in_range place (option ∷ value ∷ words) (Schedule named ∷ settings) h =
-    numbers_in_range (place + 2) words settings h.2
-numbers_in_range place (option ∷ value ∷ words) (Size size ∷ settings) h =
-    let rest = numbers_in_range (place + 2) words settings h.2 in
+numbers_in_range (option ∷ value ∷ words) (Schedule named ∷ settings) h =
+    numbers_in_range words settings h.2
+numbers_in_range (option ∷ value ∷ words) (Size size ∷ settings) h =
+    let rest = numbers_in_range words settings h.2 in
     (rest.0, rest.1, rest.2, h.1.2)
 
 module _ (words : List (List ℕ)) (command : Command) (is : IsCommand words command) where
   pub some_workers : 1 ≤ command.workers
-  some_workers = subst (λ n. 1 ≤ n) (sym is.workers_are) (numbers_in_range 1 is.options is.settings is.set).0
+  some_workers = subst (λ n. 1 ≤ n) (sym is.workers_are) (numbers_in_range is.options is.settings is.set).0
 
   pub few_workers : command.workers ≤ 32
-  few_workers = subst (λ n. n ≤ 32) (sym is.workers_are) (numbers_in_range 1 is.options is.settings is.set).1
+  few_workers = subst (λ n. n ≤ 32) (sym is.workers_are) (numbers_in_range is.options is.settings is.set).1
 
   pub seed_in_range : command.seed < 2 ^ 64
-  seed_in_range = subst (λ n. n < 2 ^ 64) (sym is.seed_is) (numbers_in_range 1 is.options is.settings is.set).2
+  seed_in_range = subst (λ n. n < 2 ^ 64) (sym is.seed_is) (numbers_in_range is.options is.settings is.set).2
 
   pub size_in_range : command.size ≤ greatest_size
-  size_in_range = subst (λ n. n ≤ greatest_size) (sym is.size_is) (numbers_in_range 1 is.options is.settings is.set).3
+  size_in_range = subst (λ n. n ≤ greatest_size) (sym is.size_is) (numbers_in_range is.options is.settings is.set).3
 
 -- ---- the text
 
@@ -247,18 +249,18 @@ module _ (laws : ModelLaws) (grammar : Grammar) (algebra : ℕ) (least : List �
 
 -- reports of one mode that tells no wins are the same, and so they are of two modes
 abbrev PlainOrWins : Mode → Type 0
-PlainOrWins mode = ShowsWins mode ⊎ ((workers number : ℕ) (p : PosedProblem) (report : List ℕ)
-    → IsReportIn mode workers number p report → IsReport number p report)
+PlainOrWins mode = ShowsWins mode ⊎ ((number : ℕ) (p : PosedProblem) (wins report : List ℕ)
+    → IsReportWith mode number p wins report → IsReport number p report)
 
 plain_or_wins : (mode : Mode) → PlainOrWins mode
-plain_or_wins Best = inr (λ workers number p report is. is)
-plain_or_wins Serial = inr (λ workers number p report is. is)
+plain_or_wins Best = inr (λ number p wins report is. is)
+plain_or_wins Serial = inr (λ number p wins report is. is)
 plain_or_wins Wins = inl (inl refl)
 plain_or_wins Replay = inl (inr refl)
-plain_or_wins Big = inr (λ workers number p report is. absurd is)
+plain_or_wins Big = inr (λ number p wins report is. absurd is)
 
-module _ (laws : ModelLaws) (command : Command) (plain : (workers number : ℕ) (p : PosedProblem) (report : List ℕ)
-    → IsReportIn command.mode workers number p report → IsReport number p report) where
+module _ (laws : ModelLaws) (command : Command) (plain : (number : ℕ) (p : PosedProblem) (wins report : List ℕ)
+    → IsReportWith command.mode number p wins report → IsReport number p report) where
   reports_unique : (grammar : Grammar) → IsTrue (is_well_formed grammar) → (algebra number : ℕ)
       (words a b : List (List ℕ)) → AreReports command grammar algebra number words a
       → AreReports command grammar algebra number words b → a ≡ b
@@ -270,26 +272,26 @@ module _ (laws : ModelLaws) (command : Command) (plain : (workers number : ℕ) 
   reports_unique grammar formed algebra number (word ∷ words) (x ∷ a) (y ∷ b) h k =
       let p : PosedProblem = record { grammar = grammar; algebra = algebra; word = word } in
       ap₂ (λ r rs. r ∷ rs)
-      (laws.one_report number p x y formed (plain command.workers number p x h.0) (plain command.workers number p y k.0))
+      (laws.one_report number p x y formed (plain number p h.0.0 x h.0.2) (plain number p k.0.0 y k.0.2))
       (reports_unique grammar formed algebra (number + 1) words a b h.1 k.1)
 
 -- ---- the verdict
 
 module _ (words : List (List ℕ)) (bytes : List ℕ) where
-  names_same : (c d : Command) (a b : Job) → AsksFor words bytes c a → AsksFor words bytes d b → asked_name words d b.grammar ≡ asked_name words c a.grammar
-  names_same c d a b h k = ap₂ (λ e g. asked_name words e g) (command_unique words d c k.is_command h.is_command) (same_grammar bytes b a k.is_text h.is_text)
+  names_same : (c d : Command) (a b : Job) → AsksFor words bytes c a → AsksFor words bytes d b → asked_name d b.grammar ≡ asked_name c a.grammar
+  names_same c d a b h k = ap₂ (λ e g. asked_name e g) (command_unique words d c k.is_command h.is_command) (same_grammar bytes b a k.is_text h.is_text)
 
   -- what is asked of one job is asked of the other
-  fault_of_first : (c d : Command) (a b : Job) (fault : GrammarFault) → AsksFor words bytes c a → AsksFor words bytes d b → IsGrammarFault b.grammar (asked_name words d b.grammar) fault → IsGrammarFault a.grammar (asked_name words c a.grammar) fault
+  fault_of_first : (c d : Command) (a b : Job) (fault : GrammarFault) → AsksFor words bytes c a → AsksFor words bytes d b → IsGrammarFault b.grammar (asked_name d b.grammar) fault → IsGrammarFault a.grammar (asked_name c a.grammar) fault
   fault_of_first c d a b fault h k is =
-      subst (λ n. IsGrammarFault a.grammar n fault) (names_same c d a b h k) (subst (λ g. IsGrammarFault g (asked_name words d b.grammar) fault) (same_grammar bytes b a k.is_text h.is_text) is)
+      subst (λ n. IsGrammarFault a.grammar n fault) (names_same c d a b h k) (subst (λ g. IsGrammarFault g (asked_name d b.grammar) fault) (same_grammar bytes b a k.is_text h.is_text) is)
 
-  faultless_of_first : (c : Command) (a b : Job) (algebra : ℕ) → AsksFor words bytes c a → AsksUnder words bytes b algebra → IsFaultless a.grammar (asked_name words c a.grammar) algebra
+  faultless_of_first : (c : Command) (a b : Job) (algebra : ℕ) → AsksFor words bytes c a → AsksUnder words bytes b algebra → IsFaultless a.grammar (asked_name c a.grammar) algebra
   faultless_of_first c a b algebra h k =
-      subst (λ n. IsFaultless a.grammar n algebra) (names_same c k.command a b h k.asks) (subst (λ g. IsFaultless g (asked_name words k.command b.grammar) algebra) (same_grammar bytes b a k.asks.is_text h.is_text) k.faultless)
+      subst (λ n. IsFaultless a.grammar n algebra) (names_same c k.command a b h k.asks) (subst (λ g. IsFaultless g (asked_name k.command b.grammar) algebra) (same_grammar bytes b a k.asks.is_text h.is_text) k.faultless)
 
   same_algebra : (a b : Job) (m n : ℕ) → AsksUnder words bytes a m → AsksUnder words bytes b n → n ≡ m
-  same_algebra a b m n h k = named_unique a.grammar a.well_formed (asked_name words h.command a.grammar) n m (faultless_of_first h.command a b n h.asks k).named h.faultless.named
+  same_algebra a b m n h k = named_unique a.grammar a.well_formed (asked_name h.command a.grammar) n m (faultless_of_first h.command a b n h.asks k).named h.faultless.named
 
   has_command : (c : Command) (a : Job) → AsksFor words bytes c a → HasCommand words
   has_command c a h = (c, h.is_command)
@@ -417,11 +419,11 @@ module _ (laws : ModelLaws) (words : List (List ℕ)) (bytes : List ℕ) where
   one_verdict checks (OfGrammar fault) (Text fault') h k =
       absurd (text_or_fault bytes fault' h.1 k.2 h.2.is_text)
   one_verdict checks (OfGrammar fault) (OfGrammar fault') h k =
-      inl (ap OfGrammar (grammar_fault_unique h.1.grammar h.1.well_formed (asked_name words h.0 h.1.grammar) fault fault' h.3 (fault_of_first words bytes h.0 k.0 h.1 k.1 fault' h.2 k.2 k.3)))
+      inl (ap OfGrammar (grammar_fault_unique h.1.grammar h.1.well_formed (asked_name h.0 h.1.grammar) fault fault' h.3 (fault_of_first words bytes h.0 k.0 h.1 k.1 fault' h.2 k.2 k.3)))
   one_verdict checks (OfGrammar fault) (Limit word fault') h k =
-      absurd (faultless_or_fault h.1.grammar h.1.well_formed (asked_name words h.0 h.1.grammar) k.1 fault (faultless_of_first words bytes h.0 h.1 k.0 k.1 h.2 k.2) h.3)
+      absurd (faultless_or_fault h.1.grammar h.1.well_formed (asked_name h.0 h.1.grammar) k.1 fault (faultless_of_first words bytes h.0 h.1 k.0 k.1 h.2 k.2) h.3)
   one_verdict checks (OfGrammar fault) (Reports reports) h (inl k) =
-      absurd (faultless_or_fault h.1.grammar h.1.well_formed (asked_name words h.0 h.1.grammar) k.1 fault (faultless_of_first words bytes h.0 h.1 k.0 k.1 h.2 k.2) h.3)
+      absurd (faultless_or_fault h.1.grammar h.1.well_formed (asked_name h.0 h.1.grammar) k.1 fault (faultless_of_first words bytes h.0 h.1 k.0 k.1 h.2 k.2) h.3)
   one_verdict checks (OfGrammar fault) (Reports reports) h (inr k) = inl (sym (of_made (OfGrammar fault) reports k h))
   one_verdict checks (Limit word fault) Usage h k =
       absurd (k (has_command words bytes h.2.command h.0 h.2.asks))
@@ -430,7 +432,7 @@ module _ (laws : ModelLaws) (words : List (List ℕ)) (bytes : List ℕ) where
   one_verdict checks (Limit word fault) (Text fault') h k =
       absurd (text_or_fault bytes fault' h.0 k.2 h.2.asks.is_text)
   one_verdict checks (Limit word fault) (OfGrammar fault') h k =
-      absurd (faultless_or_fault k.1.grammar k.1.well_formed (asked_name words k.0 k.1.grammar) h.1 fault' (faultless_of_first words bytes k.0 k.1 h.0 h.1 k.2 h.2) k.3)
+      absurd (faultless_or_fault k.1.grammar k.1.well_formed (asked_name k.0 k.1.grammar) h.1 fault' (faultless_of_first words bytes k.0 k.1 h.0 h.1 k.2 h.2) k.3)
   one_verdict checks (Limit word fault) (Limit word' fault') h k =
       let found = checks h.0 h.1 h.2 in
       inl (limit_unique laws h.0.grammar h.1 found.0 found.1 found.2 found.3 1 h.0.words word word' fault fault' h.3 (limit_of_first words bytes h.0 k.0 h.1 k.1 word' fault' h.2 k.2 k.3))
@@ -445,7 +447,7 @@ module _ (laws : ModelLaws) (words : List (List ℕ)) (bytes : List ℕ) where
   one_verdict checks (Reports reports) (Text fault') (inl h) k =
       absurd (text_or_fault bytes fault' h.0 k.2 h.2.asks.is_text)
   one_verdict checks (Reports reports) (OfGrammar fault') (inl h) k =
-      absurd (faultless_or_fault k.1.grammar k.1.well_formed (asked_name words k.0 k.1.grammar) h.1 fault' (faultless_of_first words bytes k.0 k.1 h.0 h.1 k.2 h.2) k.3)
+      absurd (faultless_or_fault k.1.grammar k.1.well_formed (asked_name k.0 k.1.grammar) h.1 fault' (faultless_of_first words bytes k.0 k.1 h.0 h.1 k.2 h.2) k.3)
   one_verdict checks (Reports reports) (Limit word fault) (inl h) k =
       let found = checks h.0 h.1 h.2 in
       absurd (kept_or_limit laws h.0.grammar h.1 found.0 found.1 found.2 found.3 1 h.0.words word fault h.3 (limit_of_first words bytes h.0 k.0 h.1 k.1 word fault h.2 k.2 k.3))
@@ -467,7 +469,7 @@ module _ (laws : ModelLaws) (words : List (List ℕ)) (bytes : List ℕ) where
   only_reports reports TooLong (inl h) k checks = absurd (too_long k.1 h.2.asks.short_enough)
   only_reports reports (Text fault) (inl h) k checks = absurd (text_or_fault bytes fault h.0 k.2 h.2.asks.is_text)
   only_reports reports (OfGrammar fault) (inl h) k checks =
-      absurd (faultless_or_fault k.1.grammar k.1.well_formed (asked_name words k.0 k.1.grammar) h.1 fault
+      absurd (faultless_or_fault k.1.grammar k.1.well_formed (asked_name k.0 k.1.grammar) h.1 fault
       (faultless_of_first words bytes k.0 k.1 h.0 h.1 k.2 h.2) k.3)
   only_reports reports (Limit word fault) (inl h) k checks =
       let found = checks tt h.0 h.1 h.2 in

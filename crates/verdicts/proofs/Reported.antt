@@ -5,14 +5,16 @@ use Rattle.adp_model.specs.PosedProblem.{PosedProblem}
 use Rattle.adp_model.specs.ProblemFields.{IsAdmissible}
 use Rattle.adp_model.specs.Demand.{IsDemandedCount}
 use Rattle.adp_model.specs.Report.{wins_line, IsReport}
-use Rattle.verdicts.specs.Command.{Mode, Best, Serial, Wins, Replay, Big, ReadsJob}
-use Rattle.verdicts.specs.Verdict.{IsReportIn, IsReportOfWins}
+use Rattle.verdicts.specs.declared.command.Mode.{Mode}
+use Rattle.verdicts.specs.declared.command.Mode.TheVariants.{Best, Serial, Wins, Replay, Big}
+use Rattle.verdicts.specs.Command.{Command, ReadsJob}
+use Rattle.verdicts.specs.Verdict.{IsReportIn, IsReportWith}
 
 -- an admitted word has a report
 abbrev pub ReportLaw : Type 0
 ReportLaw = (number : ℕ) (p : PosedProblem) → IsAdmissible p → (report : List ℕ) × IsReport number p report
 
--- ---- with wins: one of the evaluators may have them all
+-- ---- with wins
 
 abbrev no_wins : ℕ → List ℕ
 no_wins zero = []
@@ -27,27 +29,36 @@ no_wins_sum zero = refl
 no_wins_sum (suc count) = no_wins_sum count
 
 module _ (law : ReportLaw) where
-  wins_report : (workers number : ℕ) (p : PosedProblem) → 1 ≤ workers → IsAdmissible p
-      → (report : List ℕ) × IsReportOfWins workers number p report
-  wins_report zero number p some admissible = absurd (omega (arith, some))
-  wins_report (suc others) number p some admissible =
+  -- with wins that have been found for a plain report
+  module _ (command : Command) (number : ℕ) (p : PosedProblem) (wins : List ℕ)
+      (each : length wins ≡ command.workers) (plain : (report : List ℕ) × IsReport number p report)
+      (all : sum wins ≡ plain.1.1) where
+    with_wins : (mode : Mode) → ReadsJob mode → (report : List ℕ) × IsReportWith mode number p wins report
+    with_wins Best reads = plain
+    with_wins Serial reads = plain
+    with_wins Wins reads =
+        (plain.0 ++ wins_line wins, (plain.0, plain.1, subst (IsDemandedCount p) (sym all) plain.1.3, refl))
+    with_wins Replay reads =
+        (plain.0 ++ wins_line wins, (plain.0, plain.1, subst (IsDemandedCount p) (sym all) plain.1.3, refl))
+    with_wins Big reads = absurd (reads refl)
+
+    in_mode : ReadsJob command.mode → (report : List ℕ) × IsReportIn command number p report
+    in_mode reads =
+        let found = with_wins command.mode reads in
+        (found.0, (wins, each, found.1))
+
+  -- one of the evaluators has all wins
+  for_workers : (command : Command) (workers number : ℕ) (p : PosedProblem) → command.workers ≡ workers → 1 ≤ workers
+      → ReadsJob command.mode → IsAdmissible p → (report : List ℕ) × IsReportIn command number p report
+  for_workers command zero number p is some reads admissible = absurd (omega (arith, some))
+  for_workers command (suc others) number p is some reads admissible =
       let plain = law number p admissible in
       let count = plain.1.1 in
-      let wins = count ∷ no_wins others in
-      let all : sum wins ≡ count = sum_by-cons (λ (n : ℕ). n) count (no_wins others) ∙ ap (λ n. count + n) (no_wins_sum others)
-      ∙ (omega arith) in (
-        plain.0 ++ wins_line wins,
-        (
-          wins,
-          ap suc (no_wins_number others),
-          (plain.0, plain.1, subst (IsDemandedCount p) (sym all) plain.1.3, refl),
-        ),
-      )
+      let all : sum (count ∷ no_wins others) ≡ count =
+      sum_by-cons (λ (n : ℕ). n) count (no_wins others) ∙ ap (λ n. count + n) (no_wins_sum others) ∙ (omega arith) in
+      in_mode command number p (count ∷ no_wins others) (ap suc (no_wins_number others) ∙ sym is) plain all reads
 
-  pub report_in_mode : (mode : Mode) (workers number : ℕ) (p : PosedProblem) → ReadsJob mode → 1 ≤ workers
-      → IsAdmissible p → (report : List ℕ) × IsReportIn mode workers number p report
-  report_in_mode Best workers number p reads some admissible = law number p admissible
-  report_in_mode Serial workers number p reads some admissible = law number p admissible
-  report_in_mode Wins workers number p reads some admissible = wins_report workers number p some admissible
-  report_in_mode Replay workers number p reads some admissible = wins_report workers number p some admissible
-  report_in_mode Big workers number p reads some admissible = absurd (reads refl)
+  pub report_asked_for : (command : Command) (number : ℕ) (p : PosedProblem) → ReadsJob command.mode
+      → 1 ≤ command.workers → IsAdmissible p → (report : List ℕ) × IsReportIn command number p report
+  report_asked_for command number p reads some admissible =
+      for_workers command command.workers number p refl some reads admissible

@@ -1,19 +1,11 @@
 -- The words of the command line: a mode, and then options in any order, each at most once, with its value in the next
 -- word.
-use Rattle.std.specs.Prelude.{◌≡◌, ℕ, ◌+◌, ◌^◌, ◌<◌, ◌≤◌, ◌⊎◌, Option, None, Some, IsSome, List, [], ◌∷◌, codes, IsTrue, map, slice_index_or, All}
+use Rattle.std.specs.Prelude.{◌≡◌, ℕ, ◌^◌, ◌<◌, ◌≤◌, ◌⊎◌, Option, None, Some, List, [], ◌∷◌, length, codes, IsTrue, map, All}
 use Rattle.std.specs.Str.Parse.{IsNumeral, digits_value}
 use Rattle.adp_model.specs.WellFormed.{is_name, are_distinct}
-use Rattle.verdicts.specs.ScheduleText.{is_schedule, entry_of}
-
--- what is asked for: the report of each word, by evaluators that share their results, or by one sweep; the same with
--- what each evaluator put into the table, where they run freely, or in the order of a schedule; or the answer for a
--- word that is made
-pub data Mode : Type 0 where
-  Best : Mode
-  Serial : Mode
-  Wins : Mode
-  Replay : Mode
-  Big : Mode
+use Rattle.verdicts.specs.declared.command.Mode.{Mode}
+use Rattle.verdicts.specs.declared.command.Mode.TheVariants.{Best, Serial, Wins, Replay, Big}
+use Rattle.verdicts.specs.ScheduleText.{is_schedule, machines_of}
 
 abbrev pub mode_word : Mode → List ℕ
 mode_word Best = codes "best"
@@ -22,29 +14,29 @@ mode_word Wins = codes "wins"
 mode_word Replay = codes "replay"
 mode_word Big = codes "big"
 
--- an option with its value: of an algebra's name the place among the words, from 0; a number of evaluators; the seed of
--- their orders; of a schedule its place; the size of the word that is made
+-- an option with its value: an algebra's name; a number of evaluators; the seed of their orders; the machines that a
+-- schedule names in turn; the size of the word that is made
 pub data Setting : Type 0 where
-  Algebra : (place : ℕ) → Setting
+  Algebra : (name : List ℕ) → Setting
   Workers : (workers : ℕ) → Setting
   Seed : (seed : ℕ) → Setting
-  Schedule : (place : ℕ) → Setting
+  Schedule : (machines : List ℕ) → Setting
   Size : (size : ℕ) → Setting
 
 abbrev pub option_word : Setting → List ℕ
-option_word (Algebra place) = codes "--algebra"
+option_word (Algebra name) = codes "--algebra"
 option_word (Workers workers) = codes "--workers"
 option_word (Seed seed) = codes "--seed"
-option_word (Schedule place) = codes "--schedule"
+option_word (Schedule machines) = codes "--schedule"
 option_word (Size size) = codes "--size"
 
 -- the options of a mode: a word that is made has no other algebra than its grammar's, and evaluators follow a schedule
 -- in one mode alone
 abbrev pub Allows : Mode → Setting → Type 0
-Allows mode (Algebra place) = (mode ≡ Big) → ⊥
+Allows mode (Algebra name) = (mode ≡ Big) → ⊥
 Allows mode (Workers workers) = Unit {0}
 Allows mode (Seed seed) = Unit {0}
-Allows mode (Schedule place) = mode ≡ Replay
+Allows mode (Schedule machines) = mode ≡ Replay
 Allows mode (Size size) = mode ≡ Big
 
 -- one or more decimal digits with this value; zeros may come first
@@ -55,30 +47,30 @@ IsNumberWord word number = IsNumeral 10 word × (number ≡ digits_value 10 word
 abbrev pub greatest_size : ℕ
 greatest_size = 2046
 
--- the word at this place is a value that the setting allows
-abbrev pub IsValue : ℕ → List ℕ → Setting → Type 0
-IsValue place word (Algebra named) = IsTrue (is_name word) × (named ≡ place)
-IsValue place word (Workers workers) = IsNumberWord word workers × (1 ≤ workers) × (workers ≤ 32)
-IsValue place word (Seed seed) = IsNumberWord word seed × (seed < 2 ^ 64)
-IsValue place word (Schedule named) = IsTrue (is_schedule word) × (named ≡ place)
-IsValue place word (Size size) = IsNumberWord word size × (1 ≤ size) × (size ≤ greatest_size)
+-- the word is a value that the setting allows
+abbrev pub IsValue : List ℕ → Setting → Type 0
+IsValue word (Algebra name) = IsTrue (is_name word) × (name ≡ word)
+IsValue word (Workers workers) = IsNumberWord word workers × (1 ≤ workers) × (workers ≤ 32)
+IsValue word (Seed seed) = IsNumberWord word seed × (seed < 2 ^ 64)
+IsValue word (Schedule machines) = IsTrue (is_schedule word) × (machines ≡ machines_of word)
+IsValue word (Size size) = IsNumberWord word size × (1 ≤ size) × (size ≤ greatest_size)
 
--- the words from this place on are these settings, one behind the other
-abbrev pub AreSettings : ℕ → List (List ℕ) → List Setting → Type 0
-AreSettings place [] [] = Unit {0}
-AreSettings place (option ∷ value ∷ words) (setting ∷ settings) =
-    (option ≡ option_word setting) × IsValue (place + 1) value setting × AreSettings (place + 2) words settings
-AreSettings place words settings = ⊥
+-- the words are these settings, one behind the other
+abbrev pub AreSettings : List (List ℕ) → List Setting → Type 0
+AreSettings [] [] = Unit {0}
+AreSettings (option ∷ value ∷ words) (setting ∷ settings) =
+    (option ≡ option_word setting) × IsValue value setting × AreSettings words settings
+AreSettings words settings = ⊥
 
 -- no option is set twice
 abbrev pub AreSetOnce : List Setting → Type 0
 AreSetOnce settings = IsTrue (are_distinct (map option_word settings))
 
--- the value of an option, or what holds where it is not set: the first algebra, one evaluator, the seed 0, no schedule,
--- the size 0
-abbrev pub algebra_set : List Setting → Option ℕ
+-- the value of an option, or what holds where it is not set: the first algebra, one evaluator, the seed 0, a
+-- schedule without machines, the size 0
+abbrev pub algebra_set : List Setting → Option (List ℕ)
 algebra_set [] = None
-algebra_set (Algebra place ∷ settings) = Some place
+algebra_set (Algebra name ∷ settings) = Some name
 algebra_set (setting ∷ settings) = algebra_set settings
 
 abbrev pub workers_set : List Setting → ℕ
@@ -91,9 +83,9 @@ seed_set [] = 0
 seed_set (Seed seed ∷ settings) = seed
 seed_set (setting ∷ settings) = seed_set settings
 
-abbrev pub schedule_set : List Setting → Option ℕ
-schedule_set [] = None
-schedule_set (Schedule place ∷ settings) = Some place
+abbrev pub schedule_set : List Setting → List ℕ
+schedule_set [] = []
+schedule_set (Schedule machines ∷ settings) = machines
 schedule_set (setting ∷ settings) = schedule_set settings
 
 abbrev pub size_set : List Setting → ℕ
@@ -101,13 +93,13 @@ size_set [] = 0
 size_set (Size size ∷ settings) = size
 size_set (setting ∷ settings) = size_set settings
 
--- what the words of a command line say; the size is 0 where none is set
+-- what the words of a command line say; where none is set, there is no machine in the schedule, and the size is 0
 pub record Command : Type 0 where
   pub mode : Mode
-  pub algebra : Option ℕ
+  pub algebra : Option (List ℕ)
   pub workers : ℕ
   pub seed : ℕ
-  pub schedule : Option ℕ
+  pub schedule : List ℕ
   pub size : ℕ
 
 -- the words are this command
@@ -115,7 +107,7 @@ pub record IsCommand (words : List (List ℕ)) (command : Command) : Type 0 wher
   pub options : List (List ℕ)
   pub settings : List Setting
   pub words_are : words ≡ mode_word command.mode ∷ options
-  pub set : AreSettings 1 options settings
+  pub set : AreSettings options settings
   pub once : AreSetOnce settings
   pub allowed : All (Allows command.mode) settings
   pub algebra_is : command.algebra ≡ algebra_set settings
@@ -124,20 +116,16 @@ pub record IsCommand (words : List (List ℕ)) (command : Command) : Type 0 wher
   pub schedule_is : command.schedule ≡ schedule_set settings
   pub size_is : command.size ≡ size_set settings
   -- what is replayed has a schedule, and a word that is made has a size
-  pub scheduled : command.mode ≡ Replay → IsSome command.schedule
+  pub scheduled : command.mode ≡ Replay → 1 ≤ length command.schedule
   pub sized : command.mode ≡ Big → 1 ≤ command.size
 
 -- the words are some command
 abbrev pub HasCommand : List (List ℕ) → Type 0
 HasCommand words = (command : Command) × IsCommand words command
 
--- the machines that the schedule of a command names in turn; none where it has no schedule
-abbrev pub schedule_of : List (List ℕ) → Command → List ℕ
-schedule_of words command = entries command.schedule
-  where
-    entries : Option ℕ → List ℕ
-    entries None = []
-    entries (Some place) = map entry_of (slice_index_or words place [])
+-- it holds of all words that are this command
+abbrev pub ForWordsOf : Command → (List (List ℕ) → Type 0) → Type 0
+ForWordsOf command holds = (words : List (List ℕ)) → IsCommand words command → holds words
 
 -- whether a mode reads a job: a word that is made needs none
 abbrev pub ReadsJob : Mode → Type 0

@@ -1,5 +1,6 @@
 -- The verdict: what the program has to answer to the words of its command line and the bytes of its input.
-use Rattle.std.specs.Prelude.{◌≡◌, ℕ, ◌+◌, ◌<◌, ◌≤◌, ◌⊎◌, Option, None, Some, List, [], ◌∷◌, length, slice_index_or}
+use Rattle.std.specs.Prelude.{◌≡◌, ℕ, ◌+◌, ◌<◌, ◌≤◌, ◌⊎◌, List, [], ◌∷◌, length}
+use Rattle.std.specs.Option.{unwrap_or}
 use Rattle.adp_model.specs.declared.grammar.Grammar as grammars
 use Rattle.adp_model.specs.declared.job.Job.{Job}
 use Rattle.adp_model.specs.declared.fault.TextFault.{TextFault}
@@ -13,7 +14,9 @@ use Rattle.adp_model.specs.ProblemFields.{KeepsLimits}
 use Rattle.adp_model.specs.PosedProblem.{PosedProblem}
 use Rattle.adp_model.specs.Report.{IsReport, IsWinsReport}
 use Rattle.adp_model.specs.BigReport.{IsBigReport}
-use Rattle.verdicts.specs.Command.{Mode, ShowsWins, Best, Serial, Wins, Replay, Big, Command, IsCommand, HasCommand, ReadsJob, AsksForJob}
+use Rattle.verdicts.specs.declared.command.Mode.{Mode}
+use Rattle.verdicts.specs.declared.command.Mode.TheVariants.{Best, Serial, Wins, Replay, Big}
+use Rattle.verdicts.specs.Command.{ShowsWins, Command, IsCommand, HasCommand, ReadsJob, AsksForJob}
 
 -- a job has at most this many bytes
 abbrev pub greatest_length : ℕ
@@ -38,18 +41,14 @@ pub record AsksFor (words : List (List ℕ)) (bytes : List ℕ) (command : Comma
   pub is_text : IsText bytes job
 
 -- the name of the algebra that a command asks for, or of the grammar's first
-abbrev pub asked_name : List (List ℕ) → Command → grammars.Grammar → List ℕ
-asked_name words command grammar = named command.algebra
-  where
-    named : Option ℕ → List ℕ
-    named None = (algebra_at grammar 0).name
-    named (Some place) = slice_index_or words place []
+abbrev pub asked_name : Command → grammars.Grammar → List ℕ
+asked_name command grammar = unwrap_or command.algebra (algebra_at grammar 0).name
 
 -- the words and the bytes ask for the job's words under this algebra, and the grammar has no fault under it
 pub record AsksUnder (words : List (List ℕ)) (bytes : List ℕ) (job : Job) (algebra : ℕ) : Type 0 where
   pub command : Command
   pub asks : AsksFor words bytes command job
-  pub faultless : IsFaultless job.grammar (asked_name words command job.grammar) algebra
+  pub faultless : IsFaultless job.grammar (asked_name command job.grammar) algebra
 
 -- all of these words keep the limits
 abbrev pub KeepLimits : grammars.Grammar → ℕ → List (List ℕ) → Type 0
@@ -63,24 +62,24 @@ IsFirstLimit grammar algebra number (word ∷ words) first fault =
     ((first ≡ number) × IsLimitFault grammar algebra (length word) fault)
     ⊎ (KeepsLimits grammar algebra (length word) × IsFirstLimit grammar algebra (number + 1) words first fault)
 
--- the report of the word with this number, with the wins of so many evaluators
-abbrev pub IsReportOfWins : ℕ → ℕ → PosedProblem → List ℕ → Type 0
-IsReportOfWins workers number p report = (wins : List ℕ) × (length wins ≡ workers) × IsWinsReport number p wins report
+-- the report that a mode asks for of the word with this number, where its evaluators have these wins
+abbrev pub IsReportWith : Mode → ℕ → PosedProblem → List ℕ → List ℕ → Type 0
+IsReportWith Best number p wins report = IsReport number p report
+IsReportWith Serial number p wins report = IsReport number p report
+IsReportWith Wins number p wins report = IsWinsReport number p wins report
+IsReportWith Replay number p wins report = IsWinsReport number p wins report
+IsReportWith Big number p wins report = ⊥
 
--- the report that a mode asks for of the word with this number: the plain one, or one with the wins of so many
--- evaluators
-abbrev pub IsReportIn : Mode → ℕ → ℕ → PosedProblem → List ℕ → Type 0
-IsReportIn Best workers number p report = IsReport number p report
-IsReportIn Serial workers number p report = IsReport number p report
-IsReportIn Wins workers number p report = IsReportOfWins workers number p report
-IsReportIn Replay workers number p report = IsReportOfWins workers number p report
-IsReportIn Big workers number p report = ⊥
+-- the report that a command asks for of the word with this number, with some wins for each of its evaluators
+abbrev pub IsReportIn : Command → ℕ → PosedProblem → List ℕ → Type 0
+IsReportIn command number p report =
+    (wins : List ℕ) × (length wins ≡ command.workers) × IsReportWith command.mode number p wins report
 
 -- the reports of these words in order, the first of which has this number, as the command asks for them
 abbrev pub AreReports : Command → grammars.Grammar → ℕ → ℕ → List (List ℕ) → List (List ℕ) → Type 0
 AreReports command grammar algebra number [] [] = Unit {0}
 AreReports command grammar algebra number (word ∷ words) (report ∷ reports) =
-    IsReportIn command.mode command.workers number (record { grammar = grammar; algebra = algebra; word = word }) report
+    IsReportIn command number (record { grammar = grammar; algebra = algebra; word = word }) report
     × AreReports command grammar algebra (number + 1) words reports
 AreReports command grammar algebra number words reports = ⊥
 
@@ -104,7 +103,7 @@ IsVerdict words bytes TooLong = AsksForJob words × (greatest_length < length by
 IsVerdict words bytes (Text fault) = AsksForJob words × (length bytes ≤ greatest_length) × IsFaultOf bytes fault
 IsVerdict words bytes (Grammar fault) =
     (command : Command) × (job : Job) × AsksFor words bytes command job
-    × IsGrammarFault job.grammar (asked_name words command job.grammar) fault
+    × IsGrammarFault job.grammar (asked_name command job.grammar) fault
 IsVerdict words bytes (Limit word fault) =
     (job : Job) × (algebra : ℕ) × AsksUnder words bytes job algebra
     × IsFirstLimit job.grammar algebra 1 job.words word fault

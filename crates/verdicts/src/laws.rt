@@ -4,7 +4,7 @@ ghost use Rattle.adp_model.specs.PosedProblem.{PosedProblem};
 ghost use Rattle.adp_model.specs.ProblemFields.{IsAdmissible};
 ghost use Rattle.std.specs.Prelude.{◌≡◌, ◌⊎◌, ◌≤◌, ◌<◌, ◌^◌, ℕ, List};
 ghost use Rattle.verdicts.specs.CheckableJobs.{AreCheckable};
-ghost use Rattle.verdicts.specs.Command.{Big, Command, IsCommand, Mode, ReadsJob, greatest_size};
+ghost use Rattle.verdicts.specs.Command.{Command, IsCommand, ReadsJob, greatest_size};
 ghost use Rattle.adp_model.specs.declared.job.Job.{Job};
 ghost use Rattle.verdicts.specs.Verdict.{AreOfWins, AsksUnder, IsLimit, IsReportIn, IsReports, IsVerdict, Reports, Verdict};
 
@@ -45,10 +45,10 @@ pub fn verdict_is_unique()
     limits_are_kept_or_passed();
 }
 
-/// A word that is admitted has a report, in each mode that reads words, for each number of evaluators.
+/// A word that is admitted has a report that a command asks for, if the command reads words.
 pub fn words_have_reports()
-    ensures { (mode : Mode) (workers number : ℕ) (p : PosedProblem) → ReadsJob mode → 1 ≤ workers → IsAdmissible p
-        → (report : List ℕ) × IsReportIn mode workers number p report }
+    ensures { (command : Command) (number : ℕ) (p : PosedProblem) → ReadsJob command.mode → 1 ≤ command.workers
+        → IsAdmissible p → (report : List ℕ) × IsReportIn command number p report }
 {
     report::words_have_reports();
 }

@@ -5,4 +5,4 @@ pub unreachable-requires : goal.unreachable-requires
 unreachable-requires c =
     has_candidate c.args.problem.now c.args.command.now.seed c.args.command.now.size c.requires.made
     (c.made_words_have_trees.ensures c.args.command.now.seed c.args.command.now.size) c.args.finished.now.answer
-    c.requires.finished.answer c.in-NoCandidate.is
+    c.requires.finished.is_finished.answer c.in-NoCandidate.is

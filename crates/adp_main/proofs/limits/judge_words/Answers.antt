@@ -26,8 +26,10 @@ returns-in-Some-clause-fault c =
     let words = c.args.words.now in
     let count = c.within_cells-count.result.0 in
     let found : (count < length words) × IsLimitFault grammar algebra (length (slice_index_or words count [])) c.in-Some.fault =
-    subst (λ (r : Option LimitFault). MatchOption r (count ≡ length words) (λ fault. (count < length words) × IsLimitFault grammar algebra (length (slice_index_or words count [])) fault)) c.in-Some.is c.within_cells-count.ensures.fault in
+    subst (λ (r : Option LimitFault). MatchOption r (count ≡ length words)
+    (λ fault. (count < length words) × IsLimitFault grammar algebra (length (slice_index_or words count [])) fault)) c.in-Some.is c.within_cells-count.ensures.fault in
     rw c.limit-in-Some.ensures
     (first_limit grammar algebra 1 words count (count + 1) [] c.in-Some.fault found.0 (omega arith)
-    (subst (λ (ws : List (List ℕ)). AllByRecursion IsAdmissible (posed_words grammar algebra ws)) (take_all c.loop-place.place (take count words) (omega (arith, c.loop-place-test.false))) c.loop-place.invariant)
+    (subst (λ (ws : List (List ℕ)). AllByRecursion IsAdmissible (posed_words grammar algebra ws))
+    (take_all c.loop-place.place (take count words) (omega (arith, c.loop-place-test.false))) c.loop-place.invariant)
     found.1)

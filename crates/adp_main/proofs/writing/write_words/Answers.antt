@@ -2,7 +2,6 @@ use Rattle.std.proofs.Common.{◌≡◌, ◌≤◌, List, length, ◌∙◌, ref
 use Rattle.std.proofs.lemmas.List.{length-map, take_all}
 use Rattle.std.proofs.lemmas.Result.{err_from_is_err_and}
 use Rattle.adp_model.specs.PosedProblem.{PosedProblem}
-use Rattle.adp_main.specs.Commands.{asked_command}
 use Rattle.adp_main.specs.Posed.{posed_words}
 use Rattle.adp_main.specs.Reporting.{AreReportsOf}
 use Rattle.adp_main.proofs.FirstLimit.{admissible-at, posed_at}
@@ -18,27 +17,27 @@ admitted-problem-requires-clause-limits g c =
 pub returns-in_err-write_word-clause-written : goal.returns-in_err-write_word-clause-written
 returns-in_err-write_word-clause-written g c =
     let p = err_from_is_err_and c.from_residual.result c.from_residual.ensures.1 in
-    let command = asked_command c.args.command.now in
+    let command = c.args.command.now in
     let problems = posed_words c.args.checked.now.grammar c.args.checked.now.algebra c.args.words.now in
     let w = c.loop-place.invariant.ran in
     let at = posed_at c.args.checked.now.grammar c.args.checked.now.algebra c.args.words.now c.loop-place.place
     c.index-words-place.result c.admitted-problem.result (omega (arith, c.loop-place-test.true)) c.index-words-place.is
     c.admitted-problem.ensures in
-    rw (p.1, p.2) (failed_written command c.args.schedule.now
-    (λ number q admissible. c.words_have_reports.ensures command.mode command.workers number q c.requires.mode
-    c.requires.some admissible)
+    rw (p.1, p.2) (failed_written command
+    (λ number q admissible. c.words_have_reports.ensures command number q c.requires.reads
+    c.in_range.ensures.some_workers admissible)
     problems c.requires.admissible c.loop-place.place w.0 w.1 w.2 _ _ _ _ _ _ w.3 w.4 c.admitted-problem.result at.0 at.1
     c.in_err-write_word.field-0.0 c.in_err-write_word.ensures.ending)
 
 pub returns-in_err-write_word-clause-noted : goal.returns-in_err-write_word-clause-noted
 returns-in_err-write_word-clause-noted g c =
     let p = err_from_is_err_and c.from_residual.result c.from_residual.ensures.1 in
-    let command = asked_command c.args.command.now in
+    let command = c.args.command.now in
     let problems = posed_words c.args.checked.now.grammar c.args.checked.now.algebra c.args.words.now in
     let w = c.loop-place.invariant.ran in
-    rw (p.1, p.2) (failed_noted command c.args.schedule.now
-    (λ number q admissible. c.words_have_reports.ensures command.mode command.workers number q c.requires.mode
-    c.requires.some admissible)
+    rw (p.1, p.2) (failed_noted command
+    (λ number q admissible. c.words_have_reports.ensures command number q c.requires.reads
+    c.in_range.ensures.some_workers admissible)
     problems c.requires.admissible c.loop-place.place w.0 w.1 w.2 _ _ _ _ _ _ w.3 w.4 c.admitted-problem.result
     c.in_err-write_word.field-0.0 c.in_err-write_word.ensures.ending)
 
@@ -55,7 +54,7 @@ loop-place-preserved g c =
       ran = (
         _,
         _,
-        one_more_run (asked_command c.args.command.now) c.args.schedule.now
+        one_more_run c.args.command.now
             (posed_words c.args.checked.now.grammar c.args.checked.now.algebra c.args.words.now) c.loop-place.place
             c.admitted-problem.result at.0 at.1 w.0 w.1 w.2 e.0 e.1 e.2,
         adds_more _ _ _ w.1 e.1 w.3 e.3,
@@ -70,21 +69,21 @@ returns-clause-written g c =
     let number : length problems ≡ length c.args.words.now = length-map c.args.words.now _ in
     let all : length problems ≤ c.loop-place.place = omega (arith, number, c.loop-place-test.false) in (
       w.0,
-      subst (λ (ps : List PosedProblem). AreReportsOf (asked_command c.args.command.now) 1 ps w.0)
+      subst (λ (ps : List PosedProblem). AreReportsOf c.args.command.now 1 ps w.0)
           (take_all c.loop-place.place problems all)
-          (run_reports (asked_command c.args.command.now) c.args.schedule.now 1 _ w.0 w.1 w.2),
+          (run_reports c.args.command.now 1 _ w.0 w.1 w.2),
       w.4,
     )
 
 pub returns-clause-noted : goal.returns-clause-noted
 returns-clause-noted g c =
-    let command = asked_command c.args.command.now in
+    let command = c.args.command.now in
     let w = c.loop-place.invariant.ran in
     let problems = posed_words c.args.checked.now.grammar c.args.checked.now.algebra c.args.words.now in
     let number : length problems ≡ length c.args.words.now = length-map c.args.words.now _ in
     let all : length problems ≤ c.loop-place.place = omega (arith, number, c.loop-place-test.false) in
-    all_noted command c.args.schedule.now
-    (λ number q admissible. c.words_have_reports.ensures command.mode command.workers number q c.requires.mode
-    c.requires.some admissible)
+    all_noted command
+    (λ number q admissible. c.words_have_reports.ensures command number q c.requires.reads
+    c.in_range.ensures.some_workers admissible)
     problems c.requires.admissible c.loop-place.place w.0 w.1 w.2 _ _ (g.G.Gate.runs c.loop-place.gate) _ _
     (g.K.Sink.held c.loop-place.out) w.3 w.4 all

@@ -4,7 +4,6 @@ use Rattle.std.specs.List.{concat}
 use Rattle.std.specs.Io.KnownBytes.{Appends}
 use Rattle.adp_io.specs.Streams.{SameTold}
 use Rattle.evaluators.specs.declared.finished.RunNote.{RunNote}
-use Rattle.adp_main.specs.Commands.{asked_command}
 use Rattle.adp_main.specs.Posed.{posed_words}
 use Rattle.adp_main.specs.RunNotes.{AddsNotes, AreRunsOf}
 use Rattle.adp_main.proofs.writing.write_words.Given as goal
@@ -14,7 +13,7 @@ invariant-loop-place g l = record {
   told : SameTold (g.K.Sink.held l.initial.out) (g.K.Sink.held l.out);
   faults : g.K.Sink.faults l.out ≡ g.K.Sink.faults l.initial.out;
   ran : (reports : List (List ℕ)) × (notes : List RunNote)
-      × AreRunsOf (asked_command l.command) l.schedule 1
+      × AreRunsOf l.command 1
       (take l.place (posed_words l.checked.grammar l.checked.algebra l.words)) reports notes
       × AddsNotes (g.G.Gate.runs l.initial.gate) (g.G.Gate.runs l.gate) notes
       × Appends (g.K.Sink.held l.initial.out) (g.K.Sink.held l.out) (concat reports);

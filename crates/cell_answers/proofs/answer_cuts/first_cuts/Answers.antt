@@ -38,7 +38,8 @@ bellman c = c.bellman.ensures.admissible c.args.lines.now (admissible c)
 sound : (c : After-index-alternatives-best) → AreSound c.args.lines.now
 sound c = sound_of c.args.lines.now (admissible c) (c.bounds_are_sound.ensures.score c.args.lines.now) (c.answer_is_unique.ensures c.args.lines.now)
 
-some : (c : After-index-alternatives-best) (alternative : ℕ) → alternative < length (alternatives_of c.args.lines.now.grammar c.args.cell.rule) → 1 ≤ length (arguments_of c.args.lines.now.grammar c.args.cell.rule alternative)
+some : (c : After-index-alternatives-best) (alternative : ℕ) → alternative < length (alternatives_of c.args.lines.now.grammar c.args.cell.rule)
+    → 1 ≤ length (arguments_of c.args.lines.now.grammar c.args.cell.rule alternative)
 some c alternative in_range = c.alternatives_fit.ensures.arguments c.args.lines.now.grammar (admissible c).checked.well_formed c.args.cell.rule alternative in_range
 
 few : (c : After-index-alternatives-best) (alternative : ℕ) → length (arguments_of c.args.lines.now.grammar c.args.cell.rule alternative) ≤ 4
@@ -89,10 +90,12 @@ laid c =
     bounded c.args.scores.now (c.arguments_are_few_and_known.ensures.known p.grammar formed c.args.cell.rule c.args.best.alt) (few c c.args.best.alt) c.requires.scored
 
 -- what holds of the parts holds of them as they are read
-here : (c : After-index-alternatives-best) (P : List Arg → List ℤ → Type 0) → P (the_arguments c) (the_factors c) → P c.arguments-arguments.result.now (take (length c.arguments-arguments.result.now) (kept c).factors)
+here : (c : After-index-alternatives-best) (P : List Arg → List ℤ → Type 0) → P (the_arguments c) (the_factors c)
+    → P c.arguments-arguments.result.now (take (length c.arguments-arguments.result.now) (kept c).factors)
 here c P it = subst (λ factors. P c.arguments-arguments.result.now factors) (sym (factors_are c)) (subst (λ arguments. P arguments (the_factors c)) (sym (arguments_are c)) it)
 
-here_laid : (c : After-index-alternatives-best) → AreLaid c.args.lines.now c.args.scores.now c.arguments-arguments.result.now (take (length c.arguments-arguments.result.now) (kept c).factors) c.args.cell.from c.args.cell.to
+here_laid : (c : After-index-alternatives-best)
+    → AreLaid c.args.lines.now c.args.scores.now c.arguments-arguments.result.now (take (length c.arguments-arguments.result.now) (kept c).factors) c.args.cell.from c.args.cell.to
 here_laid c = here c (λ arguments factors. AreLaid c.args.lines.now c.args.scores.now arguments factors c.args.cell.from c.args.cell.to) (laid c)
 
 -- ---- its line
@@ -145,9 +148,11 @@ told c = parts (turned (the_goal c) c.args.best.score) (kept c).constant
     parts : (a b : ℤ) → a ≡ (b +ℤ (a -ℤ b))
     parts a b = omega (arith, ints)
 
-is_greatest : (c : After-index-alternatives-best) → IsGreatestOf (HasTotal c.args.lines.now (HasBestScore c.args.lines.now) (the_arguments c) (the_factors c) c.args.cell.from c.args.cell.to) (Some (the_total c))
+is_greatest : (c : After-index-alternatives-best)
+    → IsGreatestOf (HasTotal c.args.lines.now (HasBestScore c.args.lines.now) (the_arguments c) (the_factors c) c.args.cell.from c.args.cell.to) (Some (the_total c))
 is_greatest c =
-    total_greatest c.args.lines.now (bellman c) c.args.cell c.requires.in_word (some c) (few c) c.args.best.alt (in_range c) (kept c).constant (the_factors c) (kept_is c).scored c.args.best.score c.requires.best (the_total c) (told c)
+    total_greatest c.args.lines.now (bellman c) c.args.cell c.requires.in_word (some c) (few c) c.args.best.alt (in_range c) (kept c).constant (the_factors c)
+    (kept_is c).scored c.args.best.score c.requires.best (the_total c) (told c)
 
 total_is_low : (c : After-index-alternatives-best) → nat_abs (the_total c) ≤ greatest_score
 total_is_low c = total_low c.args.lines.now (sound c) (the_arguments c) (the_factors c) c.args.cell.from c.args.cell.to (laid c).low (the_total c) (is_greatest c).0
@@ -155,7 +160,8 @@ total_is_low c = total_low c.args.lines.now (sound c) (the_arguments c) (the_fac
 score_is_low : (c : After-index-alternatives-best) → nat_abs c.args.best.score ≤ greatest_score
 score_is_low c =
     let p = c.args.lines.now in
-    let gives = best_gives p (bellman c) c.args.cell c.requires.in_word (some c) (few c) c.args.best.alt (in_range c) (kept c).constant (the_factors c) (kept_is c).scored c.args.best.score c.requires.best in
+    let gives = best_gives p (bellman c) c.args.cell c.requires.in_word (some c) (few c) c.args.best.alt (in_range c) (kept c).constant (the_factors c)
+    (kept_is c).scored c.args.best.score c.requires.best in
     let within : c.args.best.alt + 1 ≤ length (alternatives_of p.grammar c.args.cell.rule) = omega (arith, in_range c) in
     let low = score_low p (admissible c) (sound c).within c.args.cell (c.args.best.alt + 1) (turned (the_goal c) c.args.best.score) c.requires.in_word c.requires.rule within (c.args.best.alt, omega arith, gives) in
     let same_size = turned_low (the_goal c) c.args.best.score in
@@ -167,7 +173,8 @@ turned-requires c =
     simp to_z-of_z (score_is_low (goal.at.turned-requires c).After-index-alternatives-best)
 
 -- the score, turned, as it is found
-turned_is : (c : After-index-alternatives-best) (goal : Goal) (found : ℤ) → goal ≡ (algebra_of c.problem-problem.result.now).goal → found ≡ turned goal c.args.best.score → found ≡ turned (the_goal c) c.args.best.score
+turned_is : (c : After-index-alternatives-best) (goal : Goal) (found : ℤ) → goal ≡ (algebra_of c.problem-problem.result.now).goal → found ≡ turned goal c.args.best.score
+    → found ≡ turned (the_goal c) c.args.best.score
 turned_is c goal found goal_is is =
     is ∙ ap (λ goal. turned goal c.args.best.score) (goal_is ∙ ap (λ (q : PosedProblem). (algebra_of q).goal) (same c))
 
@@ -190,7 +197,8 @@ read_total : (c : After-index-alternatives-best) (found : ℤ) → FitsSigned w6
 read_total c found fits fits_constant is =
     let difference = total_is c found is in
     let fits_total : FitsSigned w64 (found -ℤ (kept c).constant) = subst (FitsSigned w64) (sym difference) (fits_below (the_total c) (total_is_low c)) in
-    ap (λ x. to_z w64 (of_z w64 (x -ℤ to_z w64 (of_z w64 (kept c).constant)))) (to_z-of_z w64 found fits) ∙ ap (λ x. to_z w64 (of_z w64 (found -ℤ x))) (to_z-of_z w64 (kept c).constant fits_constant) ∙ to_z-of_z w64 (found -ℤ (kept c).constant) fits_total ∙ difference
+    ap (λ x. to_z w64 (of_z w64 (x -ℤ to_z w64 (of_z w64 (kept c).constant)))) (to_z-of_z w64 found fits) ∙ ap (λ x. to_z w64 (of_z w64 (found -ℤ x))) (to_z-of_z w64 (kept c).constant fits_constant)
+    ∙ to_z-of_z w64 (found -ℤ (kept c).constant) fits_total ∙ difference
 
 pub first_ends-requires-clause-weighted : goal.first_ends-requires-clause-weighted
 first_ends-requires-clause-weighted c = (here_laid (goal.at.first_ends-requires-clause-weighted c).After-index-alternatives-best).weighted
@@ -231,5 +239,6 @@ returns c =
     let there = subst (λ total. F all cut total (take 4 c.first_ends.result)) read (c.first_ends.ensures 4 long (omega arith)) in
     let four_there = subst (λ them. F all cut (the_total at) them) (four_read c.first_ends.result four) there in
     let first = subst (λ arguments. F arguments (the_factors at) (the_total at) ends) (arguments_are at) (subst (λ factors. F all factors (the_total at) ends) (factors_are at) four_there) in
-    answer_by_ends p (bellman at) c.args.cell c.requires.in_word (some at) (few at) c.args.best.alt (in_range at) (kept at).constant (the_factors at) (kept_is at).scored c.args.best.score c.requires.best (the_total at) (told at)
+    answer_by_ends p (bellman at) c.args.cell c.requires.in_word (some at) (few at) c.args.best.alt (in_range at) (kept at).constant (the_factors at)
+    (kept_is at).scored c.args.best.score c.requires.best (the_total at) (told at)
     (get_or c.first_ends.result 0 0) (get_or c.first_ends.result 1 0) (get_or c.first_ends.result 2 0) (get_or c.first_ends.result 3 0) first

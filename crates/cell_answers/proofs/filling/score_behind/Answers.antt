@@ -63,14 +63,16 @@ each_behind : (c : After-arguments_are_few_and_known) → length (behind c) ≡ 
 each_behind c = (others c).weighted.factors_each
 
 -- there are none
-found_without : (p : PosedProblem) (cell : Cell) (alt : ℕ) (kept : KeptAlternative) (is : IsAlternative p cell.rule alt kept) (from to : ℕ) → kept.others.now ≡ [] → (length kept.others.now ≡ 0 → from ≡ to) → IsFoundBehind p kept from to (Some (pos 0))
+found_without : (p : PosedProblem) (cell : Cell) (alt : ℕ) (kept : KeptAlternative) (is : IsAlternative p cell.rule alt kept) (from to : ℕ) → kept.others.now ≡ []
+    → (length kept.others.now ≡ 0 → from ≡ to) → IsFoundBehind p kept from to (Some (pos 0))
 found_without p cell alt kept is from to none whole =
     let long : length kept.others.now ≡ 0 = ap length none in
     let T : List Arg → ℕ → Type 0 = λ arguments to. IsGreatestOf (HasTotal p (HasBestScore p) arguments (factors_behind kept) from to) (Some (pos 0)) in
     subst (λ arguments. T arguments to) (sym none) (subst (T []) (whole long) (total_of_none p (HasBestScore p) (factors_behind kept) from (others_each p cell alt kept is ∙ long)))
 
 -- the only argument, and its factor as it is read
-module _ (others : List Arg) (factors behind : List ℤ) (argument : Arg) (read : ℤ) (one : others ≡ argument ∷ []) (are : factors ≡ behind) (each : length behind ≡ length others) (read_is : read ≡ get_or factors 0 (pos 0)) where
+module _ (others : List Arg) (factors behind : List ℤ) (argument : Arg) (read : ℤ) (one : others ≡ argument ∷ []) (are : factors ≡ behind) (each : length behind ≡ length others)
+    (read_is : read ≡ get_or factors 0 (pos 0)) where
   factor_is : behind ≡ read ∷ []
   factor_is =
       let factor = get_or factors 0 (pos 0) in
@@ -83,16 +85,19 @@ module _ (others : List Arg) (factors behind : List ℤ) (argument : Arg) (read 
   from_alone : (R : List Arg → List ℤ → Type 0) → R (argument ∷ []) (read ∷ []) → R others behind
   from_alone R it = subst (λ arguments. R arguments behind) (sym one) (subst (R (argument ∷ [])) (sym factor_is) it)
 
-last_laid : (c : After-arguments_are_few_and_known) (argument : Arg) (factors : List ℤ) (read : ℤ) → c.args.alternative.now.others.now ≡ argument ∷ [] → factors ≡ behind c → read ≡ get_or factors 0 (pos 0)
+last_laid : (c : After-arguments_are_few_and_known) (argument : Arg) (factors : List ℤ) (read : ℤ) → c.args.alternative.now.others.now ≡ argument ∷ [] → factors ≡ behind c
+    → read ≡ get_or factors 0 (pos 0)
     → AreLaid c.args.lines.now c.args.scores.now (argument ∷ []) (read ∷ []) c.args.from c.args.cell.to
 last_laid c argument factors read one are read_is =
-    to_alone c.args.alternative.now.others.now factors (behind c) argument read one are (each_behind c) read_is (λ arguments factors. AreLaid c.args.lines.now c.args.scores.now arguments factors c.args.from c.args.cell.to) (others c)
+    to_alone c.args.alternative.now.others.now factors (behind c) argument read one are (each_behind c) read_is
+    (λ arguments factors. AreLaid c.args.lines.now c.args.scores.now arguments factors c.args.from c.args.cell.to) (others c)
 
 pub last_total-rest-requires-clause-weighted : goal.last_total-rest-requires-clause-weighted
 last_total-rest-requires-clause-weighted c =
     let at = (goal.at.last_total-rest-requires-clause-weighted c).After-arguments_are_few_and_known in
     let factor = get_or c.other_factors-factors.result.now 0 (pos 0) in
-    (last_laid at c.in-Last.argument.now c.other_factors-factors.result.now (to_z w64 (of_z w64 factor)) c.in-Last.ensures c.other_factors-factors.ensures (to_z-of_z w64 factor (search rules))).weighted
+    (last_laid at c.in-Last.argument.now c.other_factors-factors.result.now (to_z w64 (of_z w64 factor)) c.in-Last.ensures c.other_factors-factors.ensures
+    (to_z-of_z w64 factor (search rules))).weighted
 
 pub last_total-rest-requires-clause-scored : goal.last_total-rest-requires-clause-scored
 last_total-rest-requires-clause-scored c =
@@ -107,7 +112,8 @@ last_total-rest-requires-clause-low c =
     (last_laid at c.in-Last.argument.now c.other_factors-factors.result.now (to_z w64 (of_z w64 factor)) c.in-Last.ensures c.other_factors-factors.ensures (to_z-of_z w64 factor (search rules))).low
 
 -- several arguments, with the factors as they are read
-several_laid : (c : After-arguments_are_few_and_known) (factors : List ℤ) → factors ≡ behind c → AreLaid c.args.lines.now c.args.scores.now c.args.alternative.now.others.now factors c.args.from c.args.cell.to
+several_laid : (c : After-arguments_are_few_and_known) (factors : List ℤ) → factors ≡ behind c
+    → AreLaid c.args.lines.now c.args.scores.now c.args.alternative.now.others.now factors c.args.from c.args.cell.to
 several_laid c factors are = subst (λ factors. AreLaid c.args.lines.now c.args.scores.now c.args.alternative.now.others.now factors c.args.from c.args.cell.to) (sym are) (others c)
 
 pub total_of_several-rest-requires-clause-weighted : goal.total_of_several-rest-requires-clause-weighted
@@ -131,9 +137,11 @@ module _ (p : PosedProblem) (cell : Cell) (alt : ℕ) (kept : KeptAlternative) (
       → IsGreatestOf (HasTotal p (HasBestScore p) (argument ∷ []) (read ∷ []) from to) found → rest ≡ found → IsFoundBehind p kept from to rest
   by_last argument factors read found one are read_is greatest rest_is =
       subst (IsFoundBehind p kept from to) (sym rest_is)
-      (from_alone kept.others.now factors (factors_behind kept) argument read one are (others_each p cell alt kept is) read_is (λ arguments factors. IsGreatestOf (HasTotal p (HasBestScore p) arguments factors from to) found) greatest)
+      (from_alone kept.others.now factors (factors_behind kept) argument read one are (others_each p cell alt kept is) read_is
+      (λ arguments factors. IsGreatestOf (HasTotal p (HasBestScore p) arguments factors from to) found) greatest)
 
-  by_several : (factors : List ℤ) (found : Option ℤ) → factors ≡ factors_behind kept → IsGreatestOf (HasTotal p (HasBestScore p) kept.others.now factors from to) found → rest ≡ found → IsFoundBehind p kept from to rest
+  by_several : (factors : List ℤ) (found : Option ℤ) → factors ≡ factors_behind kept → IsGreatestOf (HasTotal p (HasBestScore p) kept.others.now factors from to) found → rest ≡ found
+      → IsFoundBehind p kept from to rest
   by_several factors found are greatest rest_is =
       subst (IsFoundBehind p kept from to) (sym rest_is) (subst (λ factors. IsGreatestOf (HasTotal p (HasBestScore p) kept.others.now factors from to) found) are greatest)
 
@@ -146,10 +154,12 @@ rest_is c =
     elim c.match-way.branch [
       | in-Front w ↦ by_front p c.args.cell c.args.alt kept is c.args.from c.args.cell.to c.match-way.rest w.in-Front.ensures c.requires.opening.whole w.rest-is
       | in-Last w ↦
-          by_last p c.args.cell c.args.alt kept is c.args.from c.args.cell.to c.match-way.rest w.in-Last.argument.now c.other_factors-factors.result.now (to_z w64 (of_z w64 factor)) w.last_total-rest.result
+          by_last p c.args.cell c.args.alt kept is c.args.from c.args.cell.to c.match-way.rest w.in-Last.argument.now c.other_factors-factors.result.now (to_z w64 (of_z w64 factor))
+          w.last_total-rest.result
           w.in-Last.ensures c.other_factors-factors.ensures (to_z-of_z w64 factor (search rules)) w.last_total-rest.ensures w.rest-is
       | in-Several w ↦
-          by_several p c.args.cell c.args.alt kept is c.args.from c.args.cell.to c.match-way.rest c.other_factors-factors.result.now w.total_of_several-rest.result c.other_factors-factors.ensures w.total_of_several-rest.ensures w.rest-is
+          by_several p c.args.cell c.args.alt kept is c.args.from c.args.cell.to c.match-way.rest c.other_factors-factors.result.now
+          w.total_of_several-rest.result c.other_factors-factors.ensures w.total_of_several-rest.ensures w.rest-is
     ]
 
 pub returns-in_default : goal.returns-in_default
@@ -166,10 +176,12 @@ returns-in_default c =
           by_last p cell c.args.alt kept is c.args.from cell.to c.match-way.rest w.in-Last.argument.now c.other_factors-factors.result.now (to_z w64 (of_z w64 factor)) w.last_total-rest.result
           w.in-Last.ensures c.other_factors-factors.ensures (to_z-of_z w64 factor (search rules)) w.last_total-rest.ensures w.rest-is
       | in-Several w ↦
-          by_several p cell c.args.alt kept is c.args.from cell.to c.match-way.rest c.other_factors-factors.result.now w.total_of_several-rest.result c.other_factors-factors.ensures w.total_of_several-rest.ensures w.rest-is
+          by_several p cell c.args.alt kept is c.args.from cell.to c.match-way.rest c.other_factors-factors.result.now
+          w.total_of_several-rest.result c.other_factors-factors.ensures w.total_of_several-rest.ensures w.rest-is
     ] in
     no_score p cell c.args.alt kept is
-    (total_without_others p c.args.scores.now kept.front.now kept.others.now (in_front at) (behind at) cell.from c.args.from cell.to is.in_front.fixed is.front_each (laid at) c.requires.opening.within c.requires.opening.covers c.requires.opening.only
+    (total_without_others p c.args.scores.now kept.front.now kept.others.now (in_front at) (behind at) cell.from c.args.from cell.to is.in_front.fixed is.front_each (laid at)
+    c.requires.opening.within c.requires.opening.covers c.requires.opening.only
     (subst (IsFoundBehind p kept c.args.from cell.to) c.in_default.is rest))
 
 pub between_total-front-requires-clause-weighted : goal.between_total-front-requires-clause-weighted
@@ -179,7 +191,8 @@ between_total-front-requires-clause-weighted c =
     let is = c.requires.alternative in
     let W : List ℤ → Type 0 = AreWeighted c.args.lines.now kept.front.now in
     subst W (sym c.front_factors.ensures)
-    (front_weighted c.args.lines.now c.args.scores.now kept.front.now kept.others.now (in_front at) (behind at) c.args.cell.from c.args.from c.args.cell.to is.in_front.fixed is.front_each (laid at) c.requires.opening.within c.requires.opening.covers c.requires.opening.only)
+    (front_weighted c.args.lines.now c.args.scores.now kept.front.now kept.others.now (in_front at) (behind at) c.args.cell.from c.args.from c.args.cell.to is.in_front.fixed is.front_each (laid at)
+    c.requires.opening.within c.requires.opening.covers c.requires.opening.only)
 
 pub between_total-front-requires-clause-low : goal.between_total-front-requires-clause-low
 between_total-front-requires-clause-low c =
@@ -187,10 +200,12 @@ between_total-front-requires-clause-low c =
     let p = c.args.lines.now in
     let kept = c.args.alternative.now in
     let is = c.requires.alternative in
-    let has = (subst (IsFoundBehind c.args.lines.now c.args.alternative.now c.args.from c.args.cell.to) c.in-Some.is (rest_is (goal.at.between_total-front-requires-clause-low c).After-front_factors)).0 in
+    let has = (subst (IsFoundBehind c.args.lines.now c.args.alternative.now c.args.from c.args.cell.to) c.in-Some.is
+    (rest_is (goal.at.between_total-front-requires-clause-low c).After-front_factors)).0 in
     let L : List ℤ → Type 0 = λ factors. AreLow p kept.front.now factors c.args.cell.from c.args.from in
     subst L (sym c.front_factors.ensures)
-    (front_low p c.args.scores.now kept.front.now kept.others.now (in_front at) (behind at) c.args.cell.from c.args.from c.args.cell.to is.in_front.fixed is.front_each (laid at) c.requires.opening.within c.requires.opening.covers c.requires.opening.only c.in-Some.rest has)
+    (front_low p c.args.scores.now kept.front.now kept.others.now (in_front at) (behind at) c.args.cell.from c.args.from c.args.cell.to is.in_front.fixed is.front_each (laid at)
+    c.requires.opening.within c.requires.opening.covers c.requires.opening.only c.in-Some.rest has)
 
 -- the total of all arguments
 record AreFound (c : After-arguments_are_few_and_known) (front rest : ℤ) : Type 0 where
@@ -208,17 +223,20 @@ found c front_slice front rest same has greatest =
     let behind_greatest = greatest in
     let F : List ℤ → Type 0 = λ factors. HasTotal p (HasBestScore p) kept.front.now factors cell.from c.args.from front in
     let front_has : F (in_front c) = subst F same has in
-    let all = greatest_with_front p c.args.scores.now kept.front.now kept.others.now (in_front c) (behind c) cell.from c.args.from cell.to is.in_front.fixed is.front_each (laid c) c.requires.opening.within c.requires.opening.covers c.requires.opening.only front rest front_has behind_greatest in
+    let all = greatest_with_front p c.args.scores.now kept.front.now kept.others.now (in_front c) (behind c) cell.from c.args.from cell.to is.in_front.fixed is.front_each (laid c)
+    c.requires.opening.within c.requires.opening.covers c.requires.opening.only front rest front_has behind_greatest in
     record {
       greatest = all;
-      total_low = both_low p c.args.scores.now kept.front.now kept.others.now (in_front c) (behind c) cell.from c.args.from cell.to is.in_front.fixed is.front_each (laid c) c.requires.opening.within c.requires.opening.covers c.requires.opening.only (sound c) front rest front_has behind_greatest.0;
+      total_low = both_low p c.args.scores.now kept.front.now kept.others.now (in_front c) (behind c) cell.from c.args.from cell.to is.in_front.fixed is.front_each (laid c)
+          c.requires.opening.within c.requires.opening.covers c.requires.opening.only (sound c) front rest front_has behind_greatest.0;
       score_low = all_low p cell c.args.alt kept is (admissible c) (sound c) (front +ℤ rest) c.requires.in_word c.requires.rule c.requires.in_range all.0;
     }
 
 pub overflow_add-result : goal.overflow_add-result
 overflow_add-result c =
     let at = (goal.at.overflow_add-result c).After-arguments_are_few_and_known in
-    let it = found at c.front_factors.result.now c.between_total-front.result c.in-Some.rest c.front_factors.ensures c.between_total-front.ensures (subst (IsFoundBehind c.args.lines.now c.args.alternative.now c.args.from c.args.cell.to) c.in-Some.is (rest_is (goal.at.overflow_add-result c).After-front_factors)) in
+    let it = found at c.front_factors.result.now c.between_total-front.result c.in-Some.rest c.front_factors.ensures c.between_total-front.ensures
+    (subst (IsFoundBehind c.args.lines.now c.args.alternative.now c.args.from c.args.cell.to) c.in-Some.is (rest_is (goal.at.overflow_add-result c).After-front_factors)) in
     let fits_front : FitsSigned w64 c.between_total-front.result = search rules in
     let fits_rest : FitsSigned w64 c.in-Some.rest = search rules in
     simp to_z-of_z (fits_below (c.between_total-front.result +ℤ c.in-Some.rest) it.total_low)
@@ -226,7 +244,8 @@ overflow_add-result c =
 pub overflow_add-result-2 : goal.overflow_add-result-2
 overflow_add-result-2 c =
     let at = (goal.at.overflow_add-result-2 c).After-arguments_are_few_and_known in
-    let it = found at c.front_factors.result.now c.between_total-front.result c.in-Some.rest c.front_factors.ensures c.between_total-front.ensures (subst (IsFoundBehind c.args.lines.now c.args.alternative.now c.args.from c.args.cell.to) c.in-Some.is (rest_is (goal.at.overflow_add-result-2 c).After-front_factors)) in
+    let it = found at c.front_factors.result.now c.between_total-front.result c.in-Some.rest c.front_factors.ensures c.between_total-front.ensures
+    (subst (IsFoundBehind c.args.lines.now c.args.alternative.now c.args.from c.args.cell.to) c.in-Some.is (rest_is (goal.at.overflow_add-result-2 c).After-front_factors)) in
     let fits_front : FitsSigned w64 c.between_total-front.result = search rules in
     let fits_rest : FitsSigned w64 c.in-Some.rest = search rules in
     let fits_constant : FitsSigned w64 c.args.alternative.now.constant = search rules in
@@ -236,7 +255,8 @@ overflow_add-result-2 c =
 pub returns : goal.returns
 returns c =
     let at = (goal.at.returns c).After-arguments_are_few_and_known in
-    let it = found at c.front_factors.result.now c.between_total-front.result c.in-Some.rest c.front_factors.ensures c.between_total-front.ensures (subst (IsFoundBehind c.args.lines.now c.args.alternative.now c.args.from c.args.cell.to) c.in-Some.is (rest_is (goal.at.returns c).After-front_factors)) in
+    let it = found at c.front_factors.result.now c.between_total-front.result c.in-Some.rest c.front_factors.ensures c.between_total-front.ensures
+    (subst (IsFoundBehind c.args.lines.now c.args.alternative.now c.args.from c.args.cell.to) c.in-Some.is (rest_is (goal.at.returns c).After-front_factors)) in
     let fits_front : FitsSigned w64 c.between_total-front.result = search rules in
     let fits_rest : FitsSigned w64 c.in-Some.rest = search rules in
     let fits_constant : FitsSigned w64 c.args.alternative.now.constant = search rules in

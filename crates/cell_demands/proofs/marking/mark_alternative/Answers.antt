@@ -43,7 +43,8 @@ returns-in-Some c =
     let cell = c.args.cell in
     let M : List Arg → Type 0 = λ arguments. AreMarkedFrom cell.from c.args.marks.now c.mark_others.new.marks (Demands p arguments cell.from cell.to) in
     subst M (sym c.requires.alternative.arguments)
-    (marked_behind_front p kept.front.now kept.others.now cell.from cell.to c.requires.alternative.in_front.fixed c.in-Some.end (opened at).covers (opened at).only cell.from c.args.marks.now c.mark_others.new.marks c.mark_others.ensures)
+    (marked_behind_front p kept.front.now kept.others.now cell.from cell.to c.requires.alternative.in_front.fixed c.in-Some.end (opened at).covers
+    (opened at).only cell.from c.args.marks.now c.mark_others.new.marks c.mark_others.ensures)
 
 pub returns-in_default : goal.returns-in_default
 returns-in_default c =

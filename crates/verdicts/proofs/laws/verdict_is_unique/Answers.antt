@@ -1,4 +1,4 @@
-use Rattle.verdicts.proofs.OneVerdict.{ModelLaws, one_verdict, only_reports}
+use Rattle.verdicts.proofs.OneVerdict.{one_verdict, only_reports}
 use Rattle.verdicts.proofs.laws.verdict_is_unique.Goals as goal
 
 pub returns-clause-same : goal.returns-clause-same

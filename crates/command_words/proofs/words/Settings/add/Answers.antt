@@ -1,0 +1,40 @@
+use Rattle.std.proofs.Common.{refl}
+use Rattle.verdicts.specs.Command.{Algebra, Workers, Seed, Schedule, Size}
+use Rattle.verdicts.specs.ScheduleText.{machines_of}
+use Rattle.command_words.proofs.Options.{added_if, refused_if, not_workers, not_seed, not_size}
+use Rattle.command_words.proofs.words.Settings.add.Goals as goal
+
+pub returns-in-text-clause-added : goal.returns-in-text-clause-added
+returns-in-text-clause-added c =
+    added_if c.add_algebra.result _ _ (λ after adds. (Algebra c.args.value.now, (c.in-text.is, refl, adds)))
+    c.add_algebra.ensures.added
+
+pub returns-in-text-2-clause-added : goal.returns-in-text-2-clause-added
+returns-in-text-2-clause-added c =
+    added_if c.add_workers.result _ _ (λ after adds. (Workers adds.0, (c.in-text-2.is, adds.1)))
+    c.add_workers.ensures.added
+
+pub returns-in-text-2-clause-refused : goal.returns-in-text-2-clause-refused
+returns-in-text-2-clause-refused c =
+    refused_if c.add_workers.result _ _ (not_workers _ _ _ c.in-text-2.is) c.add_workers.ensures.refused
+
+pub returns-in-text-3-clause-added : goal.returns-in-text-3-clause-added
+returns-in-text-3-clause-added c =
+    added_if c.add_seed.result _ _ (λ after adds. (Seed adds.0, (c.in-text-3.is, adds.1))) c.add_seed.ensures.added
+
+pub returns-in-text-3-clause-refused : goal.returns-in-text-3-clause-refused
+returns-in-text-3-clause-refused c =
+    refused_if c.add_seed.result _ _ (not_seed _ _ _ c.in-text-3.is) c.add_seed.ensures.refused
+
+pub returns-in-text-4-clause-added : goal.returns-in-text-4-clause-added
+returns-in-text-4-clause-added c =
+    added_if c.add_schedule.result _ _ (λ after adds. (Schedule (machines_of c.args.value.now), (c.in-text-4.is, refl, adds)))
+    c.add_schedule.ensures.added
+
+pub returns-in-text-5-clause-added : goal.returns-in-text-5-clause-added
+returns-in-text-5-clause-added c =
+    added_if c.add_size.result _ _ (λ after adds. (Size adds.0, (c.in-text-5.is, adds.1))) c.add_size.ensures.added
+
+pub returns-in-text-5-clause-refused : goal.returns-in-text-5-clause-refused
+returns-in-text-5-clause-refused c =
+    refused_if c.add_size.result _ _ (not_size _ _ _ c.in-text-5.is) c.add_size.ensures.refused
