@@ -22,7 +22,7 @@ struct Findings {
 }
 
 /// The number of the algebra with this name.
-fn algebra_named(grammar: &Grammar, name: &Text) -> Option<u32>
+pub fn algebra_named(grammar: &Grammar, name: &Text) -> Option<u32>
     requires { IsTrue (is_well_formed grammar.now) }
     ensures { MatchOption result ((algebra : ℕ) → IsNamed grammar.now name.now algebra → ⊥)
         (IsNamed grammar.now name.now) }

@@ -20,5 +20,5 @@ mod tokens;
 pub use admission::{admit, admit_within, cells_within_limits};
 pub use bounds::{BoundRows, node_bound, score_bound};
 pub use checked::Checked;
-pub use checking::check;
+pub use checking::{algebra_named, check};
 pub use error::{AdmitError, CheckError};

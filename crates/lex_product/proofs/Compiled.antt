@@ -1,0 +1,251 @@
+-- The compiled grammar: what stands in it, that it is well-formed, and that it passes the checks.
+use Rattle.std.proofs.Common.{◌≡◌, ◌<◌, ◌≤◌, ◌^◌, ◌-◌, ◌&&◌, ◌==◌, ℕ, zero, suc, ℤ, pos, nat_abs, Bool, true, false, IsTrue, List, [], ◌∷◌, length, map, slice_index_or, slice_set, refl, sym, ap, subst, ◌∙◌, arith, eq-eqb}
+use Rattle.std.proofs.lemmas.Bool.{lt-ltb}
+use Rattle.std.proofs.lemmas.List.{length-set, get_or-set_same}
+use Rattle.std.proofs.lemmas.Int.{ints}
+use Rattle.std.specs.List.{list_all, zip}
+use Rattle.adp_model.specs.declared.grammar.Algebra.{Algebra}
+use Rattle.adp_model.specs.declared.grammar.Goal.TheVariants.{Least}
+use Rattle.adp_model.specs.declared.grammar.Grammar.{Grammar}
+use Rattle.adp_model.specs.declared.grammar.Kind.{Kind}
+use Rattle.adp_model.specs.declared.grammar.Kind.TheVariants.{Score, Token}
+use Rattle.adp_model.specs.declared.grammar.Linear.{Linear}
+use Rattle.adp_model.specs.declared.grammar.Sign.{Sign}
+use Rattle.adp_model.specs.Parts.{algebra_at, sign_at, term_for}
+use Rattle.adp_model.specs.ProblemFields.{greatest_score}
+use Rattle.adp_model.specs.Terms.{ScoreFactorsFrom, IsMonotone, CanHaveAny, KeepsOrder}
+use Rattle.adp_model.specs.WellFormed.{is_name, is_class, is_sign, is_in_range, is_term, is_algebra, is_rule, counts_fit, names_differ, parts_fit, is_well_formed}
+use Rattle.grammar_check.specs.CheckedGrammar.{CheckedGrammar, PassesChecks}
+use Rattle.lex_product.specs.CompiledTerms.{joined, joined_factors, joined_term, joined_terms}
+use Rattle.lex_product.specs.CompiledGrammar.{compiled_algebra, compiled_grammar, greatest_compiled, greatest_factor, greatest_of_term, greatest_number, has_same_goal}
+use Rattle.lex_product.specs.FittingTerms.{kinds_at, linear_at, AreFactorsOf, AreTermsOf}
+use Rattle.lex_product.specs.PairAnswers.{IsPair}
+use Rattle.lex_product.proofs.OtherAlgebras.{least_moved, greatest_moved, edge_moved, left_moved, right_moved}
+
+-- ---- lists
+
+map_set : {X Y : Type 0} (f : X → Y) (xs : List X) (i : ℕ) (y d : X) → f y ≡ f (slice_index_or xs i d) → map f (slice_set xs i y) ≡ map f xs
+map_set f [] i y d same = refl
+map_set f (x ∷ xs) zero y d same = ap (λ z. z ∷ map f xs) same
+map_set f (x ∷ xs) (suc i) y d same = ap (λ zs. f x ∷ zs) (map_set f xs i y d same)
+
+and_true : (a b : Bool) → a ≡ true → b ≡ true → (a && b) ≡ true
+and_true true b e f = f
+and_true false b e f = absurd (cc)
+
+pub and_first : (a b : Bool) → (a && b) ≡ true → a ≡ true
+and_first true b h = refl
+and_first false b h = h
+
+pub and_second : (a b : Bool) → (a && b) ≡ true → b ≡ true
+and_second true b h = h
+and_second false b h = absurd (cc)
+
+all_set : {X : Type 0} (test : X → Bool) (xs : List X) (i : ℕ) (y : X) → list_all test xs ≡ true → test y ≡ true → list_all test (slice_set xs i y) ≡ true
+all_set test [] i y all one = refl
+all_set test (x ∷ xs) zero y all one = and_true (test y) (list_all test xs) one (and_second (test x) (list_all test xs) all)
+all_set test (x ∷ xs) (suc i) y all one = and_true (test x) (list_all test (slice_set xs i y)) (and_first (test x) (list_all test xs) all)
+    (all_set test xs i y (and_second (test x) (list_all test xs) all) one)
+
+pub all_at : {X : Type 0} (test : X → Bool) (xs : List X) (i : ℕ) (d : X) → list_all test xs ≡ true → i < length xs → test (slice_index_or xs i d) ≡ true
+all_at test [] i d all inside = absurd (omega arith)
+all_at test (x ∷ xs) zero d all inside = and_first (test x) (list_all test xs) all
+all_at test (x ∷ xs) (suc i) d all inside = all_at test xs i d (and_second (test x) (list_all test xs) all) (omega arith)
+
+-- ---- terms
+
+pub length-joined_factors : (m : ℕ) (same : Bool) (kinds : List Kind) (factors factors' : List ℤ) → length factors ≡ length kinds → length factors' ≡ length kinds
+    → length (joined_factors m same kinds factors factors') ≡ length kinds
+length-joined_factors m same [] factors factors' e f = refl
+length-joined_factors m same (kind ∷ kinds) [] factors' e f = absurd (omega arith)
+length-joined_factors m same (kind ∷ kinds) (factor ∷ factors) [] e f = absurd (omega arith)
+length-joined_factors m same (Score ∷ kinds) (factor ∷ factors) (factor' ∷ factors') e f = let r = length-joined_factors m same kinds factors factors' (omega arith) (omega arith) in omega arith
+length-joined_factors m same (Token ∷ kinds) (factor ∷ factors) (factor' ∷ factors') e f = let r = length-joined_factors m same kinds factors factors' (omega arith) (omega arith) in omega arith
+
+pub joined_monotone : (m : ℕ) (same : Bool) (kinds : List Kind) (factors factors' : List ℤ) → ScoreFactorsFrom (pos 0) (joined_factors m same kinds factors factors') kinds
+joined_monotone m same [] factors factors' = tt
+joined_monotone m same (kind ∷ kinds) [] factors' = tt
+joined_monotone m same (kind ∷ kinds) (factor ∷ factors) [] = tt
+joined_monotone m same (Score ∷ kinds) (factor ∷ factors) (factor' ∷ factors') = (omega (arith, ints), joined_monotone m same kinds factors factors')
+joined_monotone m same (Token ∷ kinds) (factor ∷ factors) (factor' ∷ factors') = joined_monotone m same kinds factors factors'
+
+in_range : (number : ℤ) → nat_abs number ≤ 2 ^ 62 - 1 → is_in_range number ≡ true
+in_range number low = lt-ltb (nat_abs number) (2 ^ 62) (omega arith)
+
+factors_in_range : (m : ℕ) (same : Bool) (kinds : List Kind) (factors factors' : List ℤ) → greatest_factor m same kinds factors factors' ≤ 2 ^ 62 - 1
+    → list_all is_in_range (joined_factors m same kinds factors factors') ≡ true
+factors_in_range m same [] factors factors' low = refl
+factors_in_range m same (kind ∷ kinds) [] factors' low = refl
+factors_in_range m same (kind ∷ kinds) (factor ∷ factors) [] low = refl
+factors_in_range m same (Score ∷ kinds) (factor ∷ factors) (factor' ∷ factors') low =
+    and_true (is_in_range (pos 1)) _ refl (factors_in_range m same kinds factors factors' low)
+factors_in_range m same (Token ∷ kinds) (factor ∷ factors) (factor' ∷ factors') low =
+    and_true (is_in_range (joined m same (factor, factor'))) _ (in_range (joined m same (factor, factor')) (omega arith)) (factors_in_range m same kinds factors factors' (omega arith))
+
+term_formed : (m : ℕ) (same : Bool) (sign : Sign) (term term' : Linear) → AreFactorsOf sign.kinds term → AreFactorsOf sign.kinds term' → greatest_of_term m same sign.kinds term term' ≤ 2 ^ 62 - 1
+    → is_term (sign, joined_term m same sign.kinds term term') ≡ true
+term_formed m same sign term term' fit fit' low =
+    and_true (is_in_range (joined m same (term.constant, term'.constant)) && list_all is_in_range (joined_factors m same sign.kinds term.factors term'.factors)) _
+    (and_true (is_in_range (joined m same (term.constant, term'.constant))) _ (in_range (joined m same (term.constant, term'.constant)) (omega arith))
+    (factors_in_range m same sign.kinds term.factors term'.factors (omega arith)))
+    (eq-eqb _ _ (length-joined_factors m same sign.kinds term.factors term'.factors fit fit'))
+
+-- a term for each sign, from place to place
+others_fit : (sign : Sign) (signs : List Sign) (term : Linear) (terms : List Linear) → AreTermsOf (sign ∷ signs) (term ∷ terms) → AreTermsOf signs terms
+others_fit sign signs term terms h =
+    let e = h.each in
+    record { each = omega arith; fit = λ place inside. h.fit (suc place) (omega arith) }
+
+pub terms_formed : (m : ℕ) (same : Bool) (signs : List Sign) (terms terms' : List Linear) → AreTermsOf signs terms → AreTermsOf signs terms' → greatest_number m same signs terms terms' ≤ 2 ^ 62 - 1
+    → list_all is_term (zip signs (joined_terms m same signs terms terms')) ≡ true
+terms_formed m same [] terms terms' fit fit' low = refl
+terms_formed m same (sign ∷ signs) [] terms' fit fit' low = refl
+terms_formed m same (sign ∷ signs) (term ∷ terms) [] fit fit' low = refl
+terms_formed m same (sign ∷ signs) (term ∷ terms) (term' ∷ terms') fit fit' low =
+    and_true (is_term (sign, joined_term m same sign.kinds term term')) _
+    (term_formed m same sign term term' (fit.fit 0 (omega arith)) (fit'.fit 0 (omega arith)) (omega arith))
+    (terms_formed m same signs terms terms' (others_fit sign signs term terms fit) (others_fit sign signs term' terms' fit') (omega arith))
+
+pub length-joined_terms : (m : ℕ) (same : Bool) (signs : List Sign) (terms terms' : List Linear) → length terms ≡ length signs → length terms' ≡ length signs
+    → length (joined_terms m same signs terms terms') ≡ length signs
+length-joined_terms m same [] terms terms' e f = refl
+length-joined_terms m same (sign ∷ signs) [] terms' e f = absurd (omega arith)
+length-joined_terms m same (sign ∷ signs) (term ∷ terms) [] e f = absurd (omega arith)
+length-joined_terms m same (sign ∷ signs) (term ∷ terms) (term' ∷ terms') e f = let r = length-joined_terms m same signs terms terms' (omega arith) (omega arith) in omega arith
+
+pub joined_at : (m : ℕ) (same : Bool) (signs : List Sign) (terms terms' : List Linear) (i : ℕ) → length terms ≡ length signs → length terms' ≡ length signs → i < length signs
+    → linear_at (joined_terms m same signs terms terms') i ≡ joined_term m same (kinds_at signs i) (linear_at terms i) (linear_at terms' i)
+joined_at m same [] terms terms' i e f inside = absurd (omega arith)
+joined_at m same (sign ∷ signs) [] terms' i e f inside = absurd (omega arith)
+joined_at m same (sign ∷ signs) (term ∷ terms) [] i e f inside = absurd (omega arith)
+joined_at m same (sign ∷ signs) (term ∷ terms) (term' ∷ terms') zero e f inside = refl
+joined_at m same (sign ∷ signs) (term ∷ terms) (term' ∷ terms') (suc i) e f inside = joined_at m same signs terms terms' i (omega arith) (omega arith) (omega arith)
+
+-- ---- the grammar
+
+module _ (g : Grammar) (first second m : ℕ) (known : first < length g.algebras) (fit : AreTermsOf g.signs (algebra_at g first).terms) (fit' : AreTermsOf g.signs (algebra_at g second).terms) where
+  pub compiled_at : algebra_at (compiled_grammar g first second m) first ≡ compiled_algebra g first second m
+  compiled_at = get_or-set_same g.algebras first (compiled_algebra g first second m) _ known
+
+  -- the compiled term of a sign
+  pub compiled_term : (sign : ℕ) → sign < length g.signs
+      → term_for (compiled_grammar g first second m) first sign ≡ joined_term m (has_same_goal g first second) (sign_at g sign).kinds (term_for g first sign) (term_for g second sign)
+  compiled_term sign inside =
+      ap (λ (a : Algebra). linear_at a.terms sign) compiled_at
+      ∙ joined_at m (has_same_goal g first second) g.signs (algebra_at g first).terms (algebra_at g second).terms sign fit.each fit'.each inside
+
+  pub compiled_formed : IsTrue (is_well_formed g) → greatest_compiled g first second m ≤ greatest_score → IsTrue (is_well_formed (compiled_grammar g first second m))
+  compiled_formed formed low =
+      let own = compiled_algebra g first second m in
+      let algebras = slice_set g.algebras first own in
+      let counts = and_first (counts_fit g) (names_differ g) (and_first (counts_fit g && names_differ g) (parts_fit g) formed) in
+      let names = and_second (counts_fit g) (names_differ g) (and_first (counts_fit g && names_differ g) (parts_fit g) formed) in
+      let parts = and_second (counts_fit g && names_differ g) (parts_fit g) formed in
+      let classes_signs = list_all is_class g.classes && list_all is_sign g.signs in
+      let rules = list_all (is_rule g) g.rules in
+      let all_algebras = list_all (is_algebra g.signs) g.algebras in
+      let sound = and_second classes_signs all_algebras (and_first (classes_signs && all_algebras) rules parts) in
+      let own_formed : is_algebra g.signs own ≡ true =
+      and_true (is_name own.name && length own.terms == length g.signs) (list_all is_term (zip g.signs own.terms))
+      (and_true (is_name own.name) (length own.terms == length g.signs)
+      (own_name sound)
+      (eq-eqb _ _ (length-joined_terms m (has_same_goal g first second) g.signs (algebra_at g first).terms (algebra_at g second).terms fit.each fit'.each)))
+      (terms_formed m (has_same_goal g first second) g.signs (algebra_at g first).terms (algebra_at g second).terms fit fit' low) in
+      and_true (counts_fit (compiled_grammar g first second m) && names_differ (compiled_grammar g first second m)) (parts_fit (compiled_grammar g first second m))
+      (and_true (counts_fit (compiled_grammar g first second m)) (names_differ (compiled_grammar g first second m)) (counts_kept counts) (names_kept names))
+      (and_true (classes_signs && list_all (is_algebra g.signs) algebras) rules
+      (and_true classes_signs (list_all (is_algebra g.signs) algebras) (and_first classes_signs all_algebras (and_first (classes_signs && all_algebras) rules parts))
+      (all_set (is_algebra g.signs) g.algebras first own sound own_formed))
+      (and_second (classes_signs && all_algebras) rules parts))
+    where
+      own_name : list_all (is_algebra g.signs) g.algebras ≡ true → is_name (algebra_at g first).name ≡ true
+      own_name sound =
+          let one = all_at (is_algebra g.signs) g.algebras first (record { name = []; goal = Least; terms = [] }) sound known in
+          let own = algebra_at g first in
+          and_first (is_name own.name) (length own.terms == length g.signs)
+          (and_first (is_name own.name && length own.terms == length g.signs) (list_all is_term (zip g.signs own.terms)) one)
+
+      counts_kept : counts_fit g ≡ true → counts_fit (compiled_grammar g first second m) ≡ true
+      counts_kept h = simp length-set h
+
+      names_kept : names_differ g ≡ true → names_differ (compiled_grammar g first second m) ≡ true
+      names_kept h =
+          simp (map_set (λ (a : Algebra). a.name) g.algebras first (compiled_algebra g first second m) (record { name = []; goal = Least; terms = [] }) refl) h
+
+-- ---- the checks
+
+pub PassesChecks-compiled : (first : CheckedGrammar) (second m : ℕ) → PassesChecks first → AreTermsOf first.grammar.signs (algebra_at first.grammar first.algebra).terms
+    → AreTermsOf first.grammar.signs (algebra_at first.grammar second).terms
+    → ((term : Linear) (kinds : List Kind) → IsMonotone term kinds → KeepsOrder CanHaveAny term kinds)
+    → greatest_compiled first.grammar first.algebra second m ≤ greatest_score → PassesChecks (record first { grammar = compiled_grammar first.grammar first.algebra second m })
+PassesChecks-compiled first second m passes fit fit' keeps low =
+    let g = first.grammar in
+    let algebras = slice_set g.algebras first.algebra (compiled_algebra g first.algebra second m) in
+    record {
+      found = record {
+        well_formed = compiled_formed g first.algebra second m passes.found.algebra_known fit fit' passes.found.well_formed low;
+        algebra_known = omega (arith, passes.found.algebra_known, length-set g.algebras first.algebra (compiled_algebra g first.algebra second m));
+        least_each = passes.found.least_each;
+        greatest_each = passes.found.greatest_each;
+        ranks_each = passes.found.ranks_each;
+        least_are = λ rule inside. least_moved g algebras rule _ (passes.found.least_are rule inside);
+        greatest_are = λ rule inside. greatest_moved g algebras rule _ (passes.found.greatest_are rule inside);
+        ranks_fall = λ rule other edge. passes.found.ranks_fall rule other (edge_moved (compiled_grammar g first.algebra second m) g.algebras rule other edge);
+        ranks_fit = passes.found.ranks_fit;
+        orderly = λ sign inside. subst (λ t. KeepsOrder CanHaveAny t (sign_at g sign).kinds) (sym (compiled_term g first.algebra second m passes.found.algebra_known fit fit' sign inside))
+            (keeps _ _ (joined_monotone m (has_same_goal g first.algebra second) (sign_at g sign).kinds (term_for g first.algebra sign).factors (term_for g second sign).factors));
+      };
+      anchored = record {
+        left = left_moved g algebras first.anchors.left passes.anchored.left;
+        right = right_moved g algebras first.anchors.right passes.anchored.right;
+      };
+    }
+
+-- ---- what the code makes, where it reads the grammar and the algebras of a pair
+
+pub AreTermsOf-formed : (g : Grammar) (algebra : ℕ) → length (algebra_at g algebra).terms ≡ length g.signs
+    → ((sign : ℕ) → sign < length g.signs → length (term_for g algebra sign).factors ≡ length (sign_at g sign).kinds) → AreTermsOf g.signs (algebra_at g algebra).terms
+AreTermsOf-formed g algebra each fit = record { each = each; fit = fit }
+
+-- what the laws on well-formed grammars say of terms
+abbrev pub TermsFit : Type 0
+TermsFit = (grammar : Grammar) → IsTrue (is_well_formed grammar) → (algebra : ℕ) → algebra < length grammar.algebras → length (algebra_at grammar algebra).terms ≡ length grammar.signs
+
+abbrev pub FactorsFit : Type 0
+FactorsFit = (grammar : Grammar) → IsTrue (is_well_formed grammar) → (algebra sign : ℕ) → algebra < length grammar.algebras → sign < length grammar.signs
+    → length (term_for grammar algebra sign).factors ≡ length (sign_at grammar sign).kinds
+
+pub fitting_terms : TermsFit → FactorsFit → (grammar : Grammar) → IsTrue (is_well_formed grammar) → (algebra : ℕ) → algebra < length grammar.algebras
+    → AreTermsOf grammar.signs (algebra_at grammar algebra).terms
+fitting_terms terms factors grammar formed algebra known = record {
+  each = terms grammar formed algebra known;
+  fit = λ sign inside. factors grammar formed algebra sign known inside;
+}
+
+pub second_known : (first second : CheckedGrammar) → IsPair first second → PassesChecks second → second.algebra < length first.grammar.algebras
+second_known first second pair passes = subst (λ (g : Grammar). second.algebra < length g.algebras) (ap (λ (k : CheckedGrammar). k.grammar) pair.other) passes.found.algebra_known
+
+pub compiled_is : (first : CheckedGrammar) (second : ℕ) (g : Grammar) (own other m m' : ℕ) (algebra : Algebra) (copy : Grammar) → g ≡ first.grammar → own ≡ first.algebra → other ≡ second → m ≡ m'
+    → algebra ≡ compiled_algebra g own other m → copy ≡ record g { algebras = slice_set g.algebras own algebra } → copy ≡ compiled_grammar first.grammar first.algebra second m'
+compiled_is first second g own other m m' algebra copy g_is own_is other_is m_is algebra_is copy_is =
+    copy_is ∙ ap (λ a. record g { algebras = slice_set g.algebras own a }) algebra_is
+    ∙ ap (λ x. compiled_grammar x own other m) g_is ∙ ap (λ x. compiled_grammar first.grammar x other m) own_is
+    ∙ ap (λ x. compiled_grammar first.grammar first.algebra x m) other_is ∙ ap (compiled_grammar first.grammar first.algebra second) m_is
+
+pub greatest_is : (first : CheckedGrammar) (second : ℕ) (g : Grammar) (own other m m' : ℕ) → g ≡ first.grammar → own ≡ first.algebra → other ≡ second → m ≡ m'
+    → greatest_compiled g own other m ≡ greatest_compiled first.grammar first.algebra second m'
+greatest_is first second g own other m m' g_is own_is other_is m_is =
+    ap (λ x. greatest_compiled x own other m) g_is ∙ ap (λ x. greatest_compiled first.grammar x other m) own_is
+    ∙ ap (λ x. greatest_compiled first.grammar first.algebra x m) other_is ∙ ap (greatest_compiled first.grammar first.algebra second) m_is
+
+pub PassesChecks-made : (first second : CheckedGrammar) (m own : ℕ) (copy : Grammar) → TermsFit → FactorsFit
+    → ((term : Linear) (kinds : List Kind) → IsMonotone term kinds → KeepsOrder CanHaveAny term kinds)
+    → PassesChecks first → PassesChecks second → IsPair first second → greatest_compiled first.grammar first.algebra second.algebra m ≤ greatest_score
+    → copy ≡ compiled_grammar first.grammar first.algebra second.algebra m → own ≡ first.algebra → PassesChecks (record first { grammar = copy; algebra = own })
+PassesChecks-made first second m own copy terms factors keeps passes passes' pair low copy_is own_is =
+    subst (λ a. PassesChecks (record first { grammar = copy; algebra = a })) (sym own_is)
+    (subst (λ g. PassesChecks (record first { grammar = g })) (sym copy_is)
+    (PassesChecks-compiled first second.algebra m passes
+    (fitting_terms terms factors first.grammar passes.found.well_formed first.algebra passes.found.algebra_known)
+    (fitting_terms terms factors first.grammar passes.found.well_formed second.algebra (second_known first second pair passes'))
+    keeps low))

@@ -1,0 +1,10 @@
+pub mod Joined
+pub mod FactorSteps
+pub mod Pairs
+pub mod OtherAlgebras
+pub mod Compiled
+pub mod FittingArguments
+pub mod CompiledScores
+pub mod SoundTrees
+pub mod PairLaw
+pub mod PairReports

@@ -1,0 +1,91 @@
+-- The second grammar of a pair passes the checks that the first one passed, and a pair's faults by their names.
+use Rattle.std.proofs.Common.{◌≡◌, ◌<◌, ℕ, ℤ, pos, List, [], ◌∷◌, length, slice_index_or, sym, ap, subst, ◌∙◌, arith}
+use Rattle.std.proofs.lemmas.Int.{ints}
+use Rattle.adp_model.specs.declared.fault.GrammarFault.{GrammarFault}
+use Rattle.adp_model.specs.declared.grammar.Grammar.{Grammar}
+use Rattle.adp_model.specs.declared.grammar.Kind.{Kind}
+use Rattle.adp_model.specs.declared.grammar.Kind.TheVariants.{Score, Token}
+use Rattle.adp_model.specs.declared.grammar.Linear.{Linear}
+use Rattle.adp_model.specs.declared.grammar.Sign.{Sign}
+use Rattle.adp_model.specs.Parts.{sign_at, term_for}
+use Rattle.adp_model.specs.Terms.{ScoreFactorsFrom, IsMonotone, CanHaveAny, KeepsOrder}
+use Rattle.adp_model.specs.GrammarFaults.{IsNamed, IsFirstFaulty}
+use Rattle.grammar_check.specs.CheckedGrammar.{CheckedGrammar, PassesChecks}
+use Rattle.lex_product.specs.PairFaults.{HaveUnitScores, AllAddScores, BothAddScores, HasOtherFactor, IsPairFault, NoAlgebra, OtherFactor}
+use Rattle.lex_product.specs.PairAnswers.{IsPair}
+
+-- a factor 1 is not negative
+pub units_monotone : (factors : List ℤ) (kinds : List Kind) → HaveUnitScores factors kinds → ScoreFactorsFrom (pos 0) factors kinds
+units_monotone [] kinds h = tt
+units_monotone (factor ∷ factors) [] h = tt
+units_monotone (factor ∷ factors) (Score ∷ kinds) h = (omega (arith, ints, h.0), units_monotone factors kinds h.1)
+units_monotone (factor ∷ factors) (Token ∷ kinds) h = units_monotone factors kinds h
+
+-- the checks under the other algebra
+pub PassesChecks-other : (first : CheckedGrammar) (copy : Grammar) (algebra : ℕ) → PassesChecks first → copy ≡ first.grammar → algebra < length first.grammar.algebras
+    → ((term : Linear) (kinds : List Kind) → IsMonotone term kinds → KeepsOrder CanHaveAny term kinds)
+    → AllAddScores first.grammar first.algebra algebra → PassesChecks (record first { grammar = copy; algebra = algebra })
+PassesChecks-other first copy algebra passes same known keeps adding =
+    subst (λ g. PassesChecks (record first { grammar = g; algebra = algebra })) (sym same) (record {
+      found = record {
+        well_formed = passes.found.well_formed;
+        algebra_known = known;
+        least_each = passes.found.least_each;
+        greatest_each = passes.found.greatest_each;
+        ranks_each = passes.found.ranks_each;
+        least_are = passes.found.least_are;
+        greatest_are = passes.found.greatest_are;
+        ranks_fall = passes.found.ranks_fall;
+        ranks_fit = passes.found.ranks_fit;
+        orderly = λ sign inside. keeps (term_for first.grammar algebra sign) (sign_at first.grammar sign).kinds
+            (units_monotone (term_for first.grammar algebra sign).factors (sign_at first.grammar sign).kinds (adding sign inside).1);
+      };
+      anchored = passes.anchored;
+    })
+
+pub unknown_fault : (grammar : Grammar) (first : ℕ) (name : List ℕ) (fault : GrammarFault) → ((algebra : ℕ) → IsNamed grammar name algebra → ⊥) → fault ≡ record { kind = 1; name = name }
+    → IsPairFault grammar first name fault
+unknown_fault grammar first name fault none is = subst (IsPairFault grammar first name) (sym is) (NoAlgebra none)
+
+pub factor_fault : (grammar : Grammar) (first : ℕ) (name : List ℕ) (second sign : ℕ) (text : List ℕ) (fault : GrammarFault) → IsNamed grammar name second
+    → IsFirstFaulty (HasOtherFactor grammar first second) (BothAddScores grammar first second) (length grammar.signs) sign
+    → text ≡ (sign_at grammar sign).name → fault ≡ record { kind = 6; name = text } → IsPairFault grammar first name fault
+factor_fault grammar first name second sign text fault named faulty same is =
+    subst (IsPairFault grammar first name) (sym (is ∙ ap (λ n. record { kind = 6; name = n }) same)) (OtherFactor second sign named faulty)
+
+-- ---- what the code answers, where it reads the grammar and the algebra of the first
+
+module _ (first : CheckedGrammar) (grammar : Grammar) (own : ℕ) (grammar_is : grammar ≡ first.grammar) (own_is : own ≡ first.algebra) where
+  pub no_algebra : (name : List ℕ) (fault : GrammarFault) → ((algebra : ℕ) → IsNamed grammar name algebra → ⊥) → fault ≡ record { kind = 1; name = name }
+      → IsPairFault first.grammar first.algebra name fault
+  no_algebra name fault none is = unknown_fault first.grammar first.algebra name fault (subst (λ g. (algebra : ℕ) → IsNamed g name algebra → ⊥) grammar_is none) is
+
+  pub other_factor : (name : List ℕ) (second sign : ℕ) (signs : List Sign) (text : List ℕ) (fault : GrammarFault) → IsNamed grammar name second
+      → IsFirstFaulty (HasOtherFactor grammar own second) (BothAddScores grammar own second) (length grammar.signs) sign
+      → signs ≡ grammar.signs → text ≡ (slice_index_or signs sign
+      (record { name = []; kinds = [] })).name → fault ≡ record { kind = 6; name = text } → IsPairFault first.grammar first.algebra name fault
+  other_factor name second sign signs text fault named faulty signs_are text_is is =
+      factor_fault first.grammar first.algebra name second sign text fault (subst (λ g. IsNamed g name second) grammar_is named)
+      (subst (λ a. IsFirstFaulty (HasOtherFactor first.grammar a second) (BothAddScores first.grammar a second) (length first.grammar.signs) sign) own_is
+      (subst (λ g. IsFirstFaulty (HasOtherFactor g own second) (BothAddScores g own second) (length g.signs) sign) grammar_is faulty))
+      (text_is ∙ ap (λ (ss : List Sign). (slice_index_or ss sign (record { name = []; kinds = [] })).name) (signs_are ∙ ap (λ (g : Grammar). g.signs) grammar_is))
+      is
+
+  pub all_add : (second : ℕ) → AllAddScores grammar own second → AllAddScores first.grammar first.algebra second
+  all_add second adding = subst (λ a. AllAddScores first.grammar a second) own_is (subst (λ g. AllAddScores g own second) grammar_is adding)
+
+  pub named_so : (name : List ℕ) (second : ℕ) → IsNamed grammar name second → IsNamed first.grammar name second
+  named_so name second named = subst (λ g. IsNamed g name second) grammar_is named
+
+-- the pair that is made
+pub made_pair : (first second : CheckedGrammar) (copy : Grammar) (algebra : ℕ) (name : List ℕ) → copy ≡ first.grammar → second ≡ record first { grammar = copy; algebra = algebra }
+    → IsNamed first.grammar name algebra → AllAddScores first.grammar first.algebra algebra → IsNamed first.grammar name second.algebra × IsPair first second
+made_pair first second copy algebra name same is named adding =
+    let known : second.algebra ≡ algebra = ap (λ (k : CheckedGrammar). k.algebra) is in
+    let whole : second ≡ record first { algebra = algebra } = is ∙ ap (λ g. record first { grammar = g; algebra = algebra }) same in (
+      subst (IsNamed first.grammar name) (sym known) named,
+      record {
+        other = whole ∙ ap (λ a. record first { algebra = a }) (sym known);
+        adding = subst (AllAddScores first.grammar first.algebra) (sym known) adding;
+      },
+    )
