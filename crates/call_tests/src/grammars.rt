@@ -5,6 +5,7 @@ ghost use Rattle.adp_model.specs.WellFormed.{is_well_formed};
 
 use crate::cells::push_problem_call;
 use crate::lines::{first_word, numbers, push_field, push_flag, push_no_call, push_text};
+use crate::pairs::push_pair;
 use adp_model::{Grammar, Job, Text, is_printable, is_well_formed};
 use cell_layouts::cell_bound;
 use grammar_check::{AdmitError, Checked, admit, check, node_bound, score_bound};
@@ -84,6 +85,7 @@ fn push_checked_call(
         "bounds" => push_cell_bounds(checked, &numbers(alloc, rest)?, out),
         "limits" => push_limits(alloc, checked, &numbers(alloc, rest)?, out),
         "admit" => push_admissions(alloc, checked, words, out),
+        "both" => push_both(alloc, checked, rest, out),
         _ => {
             let (word, rest) = first_word(rest);
             match quoted_word(alloc, word)? {
@@ -91,6 +93,20 @@ fn push_checked_call(
                 None => push_no_call(out),
             }
         }
+    }
+}
+
+/// Appends what the first algebra and another one gave as one, for a word.
+fn push_both(
+    alloc: Global,
+    checked: &Checked,
+    rest: &str,
+    out: &mut Vec<u8>,
+) -> Result<(), AllocError> {
+    let (word, name) = first_word(rest);
+    match (quoted_word(alloc, word)?, quoted_word(alloc, name)?) {
+        (Some(word), Some(name)) => push_pair(alloc, checked, &word, &name, out),
+        _ => push_no_call(out),
     }
 }
 

@@ -11,6 +11,7 @@ mod grammars;
 mod lines;
 mod machines;
 mod made;
+mod pairs;
 mod runs;
 mod schedules;
 mod sinks;
@@ -23,7 +24,7 @@ use calls::{JobText, push_line};
 use std::fs;
 
 // The jobs that calls name.
-const JOBS: [&str; 14] = [
+const JOBS: [&str; 16] = [
     "pairs.adp",
     "pq.adp",
     "empty.adp",
@@ -38,6 +39,8 @@ const JOBS: [&str; 14] = [
     "walks.adp",
     "doubling.adp",
     "runs.adp",
+    "readings.adp",
+    "lengths.adp",
 ];
 
 fn main(rt: HostRuntime) -> Result<()> {
