@@ -1,14 +1,12 @@
 -- The word that is made: its grammar has no fault, its length is its size, and what is reported of it.
-use Rattle.std.proofs.Common.{◌≡◌, Option, Result, ℕ, zero, suc, List, ℤ, length, refl, sym, ap, subst, ◌∙◌, arith}
+use Rattle.std.proofs.Common.{◌≡◌, Option, Result, ℕ, zero, suc, List, length, refl, sym, ap, subst, ◌∙◌, arith}
 use Rattle.adp_model.specs.declared.cell.Answer.{Answer}
-use Rattle.adp_model.specs.declared.cell.Answer.TheVariants.{NoCandidate, Best}
-use Rattle.adp_model.specs.declared.cell.Choice.{Choice}
+use Rattle.adp_model.specs.declared.cell.Answer.TheVariants.{NoCandidate}
 use Rattle.adp_model.specs.declared.fault.GrammarFault.{GrammarFault}
 use Rattle.adp_model.specs.declared.grammar.Grammar.{Grammar}
 use Rattle.adp_model.specs.Answers.{IsAnswer}
-use Rattle.adp_model.specs.BigReport.{big_lines, made_problem, made_word, next_state, pairs_grammar, IsBigReport}
+use Rattle.adp_model.specs.BigReport.{made_problem, made_word, next_state, pairs_grammar, IsBigReport}
 use Rattle.verdicts.specs.Command.{Command}
-use Rattle.adp_model.specs.Demand.{IsDemandedCount}
 use Rattle.adp_model.specs.Derivation.{Derives}
 use Rattle.adp_model.specs.GrammarFaults.{HasOtherTerm, IsFaultless, IsGrammarFault, IsNamed, NoAlgebra, Unproductive, Loop, NotMonotone}
 use Rattle.adp_model.specs.PosedProblem.{PosedProblem, axiom_cell}
@@ -57,20 +55,6 @@ has_candidate p seed size is tree answer answered none =
     let there = subst (λ it. IsAnswer (made_problem seed size) (axiom_cell (made_problem seed size)) it) none
     (subst (λ (q : PosedProblem). IsAnswer q (axiom_cell q) answer) is answered) in
     there tree.0 tree.1
-
--- its report
-pub is_report : (p : PosedProblem) (seed size : ℕ) → p ≡ made_problem seed size → (score : ℤ) (choice : Choice)
-    → IsAnswer p (axiom_cell p) (Best score choice) → (cells : ℕ) → IsDemandedCount p cells → (report : List ℕ)
-    → report ≡ big_lines size score cells → IsBigReport seed size report
-is_report p seed size is score choice answered cells counted report lines =
-    let made = made_problem seed size in
-    let there = subst (λ (q : PosedProblem). IsAnswer q (axiom_cell q) (Best score choice)) is answered in (
-      there.0,
-      cells,
-      there.1,
-      subst (λ (q : PosedProblem). IsDemandedCount q cells) is counted,
-      lines ∙ ap (λ it. big_lines size it cells) there.2,
-    )
 
 -- no write failed where memory ran out
 pub no_write_failed : (count : ℕ) → RisesWhere count count (Memory ≡ WriteFault)
