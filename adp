@@ -7,6 +7,9 @@ CDPATH='' LC_ALL=C
 export LC_ALL
 self=${BASH_SOURCE[0]}
 most_bytes=4194304
+# (raised with each format that the program reads)
+version=1.0
+formats='adp 1'
 
 help() {
   local usage
@@ -30,24 +33,29 @@ options, in any order, each at most once
                      evaluator 0 goes on alone; of replay, which needs it
   --size N           how many letters are made, 1 to 2046; of big, which needs it
 
-Each FILE is a job, run in its turn; `-`, or no file, is standard input, which big doesn't read. The status is that of
-the first run that did not end with 0; after a faulty command or a failed output no further file is run.
+Each FILE is a job, run in its turn; `-`, or no file, is standard input. big reads no job. Of several files standard
+error has the name of each before its run. The status is that of the first run that did not end with 0; after a faulty
+command or a failed output no further file is run.
 
 of the launcher
-  --explain          tells behind a fault's line what is wrong, where, and what to do
-  --version          what stands here: the number of its sources, and the toolchain that built it
-  --help             this text
+  --words FILE       more words, a line each, behind those of each job; `-` is standard input
+  --time-limit S     ends each run after S seconds, with status 124 and a line that says at which word it was
+  --explain          tells behind a fault's line, and of words without a tree, what is wrong, where, and what to do
+  --version, -V      what stands here: version, formats, the number of its sources, and the toolchain that built it
+  --help, -h         this text
 
 status
   0 done   2 faulty command   3 input failed   4 output failed   5 faulty text   6 faulty grammar   7 a limit is passed
-  8 no memory   1 the program could not be built or found
+  8 no memory   1 the program could not be built or found   124 the time limit came
 
-Each fault is one line on standard error: docs/FAULTS.md has them all, with the mend. On a terminal a run of more than
-two seconds shows there how long it takes already.
+Each fault is one line on standard error: docs/FAULTS.md has them all, with the mend; of a faulty command and of input
+that cannot be read a line `adp: ..` behind it says the cause. A reader that ends early, as head, is a failed output. On
+a terminal a run of more than two seconds shows there at which word it is, and for how long it has run.
 
 How to write a job: docs/GUIDE.md, and exactly: docs/FORMAT.md. Jobs to begin with: jobs/, as ./adp best jobs/bar.adp
 Reports as JSON, trees, DOT or SVG: tools/report. A page that draws them: tools/view.html, opened in a browser.
-The longest word that a job admits: tools/longest. From Python: tools/adp.py. All of this as a page: man -l docs/adp.1
+The longest word that a job admits: tools/longest. Words from FASTA files: tools/fasta. From Python: tools/adp.py.
+All of this as a page: man -l docs/adp.1
 TEXT
   printf '%s\n' "$usage"
 }
@@ -293,146 +301,430 @@ find_program() {
   fi
 }
 
-# ---- Runs
+# ---- What is asked: the words of the program, the files, and the launcher's own options
 
-# Shows how long a run takes already, from two seconds on, until it is ended. The text is no longer than the front of
-# any line that the program writes, and the cursor stands before it, so such a line covers it.
-tick() {
-  local parent=$1 start=$SECONDS never is_shown=
-  trap 'if [ -n "$is_shown" ]; then printf "\r      \r" >&2; fi; exit 0' TERM
-  exec {never}<> <(:)
-  read -r -t 2 -u "$never"
-  while kill -0 "$parent" 2>/dev/null; do
-    is_shown=1
-    printf '%d s\r' $((SECONDS - start)) >&2
-    read -r -t 1 -u "$never"
-  done
+# Whether this is one of the launcher's options that have a value, and the value one of its own. What is none of these
+# goes to the program, which refuses it.
+takes() {
+  case $1 in
+    --words) [ -z "$words_file" ] && { [ "$2" = - ] || [ -e "$2" ]; } ;;
+    --time-limit) [ -z "$time_limit" ] && [[ $2 =~ ^[0-9]{1,9}(\.[0-9]{1,6})?$ ]] && [[ $2 == *[1-9]* ]] ;;
+    *) false ;;
+  esac
 }
 
-# (not while a job is typed)
-begin_time() {
-  [ -t 2 ] || return 0
-  [ ! -t 0 ] || [ "${words[0]-}" = big ] || return 0
-  tick $BASHPID </dev/null >/dev/null &
-  ticker=$!
-}
-
-end_time() {
-  [ -n "$ticker" ] || return 0
-  kill "$ticker" 2>/dev/null
-  wait "$ticker" 2>/dev/null
-  ticker=
-}
-
-# Runs the program over standard input.
-run() {
-  local status
-  begin_time
-  "$program" ${words[@]+"${words[@]}"}
-  status=$?
-  end_time
-  return $status
-}
-
-# Whether the words make a command that reads its input: one that is faulty is told without, and `big` makes its own.
-takes_input() {
-  [ "${words[0]-}" != big ] || return
-  "$program" ${words[@]+"${words[@]}"} </dev/null >/dev/null 2>&1
-  [ $? != 2 ]
-}
-
-say_that_it_waits() {
-  if [ -t 0 ] && [ -t 2 ] && takes_input; then
-    say "waiting for a job: type or paste it, and end it by Ctrl-D (adp --help says more)"
-  fi
-}
-
-# Puts what comes on standard input into a file, one byte more than a job may have at most: `copy` is its path. Fails
-# where it cannot be read.
-copy_input() {
-  [ -n "$copy" ] || copy=$(mktemp) || fail "no file can be made in ${TMPDIR:-/tmp}"
-  trap 'rm -f -- "$copy"' EXIT
-  head -c $((most_bytes + 1)) >"$copy" 2>/dev/null
-}
-
-# Runs the program over standard input or a file, and explains its fault. The job is kept, so that it can be read twice.
-run_and_explain() {
-  local file=$1 job fault status colour=
-  need awk head
-  job=$file
-  if [ "$file" = - ] || [ ! -f "$file" ]; then
-    job=
-    if takes_input && copy_input; then job=$copy; fi
-  elif [ ! -r "$file" ]; then
-    job=
-  fi
-  if [ -n "$job" ]; then exec 0<"$job"; fi
-  begin_time
-  { fault=$("$program" ${words[@]+"${words[@]}"} 2>&1 >&3 3>&-); } 3>&1
-  status=$?
-  end_time
-  [ $status = 0 ] && [ -z "$fault" ] && return
-  printf '%s\n' "$fault" >&2
-  [ -t 2 ] && [ -z "${NO_COLOR-}" ] && [ "${TERM-dumb}" != dumb ] && colour=1
-  ADP_FAULT=${fault##*$'\n'} ADP_JOB=$job ADP_NAME=$file ADP_COLOUR=$colour ADP_GUIDE=$top/docs/FAULTS.md \
-    ADP_LONGEST=$(longest "$fault" "$job") awk -f "$top/tools/explain.awk" -- ${words[@]+"${words[@]}"} >&2
-  return $status
-}
-
-# The length up to which this job admits words, where one passes a limit that depends on it.
-longest() {
-  case $1 in "fault limit "*" kind "[234]" "*) ADP=$program "$top/tools/longest" "$2" "${words[@]}" 2>/dev/null ;; esac
-}
-
-# Runs the program over a file, or over standard input.
-run_file() {
-  local file
-  if [ "$1" = - ]; then
-    say_that_it_waits
-    if [ -n "$explains" ]; then (run_and_explain -); else run; fi
-  elif [ -n "$explains" ]; then
-    readable "$1"
-    (run_and_explain "$1") <"$file"
-  else
-    readable "$1"
-    run <"$file"
-  fi
-}
-
-# Sets `file` to a file; where that may not be read to a folder, whose reading fails just so.
-readable() {
-  if [ -r "$1" ]; then file=$1; else file=/; fi
-}
-
-run_all() {
-  local file status=0 one
-  for file; do
-    run_file "$file"
-    one=$?
-    [ $status != 0 ] || status=$one
-    case $one in 2 | 4) break ;; esac
-  done
-  return $status
-}
-
-# Sorts the arguments: `words` are those of the program, `files` the jobs. Each option has a value.
+# Sorts the arguments: `words` are those of the program, `files` the jobs. Each option but --explain has a value.
 sort_arguments() {
-  local word mode='' is_value=''
+  local word option=''
   for word; do
-    if [ -n "$is_value" ]; then
-      words+=("$word") is_value=
+    if [ -n "$option" ]; then
+      if [ "$mode" = big ] && [ "$option" = --words ] || ! takes "$option" "$word"; then
+        words+=("$option" "$word")
+      elif [ "$option" = --words ]; then
+        words_file=$word
+      else
+        time_limit=$word
+      fi
+      option=
     elif [ "$word" = --explain ]; then
       explains=1
+    elif [ "${word#--}" != "$word" ] && [ -n "$mode" ]; then
+      option=$word
     elif [ -z "$mode" ]; then
       words+=("$word") mode=$word
-    elif [ "${word#--}" != "$word" ]; then
-      words+=("$word") is_value=1
-    elif [ "$word" = - ] || [ -e "$word" ]; then
+    elif [ "$mode" != big ] && { [ "$word" = - ] || [ -e "$word" ]; }; then
       files+=("$word")
     else
       words+=("$word")
     fi
   done
+  [ -z "$option" ] || words+=("$option")
+  if [ ${#files[@]} = 0 ]; then files=(-); fi
+  # (one text is no job and its words)
+  if [ "$words_file" = - ] && is_among - "${files[@]}"; then words+=(--words -); fi
+}
+
+is_among() {
+  local one=$1 other
+  shift
+  for other; do [ "$one" != "$other" ] || return 0; done
+  return 1
+}
+
+# Whether the words make a command that reads a job; where they make none `fault` is what the program says of it. (What
+# `big` is asked for is seen by its run.)
+takes_input() {
+  [ "$mode" != big ] || return
+  fault=$("$program" "${words[@]}" 2>&1 >/dev/null </dev/null)
+  [ $? != 2 ]
+}
+
+# ---- Input: `input` is what the run reads, `job` a file with the same bytes, where there is one
+
+# A file that is gone behind the run: sets `made`.
+make_file() {
+  made=$(mktemp 2>/dev/null) || return
+  copies+=("$made")
+}
+
+remove_copies() {
+  if [ ${#copies[@]} != 0 ]; then rm -f -- "${copies[@]}"; fi
+  copies=()
+}
+
+remove_all() {
+  [ -z "$words_copy" ] || copies+=("$words_copy")
+  remove_copies
+}
+
+# Why this cannot be read, in words; nothing where it can.
+why_not_read() {
+  if [ -d "$1" ]; then
+    echo "is a folder"
+  elif [ ! -r "$1" ]; then
+    echo "may not be read"
+  fi
+}
+
+why_not_input() {
+  if [ -d /dev/fd/0 ]; then
+    echo "standard input is a folder"
+  else
+    echo "standard input is closed, or cannot be read"
+  fi
+}
+
+say_that_it_waits() {
+  if [ -t 0 ] && [ -t 2 ]; then
+    say "waiting for $1: type or paste it, and end it by Ctrl-D (adp --help says more)"
+  fi
+}
+
+# Opens a job; what may not be read is opened as a folder, whose reading fails just so. A job that is looked at again,
+# and comes from elsewhere than a file, is kept in one, which has one byte more than a job may have at most.
+open_job() {
+  local name=$1
+  job='' front='' cause='' input=0
+  if [ "$name" = - ]; then
+    [ "$mode" = big ] || say_that_it_waits "a job"
+  else
+    cause=$(why_not_read "$name")
+    [ -z "$cause" ] || cause="\`$name\` $cause"
+    if [ -n "$cause" ]; then name=/; elif [ -f "$name" ]; then job=$name; fi
+    { exec {input}<"$name"; } 2>/dev/null || { exec {input}</ && cause="\`$name\` cannot be opened"; }
+  fi
+  if [ -n "$words_file" ] && [ -z "$cause" ]; then
+    put_words
+  elif [ -n "$explains" ] && [ -z "$job$cause" ] && [ "$mode" != big ]; then
+    keep_input
+  fi
+}
+
+# Opens a file in the place of what the run reads so far.
+reopen() {
+  [ "$input" = 0 ] || exec {input}<&-
+  exec {input}<"$1"
+}
+
+# Puts what comes from here into a file, up to one byte more than a job may have. Fails where it cannot be read. (While
+# it waits the launcher can be ended.)
+keep() {
+  local ended
+  need head
+  head -c $((most_bytes + 1)) <&"$1" >"$2" 2>/dev/null &
+  child=$!
+  wait "$child"
+  ended=$?
+  child=
+  return "$ended"
+}
+
+keep_input() {
+  if ! make_file; then
+    say "no file can be made in ${TMPDIR:-/tmp}, so lines of the job are not shown"
+  elif keep "$input" "$made"; then
+    job=$made
+    reopen "$made"
+  else
+    cause=$(why_not_input)
+  fi
+}
+
+# Puts the words of --words behind the job, in a file: `front` is the number of lines before them. A job without the
+# line `words` gets none, and is refused for that alone.
+put_words() {
+  need awk head mktemp tail wc
+  if [ "$words_file" != - ]; then
+    cause=$(why_not_read "$words_file")
+    if [ -n "$cause" ]; then cause="\`$words_file\` $cause"; reopen /; return; fi
+  elif [ -z "$words_copy" ]; then
+    make_file || fail "no file can be made in ${TMPDIR:-/tmp}"
+    words_copy=$made copies=()
+    say_that_it_waits "a text of words"
+    keep 0 "$words_copy" || { cause=$(why_not_input); reopen /; return; }
+  fi
+  make_file || fail "no file can be made in ${TMPDIR:-/tmp}"
+  job=$made
+  keep "$input" "$job" || { cause=$(why_not_input); reopen /; return; }
+  if awk 'NR > 1 && /^ *words *\r?$/ { is_there = 1; exit } END { exit !is_there }' "$job"; then
+    # (the last line may have no end)
+    if [ "$(tail -c 1 "$job" | wc -l)" = 0 ]; then echo >>"$job"; fi
+    front=$(wc -l <"$job")
+    head -c $((most_bytes + 1)) -- "${words_copy:-$words_file}" >>"$job"
+  fi
+  reopen "$job"
+}
+
+# How many words the job has; nothing where that is not known.
+count_words() {
+  [ -z "$job" ] || awk 'is_there { count++ } NR > 1 && /^ *words *\r?$/ { is_there = 1 } END { print count + 0 }' "$job"
+}
+
+# ---- Runs
+
+# Ends with the program, and by the same signal.
+end_by() {
+  trap '' INT TERM HUP
+  [ -z "$child" ] || kill "$child" 2>/dev/null
+  wipe
+  remove_all
+  trap - EXIT "$1"
+  kill -s "$1" $$
+}
+
+# Microseconds, from any beginning on.
+now() {
+  local time=${EPOCHREALTIME-}
+  if [ -n "$time" ]; then time=${time/[.,]/}; else time=$((SECONDS * 1000000)); fi
+  moment=$time
+}
+
+wipe() {
+  [ "$shown" = 0 ] || printf '\r%*s\r' "$shown" '' >&2
+  shown=0
+}
+
+# Shows at which word a run is and how long it takes already; the cursor stands before it.
+show_progress() {
+  local text="$1 s"
+  if [ "$mode" != big ]; then
+    [ -n "$all_words" ] || all_words=$(count_words)
+    find_finished
+    text="$(place_of $((finished + 1))), $text"
+  fi
+  [ ${#text} -ge "$shown" ] || wipe
+  printf '%s\r' "$text" >&2
+  shown=${#text}
+}
+
+place_of() {
+  if [ -z "$all_words" ]; then
+    echo "word $1"
+  elif [ "$1" -le "$all_words" ]; then
+    echo "word $1 of $all_words"
+  else
+    echo "word $all_words of $all_words"
+  fi
+}
+
+# Waits for the end of a run: of the lines that the program writes, where these come here, to be passed on to a terminal
+# that shows progress too. The run is ended where its time is up.
+follow() {
+  local line start last=1 seconds pause=1 ended
+  now
+  start=$moment
+  while :; do
+    line=
+    IFS= read -r -t "$pause" -u "$lines" line
+    ended=$?
+    [ -z "$line" ] || wipe
+    if [ $ended = 0 ]; then
+      printf '%s\n' "$line"
+      # (what else is there already goes on as one block)
+      ! read -t 0 -u "$lines" || dd bs=65536 count=1 status=none <&"$lines"
+    else
+      printf '%s' "$line"
+      [ $ended -gt 128 ] || break
+    fi
+    now
+    if [ -n "$time_limit" ] && [ -z "$is_late" ]; then
+      if [ $((moment - start)) -ge "$limit" ]; then
+        is_late=1
+        kill "$child" 2>/dev/null
+      elif [ $((limit - moment + start)) -lt 1000000 ]; then
+        printf -v pause '0.%06d' $((limit - moment + start))
+      fi
+    fi
+    seconds=$(((moment - start) / 1000000))
+    if [ "$seconds" -gt "$last" ] && [ -n "$shows" ]; then
+      last=$seconds
+      show_progress "$seconds"
+    fi
+  done
+  wipe
+}
+
+# Lets what the program writes pass on to file 9; the lines that tell how far it is go to the file `counts`, too.
+relay() {
+  local ended
+  tee /dev/fd/8 8>&1 >&9 9>&- 2>/dev/null | grep --line-buffered -aE '^(word [0-9]+|none)$' >"$counts" 9>&-
+  ended=${PIPESTATUS[0]}
+  return "$ended"
+}
+
+# Starts the relay: `output` leads to it, and `lines` has what comes back, and an end when all is done.
+start_relay() {
+  make_file && counts=$made
+  if [ -t 2 ] && [ ! -t "$input" ]; then shows=1; fi
+  exec {screen}>&1
+  if [ -n "$shows" ] && [ -t 1 ]; then
+    coproc passing { relay 9>&1; }
+  else
+    coproc passing { relay 9>&"$screen"; }
+  fi
+  passer=$passing_PID
+  exec {lines}<&"${passing[0]}" {output}>&"${passing[1]}" {screen}>&-
+  exec {passing[0]}<&- {passing[1]}>&-
+}
+
+# The last word with a report.
+find_finished() {
+  finished=$(tail -n 2 "$counts" | awk '/^word/ { last = $2 } END { print last + 0 }')
+}
+
+# Runs the program over `input`: `fault` is then what it wrote on standard error, `status` how it ended, `finished` the
+# last word with a report, and `treeless` are the first words without a tree, of which there are `treeless_count`.
+run() {
+  local output=1 faults lines line screen passer='' is_cut='' is_late='' shows='' all_words='' counts=/dev/null
+  finished=0 treeless='' treeless_count=0 fault=''
+  # (a pipe holds what is written before it is read, which is a line)
+  exec {faults}<> <(:)
+  [ -z "$follows" ] || start_relay
+  ${guard[@]+"${guard[@]}"} "$program" ${words[@]+"${words[@]}"} <&"$input" >&"$output" 2>&"$faults" &
+  child=$!
+  if [ -n "$follows" ]; then
+    exec {output}>&-
+    follow
+    exec {lines}<&-
+    wait "$passer" 2>/dev/null || is_cut=1
+    find_finished
+    read -r treeless_count treeless < <(awk '
+      $1 == "none" && ++count <= 20 { these = these " " last }
+      { last = $2 }
+      END { print count + 0 these }' "$counts")
+  fi
+  wait "$child" 2>/dev/null
+  status=$?
+  child=
+  printf '\nend\n' >&"$faults"
+  while read -r -u "$faults" line && [ "$line" != end ]; do fault+=${fault:+${line:+$'\n'}}$line; done
+  exec {faults}>&-
+  if [ -n "$is_late" ]; then
+    status=124 fault=
+  elif [ -n "$is_cut" ] && [ "$status" = 0 ]; then
+    status=4 fault="fault write"
+  fi
+}
+
+# Which words of the job this is, for whoever reads a number behind the words of the job itself.
+place_in_words() {
+  local number=$1 name=$words_file
+  [ "$name" != - ] || name="standard input"
+  [ "$number" -le 0 ] || say "that is line $number of $name"
+}
+
+# Says behind a fault's line what it lacks for those who know no more than the command.
+say_cause() {
+  case $fault in
+    "fault usage") brief=1 explain "$1" ;;
+    "fault read") [ -z "$cause" ] || say "$cause" ;;
+    "fault text line "*)
+      set -- $fault
+      [ -z "$front" ] || place_in_words $(($4 - front))
+      ;;
+    "fault limit word "*)
+      set -- $fault
+      [ -z "$front" ] || place_in_words $(($4 - (front - $(first_word) + 1)))
+      ;;
+  esac
+  if [ -t 2 ] && [ -z "$cause" ]; then
+    case $fault in
+      "fault text line "* | "fault grammar "* | "fault limit "*) say "--explain says what is wrong, and what to do" ;;
+    esac
+  fi
+}
+
+# The line of the job that is its first word.
+first_word() {
+  awk 'NR > 1 && /^ *words *\r?$/ { print NR + 1; exit }' "$job"
+}
+
+# Explains a fault, or words without a tree; a faulty command in one line where it is to be brief. A command and its
+# cause are known; of a job what its text tells.
+explain() {
+  local colour='' name=$1
+  need awk
+  [ -t 2 ] && [ -z "${NO_COLOR-}" ] && [ "${TERM-dumb}" != dumb ] && colour=1
+  (
+    export ADP_FAULT=${fault##*$'\n'} ADP_JOB=$job ADP_NAME=$name ADP_COLOUR=$colour ADP_GUIDE=$top/docs/FAULTS.md
+    export ADP_COMMAND=$command ADP_BRIEF=$brief ADP_CAUSE=$cause ADP_WORDS=$words_file ADP_FRONT=$front
+    export ADP_TREELESS="$treeless_count $treeless" ADP_LONGEST
+    ADP_LONGEST=$(longest)
+    exec awk -f "$top/tools/explain.awk" -- ${words[@]+"${words[@]}"} >&2
+  ) &
+  child=$!
+  wait "$child"
+  child=
+}
+
+# The length up to which this job admits words, where one passes a limit that depends on it.
+longest() {
+  case $fault in
+    "fault limit "*" kind "[2-9]" "*) ADP=$program "$top/tools/longest" "$job" "${words[@]}" 2>/dev/null ;;
+  esac
+}
+
+# Runs the program over a file, or over standard input, and says what is to be said behind it.
+run_file() {
+  [ ${#files[@]} = 1 ] || say "$1:"
+  open_job "$1"
+  run
+  [ "$input" = 0 ] || exec {input}<&-
+  [ -z "$fault" ] || printf '%s\n' "$fault" >&2
+  if [ "$status" = 124 ]; then
+    say_late "$1"
+  elif [ -n "$explains" ] && [ -n "$fault$treeless" ]; then
+    explain "$1"
+  elif [ -n "$fault" ]; then
+    say_cause "$1"
+  elif [ -n "$treeless" ] && [ -t 2 ]; then
+    say "--explain says why words have no tree"
+  elif [ "$status" -gt 128 ]; then
+    say "the program was ended by the signal $((status - 128))"
+  fi
+  remove_copies
+  return "$status"
+}
+
+say_late() {
+  local name=$1 all_words=''
+  [ "$name" != - ] || name="standard input"
+  if [ "$mode" = big ]; then
+    say "ended after $time_limit s"
+  else
+    all_words=$(count_words)
+    say "$name: ended after $time_limit s, at $(place_of $((finished + 1)))"
+  fi
+}
+
+run_all() {
+  local file all=0
+  for file; do
+    run_file "$file"
+    [ "$all" != 0 ] || all=$status
+    case $status in 2 | 4) break ;; esac
+  done
+  return "$all"
 }
 
 # What stands here; nothing is built for it.
@@ -445,8 +737,8 @@ version() {
     program=$top/prebuilt/adp
   fi
   mapfile -t told 2>/dev/null <"${program%/*}/sources"
-  printf '%s\n' 'adp: algebraic dynamic programming, with proved answers' "$which" "sources ${told[0]-unknown}" \
-    "${told[1]-}"
+  printf '%s\n' "adp $version: algebraic dynamic programming, with proved answers" "formats $formats" "$which" \
+    "sources ${told[0]-unknown}" "${told[1]-}"
 }
 
 if [ -L "$self" ]; then
@@ -457,27 +749,57 @@ case $self in */*) top=${self%/*} ;; *) top=. ;; esac
 [ -n "$top" ] || top=/
 
 case "${1-}" in
-  -h | --help | help) help || exit 4; exit 0 ;;
+  help) help || exit 4; exit 0 ;;
   --sources) need awk cut find sha256sum sort xargs; sources; exit ;;
   --source-files) need awk cut find sha256sum sort xargs; roots | checksums | cut -c 1-8,65-; exit ;;
 esac
+for word; do
+  case $word in
+    -h | --help) help || exit 4; exit 0 ;;
+    -V | --version) need find; version || exit 4; exit 0 ;;
+  esac
+done
 
-words=() files=() explains='' copy='' program='' ticker='' why=''
+words=() files=() copies=() guard=()
+treeless='' treeless_count=0 shown=0
+mode='' explains='' words_file='' words_copy='' time_limit='' program='' why=''
+brief='' cause='' fault='' front='' job='' made='' child=''
+command="adp${*:+ $*}"
 need find
-if [ "${1-}" = --version ]; then
-  version || exit 4
-  exit 0
-fi
+# (a stream that is closed is one that fails)
+[ -e /dev/fd/0 ] || exec 0>/dev/null
+[ -e /dev/fd/1 ] || exec 1</dev/null
 find_checked || find_program
 sort_arguments "$@"
-if [ ${#files[@]} = 0 ]; then
-  files=(-)
+
+trap remove_all EXIT
+for signal in INT TERM HUP; do trap "end_by $signal" $signal; done
+if [ "$mode" != big ] && ! takes_input; then
+  printf '%s\n' "$fault" >&2
+  [ -n "$explains" ] || brief=1
+  explain "${files[0]}"
+  exit 2
 fi
-if [ ${#files[@]} = 1 ] && [ -z "$explains" ] && [ ! -t 2 ]; then
-  if [ "${files[0]}" != - ]; then
-    readable "${files[0]}"
-    exec <"$file"
+if [ -n "$time_limit" ]; then
+  printf -v limit '%s%06d' "${time_limit%.*}" 0
+  fraction=000000
+  case $time_limit in *.*) fraction=${time_limit#*.}000000 ;; esac
+  limit=$((10#${time_limit%.*} * 1000000 + 10#${fraction:0:6}))
+fi
+follows=
+if [ -t 2 ] || [ -n "$explains$time_limit" ]; then
+  need awk dd grep tail tee
+  follows=1
+fi
+if [ -z "$follows$words_file" ] && [ ${#files[@]} = 1 ] && [ "$mode" != big ]; then
+  open_job "${files[0]}"
+  if [ -z "$cause" ]; then
+    [ "$input" = 0 ] || exec <&"$input" {input}<&-
+    trap - EXIT INT TERM HUP
+    exec "$program" "${words[@]}"
   fi
-  exec "$program" ${words[@]+"${words[@]}"}
+  [ "$input" = 0 ] || exec {input}<&-
 fi
+# (so that the program ends too where the launcher is killed)
+if setpriv --pdeathsig KILL true 2>/dev/null; then guard=(setpriv --pdeathsig KILL); fi
 run_all "${files[@]}"

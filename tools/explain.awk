@@ -1,14 +1,19 @@
-# Explains the fault of a run: what is wrong, where, and what to do. The launcher runs it behind the fault's line, as
-# `adp --explain`, with the words of the command as arguments and this in the environment: ADP_FAULT, the line; ADP_JOB,
-# the file of the job (none where it could not be read), and ADP_NAME, what the user called it; ADP_GUIDE, the file
-# docs/FAULTS.md; ADP_LONGEST, the greatest length that the job admits, where that is known; ADP_COLOUR, for a terminal.
+# Explains the fault of a run, or why words have no tree: what is wrong, where, and what to do. The launcher runs it
+# behind the fault's line, as `adp --explain`, with the words of the program as arguments and this in the environment:
+# ADP_FAULT, the line; ADP_JOB, the file of the job (none where it could not be read), and ADP_NAME, what the user
+# called it; ADP_COMMAND, the line of the command; ADP_CAUSE, why the input cannot be read; ADP_WORDS and ADP_FRONT, the
+# file of more words and the number of lines before them; ADP_TREELESS, how many words have no tree, and the first of
+# them; ADP_GUIDE, the file docs/FAULTS.md; ADP_LONGEST, the greatest length that the job admits, where that is known;
+# ADP_COLOUR, for a terminal; ADP_BRIEF, where of a faulty command the cause alone is to be told, in a line.
 #
 # It needs no more than POSIX awk, and is to be run with LC_ALL=C: a letter is a byte.
 
 BEGIN {
   fault = ENVIRON["ADP_FAULT"]
   job = ENVIRON["ADP_JOB"]
-  name_of_job = ENVIRON["ADP_NAME"] == "-" || ENVIRON["ADP_NAME"] == "" ? "standard input" : ENVIRON["ADP_NAME"]
+  name_of_job = name_of(ENVIRON["ADP_NAME"])
+  job_lines = ENVIRON["ADP_FRONT"] == "" ? -1 : ENVIRON["ADP_FRONT"] + 0
+  is_brief = ENVIRON["ADP_BRIEF"] != ""
   guide = ENVIRON["ADP_GUIDE"]
   if (ENVIRON["ADP_COLOUR"] != "") { bold = "\033[1m"; red = "\033[31m"; plain = "\033[0m" }
   MOST = "4611686018427387903"
@@ -19,10 +24,11 @@ BEGIN {
   for (code = 1; code < 256; code++) code_of[sprintf("%c", code)] = code
   HEX = "0123456789ABCDEF"
   said_words = split("class sign algebra let rule grammar words", KEYWORDS, " ")
-  split("best serial wins replay big", MODES, " ")
-  said_options = split("--algebra --workers --seed --schedule --size", OPTIONS, " ")
-  MODES_IN_WORDS = "best, serial, wins, replay or big"
+  MOST_EXPLAINED = 3
+  MOST_STEPS = 200000
+  fill_tables()
   count = split(fault, part, " ")
+  if (fault == "") explain_treeless()
   if (part[1] != "fault") exit
   if (part[2] == "text" && part[3] == "line") explain_text(part[4] + 0, part[6] + 0, part[8])
   else if (part[2] == "grammar") explain_grammar(part[4] + 0, part[6])
@@ -32,9 +38,61 @@ BEGIN {
   exit
 }
 
+# ---- Modes and options: a line for each
+
+function fill_tables() {
+  add_mode("best", "--algebra --workers --seed")
+  add_mode("serial", "--algebra --workers --seed")
+  add_mode("wins", "--algebra --workers --seed")
+  add_mode("replay", "--algebra --workers --seed --schedule", "--schedule", "a schedule, which says who makes each " \
+      "step: as `--schedule 0110`")
+  add_mode("big", "--workers --seed --size", "--size", "a size, which says how many letters are made: as `--size 400`")
+  add_option("--algebra", "name")
+  add_option("--workers", "number", "1", "32")
+  add_option("--seed", "number", "0", "18446744073709551615")
+  add_option("--schedule", "entries")
+  add_option("--size", "number", "1", "2046")
+  # of the launcher
+  add_option("--words", "file")
+  add_option("--time-limit", "seconds")
+}
+
+# A mode with its options, and where there is one, the option that it needs with what it is.
+function add_mode(name, its_options, needed, what,    list, i) {
+  MODES[++said_modes] = name
+  is_of[name, "--time-limit"] = 1
+  if (name != "big") is_of[name, "--words"] = 1
+  for (i = split(its_options, list, " "); i; i--) is_of[name, list[i]] = 1
+  if (needed != "") needed_by[name] = needed
+  needed_as[name] = what
+}
+
+# An option with the sort of its value, and of a number the least and the greatest.
+function add_option(name, sort_of_value, least, most) {
+  OPTIONS[++said_options] = name
+  value_of[name] = sort_of_value
+  least_of[name] = least
+  most_of[name] = most
+}
+
+# Names of a list, or of those modes in it that have an option, in words.
+function in_a_row(list, last_word, of_option,    i, n, chosen, text) {
+  for (i = 1; i in list; i++) if (of_option == "" || (list[i], of_option) in is_of) chosen[++n] = list[i]
+  for (i = 1; i <= n; i++) text = text (i == 1 ? "" : i == n ? " " last_word " " : ", ") chosen[i]
+  return text
+}
+
 # ---- What is written
 
 function tell(text) { print wrapped(text, "") }
+
+function name_of(path) { return path == "-" || path == "" ? "standard input" : path }
+
+# A line of the job, or of the file of more words, by the number that it has in both together.
+function place_of(number) {
+  if (job_lines >= 0 && number > job_lines) return name_of(ENVIRON["ADP_WORDS"]) ", line " number - job_lines
+  return name_of_job ", line " number
+}
 
 # A text in lines of at most 100 letters.
 function wrapped(text, indent,    words, n, i, line, out) {
@@ -66,6 +124,7 @@ function printed(text,    out, i, byte) {
 # A line of the job with its number; where a column is told, a mark below it. Long lines are cut around it.
 function show(number, text, column,    front, first, shown) {
   first = 1
+  if (job_lines >= 0 && number > job_lines) number -= job_lines
   if (column > 70) first = column - 60
   front = (first > 1 ? ".." : "") printed(substr(text, first, column > 0 ? column - first : 0))
   shown = (first > 1 ? ".." : "") printed(substr(text, first, 100)) (length(text) >= first + 100 ? ".." : "")
@@ -190,7 +249,7 @@ function match_token(rest,    byte) {
 # Whether a line has form. Where not, `wrong_at` is the column of what is wrong, and `wrong` says what. Where it has
 # tokens, `shape` is its keyword and `declared` the word in the place of its name.
 function has_form(number,    text) {
-  text = header[number]
+  text = parsed = header[number]
   shape = declared = wrong = ""
   if (text ~ /[^ -~]/) {
     match(text, /[^ -~]/)
@@ -242,6 +301,9 @@ function offending(text, at,    byte, rest) {
   if (byte == "#") return "a comment has a line of its own, with `#` as its first byte"
   if (byte == ":") return "a `=` stands between a name and what it means, and no `:`"
   if (byte == ".") return "a `.` alone begins no token: numbers are whole, and a run has two dots, `..`"
+  if (substr(rest, 1, 2) == "//" || substr(rest, 1, 2) == "/*") return "a comment begins with `#`, as the first byte " \
+      "of its line"
+  if (byte == "%" && at == 1) return "a comment begins with `#`"
   if (byte == "/") return "a `/` begins no token: alternatives have `|` between them, and there is no division"
   if (byte == ">" || byte == "<") return "a `" byte "` begins no token: a rule has `=` behind its name"
   if (byte == "{" || byte == "}") return "a `" byte "` begins no token: brackets are `(` `)` and `[` `]`"
@@ -275,7 +337,18 @@ function fails(text) { wrong = text; return 0 }
 
 function eat(mark) {
   if (at <= tokens && token[at] == mark) { at++; return 1 }
+  if (is_hyphened()) return fails_hyphened()
   return fails(seen() ", where `" mark "` should be")
+}
+
+# Whether a `-` stands within what was meant as a name.
+function is_hyphened() {
+  return token[at] == "-" && is_name(token[at - 1]) && is_word(token[at + 1]) && \
+      column[at] == column[at - 1] + length(token[at - 1]) && column[at + 1] == column[at] + 1
+}
+
+function fails_hyphened() {
+  return fails("a name has letters, digits and `_`, and no `-`: write " token[at - 1] "_" token[at + 1])
 }
 
 # A word that is wanted as something.
@@ -304,10 +377,32 @@ function parse_line(    word) {
   at = 1
   shape = ""
   if (word == "|") return fails("a line begins with `|`: a rule stands on one line with all its alternatives")
+  if (word ~ /^[\/%;]/ || (word == "-" && token[2] == "-")) return fails("a comment begins with `#`, as the first " \
+      "byte of its line")
   if (token[2] == "(") return fails("`let` is missing in front")
-  word = nearest(word, KEYWORDS)
+  if (token[2] == "=" && substr(token[3], 1, 1) == "\"") return fails("`class` is missing in front")
+  if (is_name(word) && is_defined_behind()) return fails("`rule` is missing in front" (token[2] == "=" ? "" : \
+      ", and a `=` stands behind the name") ": rule " word " = ..")
+  word = meant_by(word)
+  if (word == "") word = nearest(token[1], KEYWORDS)
   if (word != "") return fails("a line begins with " quoted(token[1]) ": is " quoted(word) " meant?")
   return fails("a line of the header begins with class, sign, algebra, let, rule, grammar or words")
+}
+
+# Whether the line goes on as definitions do in other languages.
+function is_defined_behind(    rest) {
+  rest = substr(parsed, column[1] + length(token[1]))
+  return rest ~ /^ *(::=|:=|->|=>|=)/
+}
+
+# The keyword that is meant by a word of other languages.
+function meant_by(word) {
+  if (index(" axiom start main root goal entry ", " " word " ")) return "grammar"
+  if (index(" end input inputs data strings word ", " " word " ")) return tokens > 1 ? "grammar" : "words"
+  if (index(" alphabet letters charset set ", " " word " ")) return "class"
+  if (index(" signature function operator constructor ", " " word " ")) return "sign"
+  if (index(" production nonterminal ", " " word " ")) return "rule"
+  return ""
 }
 
 function parse_class() {
@@ -374,6 +469,8 @@ function parse_term() {
 
 function parse_part() {
   if (token[at] == "(") return no_brackets()
+  if (token[at] == "if" && is_word(token[at + 1])) return fails("a term has no conditions: give each case a sign of " \
+      "its own, and let the rules say which may stand where")
   if (token[at] == "+" || token[at] == "-") return fails(seen() ", where a number or a variable should be: there " \
       "is one sign at a time, and no `+` in front")
   if (!eat_word("a number or a variable")) return 0
@@ -382,6 +479,13 @@ function parse_part() {
   if (token[at] == "(") return no_brackets()
   if (token[at] ~ /^[0-9]/) return fails("there is no product of numbers: write the number that it is")
   return eat_word("a variable")
+}
+
+function no_functions(name,    j) {
+  for (j = 1; j <= variables; j++) if (variable[j] == name) return no_brackets()
+  if (name ~ /^(len|length|size|count|strlen)$/) return fails("a term has no functions: give the letters of the " \
+      "class the weight 1, and a run of them is worth its length")
+  return fails("a term has no functions, as `" name "`: it is a sum of numbers and of variables, each with a factor")
 }
 
 function no_brackets() { return fails("a term has no brackets: multiply out, as 2*x + 2*y for 2*(x + y)") }
@@ -398,6 +502,7 @@ function behind_part(    before, behind) {
   }
   if (token[at] == "(" && (before == "min" || before == "max")) return fails("a term has no `" before \
       "`: give each case a sign of its own, and let the goal choose between the alternatives")
+  if (token[at] == "(" && is_name(before)) return no_functions(before)
   if (token[at] == "(") return no_brackets()
   if (token[at] == "." && before ~ /^[0-9]/) return fails("numbers are whole: multiply all numbers of the algebra " \
       "by 10, 100 or more")
@@ -428,6 +533,7 @@ function parse_alternative() {
   if (!eat_word("an alternative")) return 0
   alternative_at[++alternatives] = at - 1
   arguments[alternatives] = 0
+  if (is_hyphened()) return fails_hyphened()
   if (token[at] != "(") {
     if (at > tokens || token[at] == "|") return fails(quoted(token[at - 1]) \
         " is no alternative alone: an alternative is a sign with its arguments in brackets, as " token[at - 1] \
@@ -467,7 +573,9 @@ function parse_argument(j,    i) {
   argument[i, j] = token[at - 1]
   if (token[at] == "]") { at++; return 1 }
   sort[i, j] = "run"
-  if (token[at] == ",") return fails("no `,` stands behind the class: [" argument[i, j] " 2..5]")
+  if (token[at] == ",") return fails(is_digits(token[at + 1]) ? "no `,` stands behind the class: [" argument[i, j] \
+      " 2..5]" : "a `]` is missing behind " quoted(argument[i, j]))
+  if (token[at] == ")" || token[at] == "|") return fails("a `]` is missing behind " quoted(argument[i, j]))
   if (!is_word(token[at])) return fails(seen() ", where `]` or the least number of letters should be")
   low[i, j] = token[at++]
   if (token[at] == "-") return fails("two dots stand between the bounds of a run: [" argument[i, j] " " low[i, j] "..]")
@@ -608,7 +716,7 @@ function explain_text(number, kind_number, counted) {
   wanted_number = number
   read_job(number)
   print ""
-  print bold name_of_job ", line " number ":" plain
+  print bold place_of(number) ":" plain
   if (kind_number == 1) tell_first_line()
   else if (kind_number == 2) tell_strange_byte(number)
   else if (kind_number == 3) {
@@ -636,8 +744,23 @@ function explain_text(number, kind_number, counted) {
   tell_section("Faults of the text", kind_number)
 }
 
+# Whether a line has bytes that stand in no text of any language: one in ten, or more.
+function is_no_text(line,    i, n, byte, strange_bytes) {
+  n = length(line) < 200 ? length(line) : 200
+  for (i = 1; i <= n; i++) {
+    byte = substr(line, i, 1)
+    if (!(byte in code_of) || (code_of[byte] < 32 && byte !~ /[\t\r]/) || byte == "\177") strange_bytes++
+    else if (byte >= "\200" && byte < "\302" && (i == 1 || substr(line, i - 1, 1) < "\200")) strange_bytes++
+  }
+  return strange_bytes * 10 > n
+}
+
 function tell_first_line() {
   if (lines == 0) { tell("The job is empty."); return }
+  if (is_no_text(wanted_line) && wanted_line !~ /^\377\376|^\376\377|^a?$/) {
+    tell("This is no text: a job is lines of letters, digits and marks that can be read.")
+    return
+  }
   show(1, wanted_line, 1)
   if (wanted_line ~ /^\357\273\277/) tell(sentence(strange(wanted_line, 1)))
   else if (wanted_line ~ /^\377\376|^\376\377/ || wanted_line ~ /^a?$/ && lines > 1 && wanted_line != "") \
@@ -652,6 +775,7 @@ function tell_first_line() {
 
 function tell_strange_byte(number,    text) {
   text = wanted_line
+  if (is_no_text(text)) { tell("This line is no text: many of its bytes are no letters, digits or marks."); return }
   if (!match(text, /[^ -~]/)) { show(number, text, 0); return }
   wrong_at = RSTART
   show(number, text, wrong_at)
@@ -695,9 +819,16 @@ function tell_number(number,    i, word, place) {
   if (!place) tell("The sum of the plain numbers, or of the factors of one variable, passes " MOST \
       ", which is 2^62 - 1.")
   else if (is_digits(word)) tell(quoted(word) " is more than " bound_of_number(place) ".")
+  else if (word ~ /^[0-9]+[eE][0-9]+$/) tell("There are no exponents: write " written_out(word) ".")
   else if (word ~ /^[0-9]+[A-Za-z]/ && shape == "let") tell(quoted(word) \
       " is neither a number nor a name: a `*` stands between a factor and its variable.")
   else tell(quoted(word) " is no number: a number is digits alone.")
+}
+
+# A number with an exponent as digits.
+function written_out(word,    half) {
+  split(word, half, /[eE]/)
+  return half[2] + 0 > 18 ? "it in digits" : half[1] substr("000000000000000000", 1, half[2])
 }
 
 function is_in_place_of_number(place) {
@@ -831,6 +962,7 @@ function tell_missing(sort, name, place, what,    near, other) {
     has_form(wanted_number)
     return
   }
+  if (tell_among_words(sort, name)) return
   if (sort == "rule" && ("class", name) in line_of) tell(quoted(name) " is a class: write [" name \
       "], and give its sign a `token` there.")
   else if (sort == "class" && ("rule", name) in line_of) tell(quoted(name) \
@@ -1017,11 +1149,28 @@ function tell_lacking(sign, number, last,    near, i) {
   }
   tell("Here the sign " quoted(sign) " of line " line_of["sign", sign] \
       " lacks its `let`: no line between this one and line " last + 1 " begins with `let " sign "`.")
+  if (tell_among_words("let", sign)) return 1
   for (i = 1; i <= lets_count; i++) if (let_sign[lets[i]] == sign) {
     tell("(Line " lets[i] " has one, but " (let_section[lets[i]] ? "it belongs to the algebra of line " \
         let_section[lets[i]] : "it stands above all algebras") ".)")
     break
   }
+  return 1
+}
+
+# Tells of a line that would declare a name, but stands behind the line `words`; 0 where there is none.
+function tell_among_words(word, name,    line, number, found) {
+  while ((getline line < job) > 0 && number < words_line + MOST_NOTED) {
+    number++
+    if (number <= words_line || !words_line || line !~ ("^ *" word " +" name "([^A-Za-z0-9_]|$)")) continue
+    found = number
+    break
+  }
+  close(job)
+  if (!found) return 0
+  tell("This line begins so, but stands behind the line `words` (line " words_line "), where each line is a word:")
+  sub(/\r$/, "", line)
+  show(found, line, 0)
   return 1
 }
 
@@ -1219,7 +1368,7 @@ function explain_limit(number, kind_number, size,    longest) {
   wanted_line = ""
   read_word(wanted_number)
   print ""
-  print bold name_of_job ", line " wanted_number ", word " number " of " plural(length(wanted_line), "letter") ":" plain
+  print bold place_of(wanted_number) ", word " number " of " plural(length(wanted_line), "letter") ":" plain
   show(wanted_number, wanted_line, 0)
   longest = ENVIRON["ADP_LONGEST"]
   if (kind_number > 1 && longest ~ /^[0-9]+$/ && longest + 0 < length(wanted_line)) \
@@ -1384,22 +1533,309 @@ function is_score(sign, name,    j) {
   return 0
 }
 
+# ---- Words without a tree
+
+function explain_treeless(    list, n, i, more) {
+  n = split(ENVIRON["ADP_TREELESS"], list, " ")
+  if (n < 2 || job == "") return
+  read_job(1)
+  wanted_number = -1
+  read_header()
+  if (is_small) find_letters()
+  if (is_small) find_slots()
+  for (i = 2; i <= n && i <= MOST_EXPLAINED + 1; i++) tell_treeless(list[i])
+  for (; i <= n; i++) more = more (more == "" ? "" : ", ") list[i]
+  if (more != "") {
+    print ""
+    tell((more ~ /,/ ? "The words " more (list[1] > n - 1 ? " and so on, " list[1] " in all, have" : " have") : \
+        "Word " more " has") " no tree either.")
+  }
+  print ""
+  tell("(docs/GUIDE.md, what `none` means, has two ways to find the letter that is in the way.)")
+}
+
+# What a word looks like, why it has no tree, and how far trees follow it.
+function tell_treeless(number,    text, unknown, letter) {
+  wanted_line = ""
+  read_word(words_line + number)
+  text = wanted_line
+  print ""
+  print bold place_of(words_line + number) ", word " number " of " plural(length(text), "letter") " has no tree:" plain
+  if (!is_small) { show(words_line + number, text, 0); return }
+  find_reach(text)
+  unknown = first_unknown(text)
+  letter = unknown ? unknown : reach < length(text) && !gave_up ? reach + 1 : 0
+  show(words_line + number, text, letter)
+  if (tell_looks(text, letter)) return
+  if (!tell_blanks(text, letter)) {
+    if (unknown) tell_unknown(text, unknown)
+    if (letter) tell_range(substr(text, letter, 1))
+  }
+  tell_reach(text)
+}
+
+# Which letters stand in some class, and which in some literal of a rule.
+function find_letters(    number, i, j, letter, text) {
+  for (number = 2; number <= header_end(); number++) {
+    if (!(number in header) || header[number] !~ /^ *class[ ]/ || !has_form(number)) continue
+    for (i = 1; i <= items; i++) {
+      text = unquoted(token[item_at[i]])
+      for (j = 1; j <= length(text); j++) {
+        letter = substr(text, j, 1)
+        in_class[declared, letter] = is_known[letter] = 1
+        if (j > 2 && substr(text, j - 1, 1) == "-" && substr(text, j - 2, 1) < letter) {
+          ranges[++ranges_count] = number
+          range_of[ranges_count] = substr(text, j - 2, 3)
+          range_class[ranges_count] = declared
+        }
+      }
+    }
+  }
+  for (i = 1; i <= rules_count; i++) for (number = 1; number <= alternatives_of[rules[i]]; number++) {
+    for (j = 1; j <= arguments_of[rules[i], number]; j++) if (sort_of[rules[i], number, j] == "literal") {
+      text = unquoted(argument_of[rules[i], number, j])
+      for (letter = 1; letter <= length(text); letter++) is_known[substr(text, letter, 1)] = 1
+    }
+  }
+}
+
+function unquoted(literal) {
+  literal = substr(literal, 2, length(literal) - 2)
+  gsub(/\\"/, "\"", literal)
+  gsub(/\\\\/, "\\", literal)
+  return literal
+}
+
+function first_unknown(text,    i) {
+  for (i = 1; i <= length(text); i++) if (!(substr(text, i, 1) in is_known)) return i
+  return 0
+}
+
+# Tells what a line that was meant otherwise looks like; 0 where it is a word.
+function tell_looks(text, letter) {
+  if (text ~ /^>/ && letter == 1) return has_told("It looks like the first line of a sequence in FASTA: behind the " \
+      "line `words` each line is a word. `tools/fasta words FILE` makes words of such a file.")
+  if (text ~ /^ *(adp [0-9]+|(class|sign|algebra|let|rule|grammar) .*|words) *$/) return has_told("It looks like a " \
+      "line of a header, but behind the line `words` (line " words_line ") each line is a word: a file has one job.")
+  if (text ~ /^#/ && letter == 1) return has_told("It looks like a comment, but behind the line `words` each line is " \
+      "a word.")
+  if (text ~ /^".*"$/ && letter == 1) return has_told("It stands in quotes, and they belong to the word: words are " \
+      "written without.")
+  return 0
+}
+
+# Tells of blanks that are easily overlooked; 0 where there are none.
+function tell_blanks(text, letter) {
+  if (text == "") return has_told("It is empty: a blank line behind the line `words` is a word.")
+  if (text ~ /^ +$/) return has_told("It is blanks alone: a blank line behind the line `words` is a word.")
+  if (text ~ / $/ && letter && substr(text, letter) ~ /^ +$/) return has_told("A blank stands at its end, and " \
+      "belongs to it.")
+  if (text ~ /^ / && letter == 1) return has_told("A blank stands at its front, and belongs to it.")
+  return 0
+}
+
+function has_told(text) { tell(text); return 1 }
+
+function tell_unknown(text, place,    letter, other, i, more) {
+  letter = substr(text, place, 1)
+  other = letter == tolower(letter) ? toupper(letter) : tolower(letter)
+  for (i = place + 1; i <= length(text); i++) if (!(substr(text, i, 1) in is_known)) more++
+  tell("Letter " place ", " quoted(letter) ", " (more ? "and " more " more behind it stand" : "stands") " in no " \
+      "class and in no literal of the job." (other != letter && (other in is_known) ? " " quoted(other) \
+      " does: capital letters count." : ""))
+}
+
+# Tells of a class that seems to be meant as a range that has the letter.
+function tell_range(letter,    i, first, last) {
+  for (i = 1; i <= ranges_count; i++) {
+    first = substr(range_of[i], 1, 1)
+    last = substr(range_of[i], 3, 1)
+    if (letter <= first || letter >= last || (range_class[i], letter) in in_class) continue
+    tell("The class " quoted(range_class[i]) " of line " ranges[i] " has the letters " quoted(first) ", `-` and " \
+        quoted(last) ": there are no ranges, so write out each letter that it has.")
+    return
+  }
+}
+
+function tell_reach(text,    n, could) {
+  n = length(text)
+  if (gave_up) {
+    tell(gave_up < 2 ? "How far trees follow the word is not told: there are too many ways to begin it." : \
+        "Trees can begin with the letters 1 to " gave_up - 1 "; how far they follow the word beyond was not looked at.")
+    return
+  }
+  could = expected_in_words()
+  if (reach == 0) tell(n == 0 ? "A word could begin with " could "." : "No tree begins with letter 1: " could \
+      " could stand there.")
+  else if (reach < n) tell("Trees can begin with " (reach == 1 ? "letter 1" : "the letters 1 to " reach) ", " \
+      quoted(last_letters(substr(text, 1, reach))) ", and with no letter more: behind could stand " could ".")
+  else tell("Trees can begin with the whole word, but none ends with it: behind could stand " could ".")
+}
+
+function last_letters(text) { return length(text) > 30 ? ".." substr(text, length(text) - 29) : text }
+
+function expected_in_words(    i, text) {
+  for (i = 1; i <= expected_count && i <= 8; i++) text = text (i == 1 ? "" : i == expected_count ? " or " : ", ") \
+      expected[i]
+  return text (expected_count > 8 ? " and more" : "")
+}
+
+# The grammar as slots: for each argument of each alternative one, and one behind the last; the next one follows it.
+function find_slots(    i, a, j, rule) {
+  for (i = 1; i <= rules_count; i++) {
+    rule = rules[i]
+    for (a = 1; a <= alternatives_of[rule]; a++) {
+      first_slot[rule, a] = slots + 1
+      for (j = 1; j <= arguments_of[rule, a]; j++) {
+        slot_sort[++slots] = sort_of[rule, a, j]
+        slot_name[slots] = slot_sort[slots] == "literal" ? unquoted(argument_of[rule, a, j]) : argument_of[rule, a, j]
+        slot_low[slots] = slot_sort[slots] == "letter" ? 1 : low_of[rule, a, j] + 0
+        slot_high[slots] = slot_sort[slots] == "letter" ? 1 : high_of[rule, a, j] == "" ? 1000000 : high_of[rule, a, \
+            j] + 0
+      }
+      slot_sort[++slots] = "end"
+    }
+  }
+}
+
+# How many letters of a text can be the front of a word with a tree: `reach`, and what could stand behind them,
+# `expected`. The grammar is followed from its axiom on, position by position, over all alternatives at once. A goal is
+# a rule at a position, with the slots that go on behind it. Where that is more than so many steps, `gave_up` is the
+# position that was come to, and 1.
+function find_reach(text,    n, p, k, pair) {
+  split("", goals); split("", is_goal); split("", goal_rule)
+  split("", frames); split("", frames_count); split("", is_frame)
+  split("", heirs); split("", heirs_count); split("", is_heir)
+  split("", ends); split("", ends_count); split("", is_end)
+  split("", waiting); split("", waiting_count); split("", is_seen); split("", run_end)
+  reach = expected_count = steps = gave_up = goals_count = 0
+  n = length(text)
+  add_frame(goal_at(axiom_of_job(), 0), 0, 0)
+  for (p = 0; p <= n; p++) for (k = 1; k <= waiting_count[p] + 0; k++) {
+    if (steps > MOST_STEPS) { gave_up = p + 1; return }
+    split(waiting[p, k], pair, " ")
+    take_slot(pair[1] + 0, pair[2] + 0, p, text, n)
+  }
+}
+
+function goal_at(rule, p,    a) {
+  if ((rule, p) in is_goal) return is_goal[rule, p]
+  is_goal[rule, p] = ++goals_count
+  goal_rule[goals_count] = rule
+  for (a = 1; a <= alternatives_of[rule]; a++) wait_at(first_slot[rule, a], goals_count, p)
+  return is_goal[rule, p]
+}
+
+function wait_at(slot, goal, p) {
+  steps++
+  if ((slot, goal, p) in is_seen) return
+  is_seen[slot, goal, p] = 1
+  waiting[p, ++waiting_count[p]] = slot " " goal
+}
+
+# The slot 0 stands behind the axiom.
+function take_slot(slot, goal, p, text, n,    which, name, most, length_of, last, other) {
+  if (slot == 0) { expect(p, "the word's end"); return }
+  which = slot_sort[slot]
+  name = slot_name[slot]
+  if (which == "end") end_goal(goal, p)
+  else if (which == "rule") {
+    other = goal_at(name, p)
+    if (slot_sort[slot + 1] == "end") add_heir(goal, other)
+    else add_frame(other, slot + 1, goal)
+  } else if (which == "literal") {
+    length_of = length(name)
+    for (most = 0; most < length_of && substr(text, p + most + 1, 1) == substr(name, most + 1, 1); ) most++
+    if (most == length_of) come_to(p + most, slot, goal)
+    else expect(p + most, (most ? quoted(substr(name, most + 1)) " of " : "") quoted("\"" name "\""))
+  } else {
+    last = end_of_run(name, p, text, n)
+    if (last - p > slot_high[slot]) last = p + slot_high[slot]
+    for (other = p + slot_low[slot]; other <= last; other++) come_to(other, slot, goal)
+    if (last - p < slot_high[slot]) expect(last, "a letter of the class " quoted(name))
+  }
+}
+
+# How far letters of a class go from a position on.
+function end_of_run(class, p, text, n,    i, last) {
+  if (!((class, p) in run_end)) {
+    for (last = p; last < n && ((class, substr(text, last + 1, 1)) in in_class); ) last++
+    for (i = p; i <= last; i++) run_end[class, i] = last
+  }
+  return run_end[class, p]
+}
+
+function come_to(p, slot, goal) {
+  if (p > reach) { reach = p; expected_count = 0 }
+  wait_at(slot + 1, goal, p)
+}
+
+function expect(p, what,    i) {
+  if (p > reach) { reach = p; expected_count = 0 }
+  if (p < reach) return
+  for (i = 1; i <= expected_count; i++) if (expected[i] == what) return
+  expected[++expected_count] = what
+}
+
+# A goal has come to its end at a position: what stands behind it goes on there.
+function end_goal(goal, p,    i, pair) {
+  if ((goal, p) in is_end) return
+  is_end[goal, p] = 1
+  ends[goal, ++ends_count[goal]] = p
+  for (i = 1; i <= frames_count[goal] + 0; i++) {
+    split(frames[goal, i], pair, " ")
+    wait_at(pair[1] + 0, pair[2] + 0, p)
+  }
+}
+
+# What goes on behind a goal goes on behind its heirs too, which are the last of its arguments.
+function add_frame(goal, slot, behind,    queue, first, last, i) {
+  queue[first = last = 1] = goal
+  for (; first <= last; first++) {
+    goal = queue[first]
+    steps++
+    if ((goal, slot, behind) in is_frame) continue
+    is_frame[goal, slot, behind] = 1
+    frames[goal, ++frames_count[goal]] = slot " " behind
+    for (i = 1; i <= ends_count[goal] + 0; i++) wait_at(slot, behind, ends[goal, i])
+    for (i = 1; i <= heirs_count[goal] + 0; i++) queue[++last] = heirs[goal, i]
+  }
+}
+
+function add_heir(goal, heir,    i, pair) {
+  if (goal == heir || (goal, heir) in is_heir) return
+  is_heir[goal, heir] = 1
+  heirs[goal, ++heirs_count[goal]] = heir
+  for (i = 1; i <= frames_count[goal] + 0; i++) {
+    split(frames[goal, i], pair, " ")
+    add_frame(heir, pair[1] + 0, pair[2] + 0)
+  }
+}
+
 # ---- The command
 
-function explain_usage(    i, words, word, given, is_told) {
-  words = "adp"
-  for (i = 1; i < ARGC; i++) words = words " " ARGV[i]
-  print ""
-  print bold "The command: " printed(words) plain
+function explain_usage(    i, word, given, is_told) {
+  if (!is_brief) {
+    print ""
+    print bold "The command: " printed(ENVIRON["ADP_COMMAND"]) plain
+  }
   word = ARGV[1]
-  if (ARGC == 1) tell("The first word is the mode: " MODES_IN_WORDS ", as in `adp best " (name_of_job == \
+  if (ARGC == 1) tell_cause("The first word is the mode: " in_a_row(MODES, "or") ", as in `adp best " (name_of_job == \
       "standard input" ? "FILE" : name_of_job) "`.")
   else if (!is_one_of(word, MODES)) tell_mode(word)
   else {
     for (i = 2; i < ARGC && !is_told; i += 2) is_told = tell_option(word, ARGV[i], i + 1 < ARGC, ARGV[i + 1], given)
-    if (!is_told) tell_lacking_option(word, given)
+    if (!is_told && (word in needed_by) && !(needed_by[word] in given)) tell_cause("The mode " word " needs " \
+        needed_as[word] ".")
   }
-  tell_row("fault usage")
+  if (!is_brief) tell_row("fault usage")
+}
+
+# Tells the cause of a faulty command; where it is to be brief, in one line and as the launcher speaks.
+function tell_cause(text) {
+  if (!is_brief) { tell(text); return }
+  sub(/\.$/, "", text)
+  print "adp: " tolower(substr(text, 1, 1)) substr(text, 2) " (adp --help says more)"
 }
 
 function is_one_of(word, list,    i) {
@@ -1409,28 +1845,11 @@ function is_one_of(word, list,    i) {
 
 function tell_mode(word,    near) {
   near = nearest(word, MODES)
-  if (near != "") tell("The mode " quoted(word) " is none: is " quoted(near) " meant?")
-  else if (word ~ /^-/) tell(quoted(word) " stands first, where the mode has to be: " MODES_IN_WORDS ". Options " \
-      "follow it.")
-  else if (is_file(word)) tell("The mode stands before the file: adp best " printed(word))
-  else tell("The first word is the mode, " MODES_IN_WORDS ", and not " quoted(word) ".")
-}
-
-# Tells which option a mode needs and lacks.
-function tell_lacking_option(mode, given) {
-  if (mode == "big" && !("--size" in given)) tell("The mode big needs a size, which says how many letters are made: " \
-      "as `--size 400`.")
-  if (mode == "replay" && !("--schedule" in given)) tell("The mode replay needs a schedule, which says who makes " \
-      "each step: as `--schedule 0110`.")
-}
-
-# Why a mode doesn't take an option; nothing where it does.
-function refusal(mode, option) {
-  if (option == "--algebra" && mode == "big") return "The mode big has an algebra of its own, and takes no --algebra."
-  if (option == "--size" && mode != "big") return "The option --size is of the mode big alone: a job has its own words."
-  if (option == "--schedule" && mode != "replay") return "The option --schedule is of the mode replay alone: in the " \
-      "others evaluators step as they come."
-  return ""
+  if (near != "") tell_cause("The mode " quoted(word) " is none: is " quoted(near) " meant?")
+  else if (word ~ /^-./) tell_cause(quoted(word) " stands first, where the mode has to be: " in_a_row(MODES, "or") \
+      ". Options follow it.")
+  else if (is_file(word)) tell_cause("The mode stands before the file: adp best " printed(word))
+  else tell_cause("The first word is the mode, " in_a_row(MODES, "or") ", and not " quoted(word) ".")
 }
 
 function is_file(path,    line, got) {
@@ -1440,57 +1859,80 @@ function is_file(path,    line, got) {
 }
 
 # Tells what is wrong with an option and its value; 0 where nothing is.
-function tell_option(mode, word, has_value, value, given,    near, least, most) {
-  if (word !~ /^--/) {
-    if (word ~ /^-[a-z]/) {
-      near = "--algebra"
-      for (most = said_options; most; most--) if (index(OPTIONS[most], "-" word) == 1) near = OPTIONS[most]
-      tell(quoted(word) " is no option: options have two dashes and a whole word, as " near ".")
-    }
-    else tell(quoted(word) " is no file that is there, and no option: options begin with `--`.")
-    return 1
+function tell_option(mode, word, has_value, value, given,    text) {
+  text = word ~ /^--/ ? wrong_option(mode, word, has_value, value, given) : wrong_word(mode, word)
+  given[word] = 1
+  if (text == "") return 0
+  tell_cause(text)
+  return 1
+}
+
+# Why a word stands where only an option or a file may stand.
+function wrong_word(mode, word,    near, i) {
+  if (word ~ /^-[a-z]/) {
+    near = "--algebra"
+    for (i = said_options; i; i--) if (index(OPTIONS[i], "-" word) == 1) near = OPTIONS[i]
+    return quoted(word) " is no option: options have two dashes and a whole word, as " near "."
   }
-  if (word ~ /=/ ) { tell(quoted(word) ": a space stands between an option and its value, and no `=`."); return 1 }
+  if (mode == "big" && (word == "-" || is_file(word))) return "The mode big reads no job, and takes no file: " \
+      quoted(word) " is too much."
+  if (word ~ /[.\/]/) return "There is no file " quoted(word) "."
+  return quoted(word) " is no file that is there, and no option: options begin with `--`."
+}
+
+function wrong_option(mode, word, has_value, value, given,    near) {
+  if (word ~ /=/) return quoted(word) ": a space stands between an option and its value, and no `=`."
   if (!is_one_of(word, OPTIONS)) {
     near = nearest(word, OPTIONS)
-    tell(quoted(word) " is no option: " (near == "" ? "there are --algebra, --workers, --seed, --schedule and " \
-        "--size." : "is " \
-        near " meant?"))
-    return 1
+    return quoted(word) " is no option: " (near == "" ? "there are " in_a_row(OPTIONS, "and") "." : "is " near \
+        " meant?")
   }
-  if (refusal(mode, word) != "") { tell(refusal(mode, word)); return 1 }
-  if (word in given) { tell("The option " word " stands twice."); return 1 }
-  given[word] = 1
-  if (!has_value) { tell("The option " word " has no value behind it."); return 1 }
-  if (word == "--algebra") {
-    if (is_name(value)) return 0
-    tell(quoted(value) " is no name of an algebra: a name begins with a letter, and has at most 32 letters, digits " \
-        "and `_`.")
-    return 1
+  if (!((mode, word) in is_of)) {
+    near = in_a_row(MODES, "and", word)
+    return "The option " word " is of the mode" (near ~ / / ? "s " near ", and not of " mode "." : " " near " alone.")
   }
-  if (word == "--schedule") {
-    if (value ~ /^[0-9a-v]+$/ && length(value) <= MOST_ENTRIES) return 0
-    if (length(value) > MOST_ENTRIES) tell("A schedule has at most " MOST_ENTRIES " characters, and this one has " \
-        length(value) ".")
-    else tell("A schedule is digits and small letters from a to v, one for each step, for the evaluators 0 to 31, " \
-        "and not " quoted(value) ".")
-    return 1
+  if (word in given) return "The option " word " stands twice."
+  if (!has_value) return "The option " word " has no value behind it."
+  return wrong_value(word, value)
+}
+
+function is_seconds(value,    half) {
+  split(value, half, /\./)
+  return value ~ /^[0-9]+(\.[0-9]+)?$/ && value ~ /[1-9]/ && length(half[1]) < 10 && length(half[2]) < 7
+}
+
+# Why this is no value of the option. (One of the launcher's that is faultless is the second of its kind.)
+function wrong_value(word, value) {
+  if (value_of[word] == "name") return is_name(value) ? "" : quoted(value) " is no name: a name begins with a " \
+      "letter, and has at most 32 letters, digits and `_`."
+  if (value_of[word] == "entries") {
+    if (value ~ /^[0-9a-v]+$/ && length(value) <= MOST_ENTRIES) return ""
+    if (length(value) > MOST_ENTRIES) return "A schedule has at most " MOST_ENTRIES " characters, and this one has " \
+        length(value) "."
+    return "A schedule is digits and small letters from a to v, one for each step, for the evaluators 0 to 31, and " \
+        "not " quoted(value) "."
   }
-  if (!is_digits(value) && is_file(value)) { tell("The option " word " lacks its value: the file " quoted(value) \
-      " stands in its place."); return 1 }
-  least = word == "--seed" ? 0 : 1
-  most = word == "--workers" ? "32" : word == "--size" ? "2046" : "18446744073709551615"
-  if (!is_digits(value)) { tell("The value of " word " is digits alone, and not " quoted(value) "."); return 1 }
-  if (is_more(value, most) || value + 0 < least) {
-    tell("The value of " word " lies between " least " and " most ", and is not " quoted(value) ".")
-    return 1
+  if (value_of[word] == "file") {
+    if (value == "-") return "Standard input is the job, or its words, and not both."
+    return is_file(value) ? "The option " word " stands twice." : "There is no file " quoted(value) ", for " word "."
   }
-  return 0
+  if (value !~ /^[0-9]/ && is_file(value)) return "The option " word " lacks its value: the file " quoted(value) \
+      " stands in its place."
+  if (value_of[word] == "seconds") {
+    if (is_seconds(value)) return "The option " word " stands twice."
+    return "The value of " word " is seconds, as 60 or 0.5, above 0 and below 1000000000, with six decimal places at " \
+        "most, and not " quoted(value) "."
+  }
+  if (!is_digits(value)) return "The value of " word " is digits alone, and not " quoted(value) "."
+  if (is_more(value, most_of[word]) || value + 0 < least_of[word] + 0) return "The value of " word " lies between " \
+      least_of[word] " and " most_of[word] ", and is not " quoted(value) "."
+  return ""
 }
 
 # Faults of reading, writing and memory.
 function explain_run() {
   print ""
   print bold (ARGV[1] == "big" ? "adp big" : name_of_job) ":" plain
+  if (ENVIRON["ADP_CAUSE"] != "") tell(sentence(ENVIRON["ADP_CAUSE"]))
   tell_row(fault)
 }

@@ -1,19 +1,37 @@
 # Completion of `adp` for bash: modes, options of the mode, algebras of the job that is named, and files.
-_adp_options() {
+
+# The options of a mode: a line for each.
+_adp_options_of() {
+  case $1 in
+    best | serial | wins) echo '--algebra --workers --seed --words' ;;
+    replay) echo '--algebra --workers --seed --schedule --words' ;;
+    big) echo '--workers --seed --size' ;;
+  esac
+}
+_adp_modes='best serial wins replay big'
+_adp_common='--time-limit --explain --help --version'
+
+# The mode that is named already.
+_adp_mode() {
   local word
   for word in "${COMP_WORDS[@]:1}"; do
-    case $word in
-      big) echo '--workers --seed --size --explain'; return ;;
-      replay) echo '--algebra --workers --seed --schedule --explain'; return ;;
-      best | serial | wins) break ;;
-    esac
+    case " $_adp_modes " in *" $word "*) echo "$word"; return ;; esac
   done
-  echo '--algebra --workers --seed --explain'
+}
+
+# Jobs and folders that begin so; where there are none, files of any name. What is hidden has to be begun.
+_adp_jobs() {
+  local found
+  mapfile -t found < <(compgen -f -X '!*.adp' -- "$1"; compgen -d -- "$1")
+  case ${1##*/} in .*) ;; *) mapfile -t found < <(printf '%s\n' "${found[@]}" | grep -Ev '(^|/)\.[^/]*$|^$') ;; esac
+  [ ${#found[@]} != 0 ] || mapfile -t found < <(compgen -f -- "$1")
+  COMPREPLY=("${found[@]}")
 }
 
 _adp() {
-  local word=${COMP_WORDS[COMP_CWORD]} before=${COMP_WORDS[COMP_CWORD - 1]} job
+  local word=${COMP_WORDS[COMP_CWORD]} before=${COMP_WORDS[COMP_CWORD - 1]} mode job
   COMPREPLY=()
+  mode=$(_adp_mode)
   case $before in
     --algebra)
       for job in "${COMP_WORDS[@]}"; do
@@ -24,17 +42,16 @@ _adp() {
       return
       ;;
     --workers) mapfile -t COMPREPLY < <(compgen -W '1 2 4 8 16 32' -- "$word"); return ;;
-    --seed | --schedule | --size) return ;;
+    --words) compopt -o filenames 2>/dev/null; mapfile -t COMPREPLY < <(compgen -f -- "$word"); return ;;
+    --[a-z]*) case $before in --explain | --help | --version) ;; *) return ;; esac ;;
   esac
-  if [ "$COMP_CWORD" = 1 ]; then
-    mapfile -t COMPREPLY < <(compgen -W 'best serial wins replay big --explain --version --help' -- "$word")
-  elif [ "${word#-}" != "$word" ]; then
-    mapfile -t COMPREPLY < <(compgen -W "$(_adp_options)" -- "$word")
-  elif [[ $before == --explain && $COMP_CWORD == 2 ]]; then
-    mapfile -t COMPREPLY < <(compgen -W 'best serial wins replay big' -- "$word")
-  else
+  if [ "${word#-}" != "$word" ]; then
+    mapfile -t COMPREPLY < <(compgen -W "$(_adp_options_of "$mode") $_adp_common" -- "$word")
+  elif [ -z "$mode" ]; then
+    mapfile -t COMPREPLY < <(compgen -W "$_adp_modes $_adp_common" -- "$word")
+  elif [ "$mode" != big ]; then
     compopt -o filenames 2>/dev/null
-    mapfile -t COMPREPLY < <(compgen -f -- "$word")
+    _adp_jobs "$word"
   fi
 }
 complete -F _adp adp ./adp
