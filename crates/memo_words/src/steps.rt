@@ -59,13 +59,13 @@ impl Words {
         requires own { IsPassOf self.now pass.old }
         requires inside { position < slots_of (plan_of self.now) }
         ensures own { IsPassOf self.now pass.new }
+        ensures marked { HasStepped (key_place position) deeds.Load result pass.old pass.new }
+        ensures told { HasTold pass.old pass.new }
         ensures view { view_of pass.new ≡ key_loaded position result (view_of pass.old) }
         ensures hand { hand_of pass.new ≡ hand_of pass.old }
         ensures made { made_of pass.new ≡ step_on (places.Key position) actions.Load result }
         ensures keys { AreKeys (plan_of self.now) (view_of pass.new).keys }
         ensures stays { StaySeen (view_of pass.old).keys (view_of pass.new).keys }
-        ensures marked { HasStepped (key_place position) deeds.Load result pass.old pass.new }
-        ensures told { HasTold pass.old pass.new }
         ensures steps { steps_made steps.new ≡ steps_made steps.old + 1 }
     {
         steps.count();
@@ -94,13 +94,13 @@ impl Words {
         requires demanded { IsDemanded (problem_of self.now) cell }
         requires behind { IsBehindOthers (plan_of self.now) (view_of pass.old).keys cell position }
         ensures own { IsPassOf self.now pass.new }
+        ensures marked { HasStepped (key_place position) (deeds.Exchange 0 (cell_code cell)) result pass.old pass.new }
+        ensures told { HasTold pass.old pass.new }
         ensures view { view_of pass.new ≡ key_exchanged position (cell_code cell) result (view_of pass.old) }
         ensures hand { hand_of pass.new ≡ hand_of pass.old }
         ensures made { made_of pass.new ≡ step_on (places.Key position) (actions.Exchange (cell_code cell)) result }
         ensures keys { AreKeys (plan_of self.now) (view_of pass.new).keys }
         ensures stays { StaySeen (view_of pass.old).keys (view_of pass.new).keys }
-        ensures marked { HasStepped (key_place position) (deeds.Exchange 0 (cell_code cell)) result pass.old pass.new }
-        ensures told { HasTold pass.old pass.new }
         ensures steps { steps_made steps.new ≡ steps_made steps.old + 1 }
     {
         self.demanded_cells_have_codes();
@@ -129,27 +129,27 @@ impl Words {
         requires inside { position < slots_of (plan_of self.now) }
         requires seen { 0 < seen_at (view_of pass.old).keys position }
         ensures own { IsPassOf self.now pass.new }
+        ensures marked { HasStepped (record_place (slots_of (plan_of self.now)) position) deeds.Load result
+            pass.old pass.new }
+        ensures told { HasTold pass.old pass.new }
         ensures view { view_of pass.new ≡ record_loaded (plan_of self.now) position result (view_of pass.old) }
         ensures hand { hand_of pass.new ≡ hand_of pass.old }
         ensures made { made_of pass.new ≡ step_on (places.RecordWord position) actions.Load result }
         ensures known { Contains (view_of pass.old).known (cell_at (view_of pass.old) position) → 0 < result }
         ensures few { result ≤ records_of (plan_of self.now) }
         ensures stays { StaySeen (view_of pass.old).names (view_of pass.new).names }
-        ensures marked { HasStepped (record_place (slots_of (plan_of self.now)) position) deeds.Load result
-            pass.old pass.new }
-        ensures told { HasTold pass.old pass.new }
         ensures steps { steps_made steps.new ≡ steps_made steps.old + 1 }
     {
         steps.count();
-        let found = self
+        let name = self
             .table
             .load::<LoadsRecord>(&mut pass.seat, record_place(self.slots, position));
         pass.made = Some(WordStep {
             place: Place::RecordWord(position),
             action: Action::Load,
-            value: found,
+            value: name,
         });
-        found
+        name
     }
 
     /// Puts the name of a record of one's own in the record word of a position, where that is 0, and answers the word
@@ -165,15 +165,15 @@ impl Words {
         requires inside { position < slots_of (plan_of self.now) }
         requires ready { IsReady (problem_of self.now) (view_of pass.old) position number }
         ensures own { IsPassOf self.now pass.new }
+        ensures marked { HasStepped (record_place (slots_of (plan_of self.now)) position)
+            (deeds.Exchange 0 (number + 1)) result pass.old pass.new }
+        ensures told { HasTold pass.old pass.new }
         ensures view { view_of pass.new
             ≡ record_exchanged (plan_of self.now) position number result (view_of pass.old) }
         ensures hand { hand_of pass.new ≡ hand_after (hand_of pass.old) number result }
         ensures made { made_of pass.new ≡ step_on (places.RecordWord position) (actions.Exchange (number + 1)) result }
         ensures given_up { result ≡ 0 → owns number (view_of pass.new).owned ≡ 0 }
         ensures known { Contains (view_of pass.old).known (cell_at (view_of pass.old) position) → 0 < result }
-        ensures marked { HasStepped (record_place (slots_of (plan_of self.now)) position)
-            (deeds.Exchange 0 (number + 1)) result pass.old pass.new }
-        ensures told { HasTold pass.old pass.new }
         ensures steps { steps_made steps.new ≡ steps_made steps.old + 1 }
     {
         steps.count();
@@ -199,12 +199,12 @@ impl Words {
         requires own { IsPassOf self.now pass.old }
         requires empty_handed { hand_of pass.old ≡ None }
         ensures own { IsPassOf self.now pass.new }
+        ensures marked { HasStepped 0 (deeds.Add 1) result pass.old pass.new }
+        ensures told { HasTold pass.old pass.new }
         ensures view { view_of pass.new ≡ counter_added result (view_of pass.old) }
         ensures hand { hand_of pass.new ≡ Some result }
         ensures made { made_of pass.new ≡ step_on places.Counter actions.Add result }
         ensures few { result < records_of (plan_of self.now) }
-        ensures marked { HasStepped 0 (deeds.Add 1) result pass.old pass.new }
-        ensures told { HasTold pass.old pass.new }
         ensures steps { steps_made steps.new ≡ steps_made steps.old + 1 }
     {
         self.keys_fit();
@@ -233,13 +233,13 @@ impl Words {
         requires own { IsPassOf self.now pass.old }
         requires owner { 0 < owns number (view_of pass.old).owned }
         ensures own { IsPassOf self.now pass.new }
-        ensures view { view_of pass.new ≡ arena_stored (plan_of self.now) part number code (view_of pass.old) }
-        ensures hand { hand_of pass.new ≡ hand_of pass.old }
-        ensures made { made_of pass.new ≡ step_on (places.Record part number) actions.Store code }
         ensures marked { (stood : ℕ) × HasStepped
             (arena_place (slots_of (plan_of self.now)) (records_of (plan_of self.now)) part number) (deeds.Store code)
             stood pass.old pass.new }
         ensures told { HasTold pass.old pass.new }
+        ensures view { view_of pass.new ≡ arena_stored (plan_of self.now) part number code (view_of pass.old) }
+        ensures hand { hand_of pass.new ≡ hand_of pass.old }
+        ensures made { made_of pass.new ≡ step_on (places.Record part number) actions.Store code }
         ensures steps { steps_made steps.new ≡ steps_made steps.old + 1 }
     {
         steps.count();
@@ -266,14 +266,14 @@ impl Words {
         requires own { IsPassOf self.now pass.old }
         requires named { (position : ℕ) × (seen_at (view_of pass.old).names position ≡ number + 1) }
         ensures own { IsPassOf self.now pass.new }
-        ensures view { view_of pass.new ≡ arena_loaded (plan_of self.now) part number result (view_of pass.old) }
-        ensures hand { hand_of pass.new ≡ hand_of pass.old }
-        ensures made { made_of pass.new ≡ step_on (places.Record part number) actions.Load result }
-        ensures answer { IsNamedAnswer (plan_of self.now) (view_of pass.old) part number result }
         ensures marked { HasStepped
             (arena_place (slots_of (plan_of self.now)) (records_of (plan_of self.now)) part number) deeds.Load
             result pass.old pass.new }
         ensures told { HasTold pass.old pass.new }
+        ensures view { view_of pass.new ≡ arena_loaded (plan_of self.now) part number result (view_of pass.old) }
+        ensures hand { hand_of pass.new ≡ hand_of pass.old }
+        ensures made { made_of pass.new ≡ step_on (places.Record part number) actions.Load result }
+        ensures answer { IsNamedAnswer (plan_of self.now) (view_of pass.old) part number result }
         ensures steps { steps_made steps.new ≡ steps_made steps.old + 1 }
     {
         steps.count();
