@@ -2,7 +2,7 @@
 
     from adp import solve
 
-    for report in solve(open("jobs/bar.adp").read()):
+    for report in solve(open("jobs/bar.adp").read(), words=["xxxx"]):
         print(report.score, report.tree)
 
     reports = solve(
@@ -14,37 +14,73 @@
     )
 
 The file stands alone, beside the launcher `adp` or anywhere: the program is found by the argument `program`, by the
-variable ADP, above this file, or on the PATH. Trees may be thousands of nodes deep, so nothing here is recursive.
+variable ADP, with this file, above it, or on the PATH. Trees may be thousands of nodes deep, so nothing here is
+recursive: they are written, compared, copied and pickled at any depth.
 """
+from __future__ import annotations
+
 import os
 import re
 import shutil
 import subprocess
+from collections.abc import Iterable, Iterator, Mapping, Sequence
 from dataclasses import dataclass, field
+from typing import Any, Union
+
+__version__ = "1.0"
+__all__ = ["Fault", "Job", "Malformed", "Node", "Place", "Report", "find_program", "places", "quoted", "read_reports",
+           "read_tree", "record_of", "solve", "solve_big", "write_job"]
+
+# (by the mode `lex` the scores of two algebras)
+Score = Union[int, "tuple[int, ...]"]
 
 _PART = re.compile(r'([A-Za-z]\w*)\(|"((?:[^"\\]|\\.)*)"|([),])')
+_WORDS_LINE = re.compile(r"^ *words *\r?$", re.M)
+_SHOWN = 200
 
 
 class Fault(Exception):
     """A run that gave no reports, or not all of them: its line, as `fault text line 3 kind 15`, and its status."""
 
-    def __init__(self, line, status):
+    def __init__(self, line: str, status: int, run: tuple[list[str], str] | None = None) -> None:
         super().__init__(line or f"status {status}")
-        self.line, self.status = line, status
+        self.line, self.status, self._run = line, status, run
+
+    def __reduce__(self) -> tuple[Any, ...]:
+        return Fault, (self.line, self.status, self._run)
+
+    @property
+    def explanation(self) -> str:
+        """What `adp --explain` tells of it; empty where no launcher is there to tell. It runs the job once more."""
+        if self._run is None:
+            return ""
+        (program, *words), text = self._run
+        for launcher in dict.fromkeys([program, *_launchers()]):
+            try:
+                ran = subprocess.run([launcher, "--explain", *words], input=_bytes_of(text), capture_output=True,
+                                     check=False)
+            except OSError:
+                continue
+            lines = ran.stderr.decode(errors="replace").splitlines()
+            if self.line in lines and lines[-1] != self.line:
+                return "\n".join(lines[lines.index(self.line) + 1 :]).strip("\n")
+        return ""
 
 
 class Malformed(ValueError):
-    """What was read is no report."""
+    """What was read is no report, or not those of all words."""
 
 
 @dataclass(eq=False, repr=False)
 class Node:
-    """A node of a tree: a sign, and its parts in order, each a node or the letters of a leaf."""
+    """A node of a tree: a sign, and its parts in order, each a node or the letters of a leaf. Nodes are equal where
+    their trees are; they can be changed, and so have no hash."""
 
     sign: str
-    parts: list = field(default_factory=list)
+    parts: list[Node | str] = field(default_factory=list)
+    __hash__ = None  # type: ignore[assignment]
 
-    def preorder(self):
+    def preorder(self) -> Iterator[Node]:
         """All nodes from this one on, each before what is below it."""
         waiting = [self]
         while waiting:
@@ -52,9 +88,9 @@ class Node:
             yield node
             waiting.extend(part for part in reversed(node.parts) if isinstance(part, Node))
 
-    def letters(self):
+    def letters(self) -> str:
         """The letters that the node covers."""
-        found, waiting = [], [self]
+        found, waiting = [], [self]  # type: tuple[list[str], list[Node | str]]
         while waiting:
             part = waiting.pop()
             if isinstance(part, Node):
@@ -63,19 +99,53 @@ class Node:
                 found.append(part)
         return "".join(found)
 
-    def __str__(self):
-        """The tree as the program writes it."""
-        said, waiting = [], [self]
+    def _pieces(self) -> Iterator[str]:
+        """The tree as the program writes it, piece by piece."""
+        waiting: list[Node | str] = [self]
         while waiting:
             part = waiting.pop()
             if isinstance(part, Node):
-                said.append(part.sign + "(")
+                yield part.sign + "("
                 waiting.append(_Mark(")"))
                 for place, child in enumerate(reversed(part.parts)):
                     waiting += [_Mark(",")] * (place > 0) + [child]
             else:
-                said.append(part if isinstance(part, _Mark) else quoted(part))
+                yield part if isinstance(part, _Mark) else quoted(part)
+
+    def __str__(self) -> str:
+        """The tree as the program writes it."""
+        return "".join(self._pieces())
+
+    def __repr__(self) -> str:
+        """The front of that."""
+        said, length = [], 0
+        for piece in self._pieces():
+            said.append(piece)
+            length += len(piece)
+            if length > _SHOWN:
+                return "".join(said)[:_SHOWN] + ".."
         return "".join(said)
+
+    def __eq__(self, other: object) -> bool:
+        if not isinstance(other, Node):
+            return NotImplemented
+        waiting: list[tuple[Any, Any]] = [(self, other)]
+        while waiting:
+            one, two = waiting.pop()
+            if one is two:
+                continue
+            if not (isinstance(one, Node) and isinstance(two, Node)):
+                if isinstance(one, Node) or isinstance(two, Node) or one != two:
+                    return False
+                continue
+            if one.sign != two.sign or len(one.parts) != len(two.parts):
+                return False
+            waiting.extend(zip(one.parts, two.parts))
+        return True
+
+    def __reduce__(self) -> tuple[Any, ...]:
+        """A tree is copied and pickled as its text, at any depth."""
+        return read_tree, (str(self),)
 
 
 class _Mark(str):
@@ -84,22 +154,53 @@ class _Mark(str):
 
 @dataclass
 class Report:
-    """What is said of a word: its number, from 1; the best score and the first tree of it, or None; its cells; and by
-    the modes `wins` and `replay` how many answers each evaluator put into the table."""
+    """What is said of a word: its number, from 1; the best score and the first tree of it, or None; its cells; by the
+    modes `wins` and `replay` how many answers each evaluator put into the table; and by `tools/spread` why a word was
+    refused."""
 
     word: int
-    score: int | None
+    score: Score | None
     tree: Node | None
     cells: int
     wins: list[int] | None = None
+    refused: str | None = None
 
 
-def quoted(letters):
+@dataclass
+class Place:
+    """Where a node stands: the number of its parent, its depth, and the letters that it covers, from 0."""
+
+    node: Node
+    parent: int | None
+    depth: int
+    start: int
+    end: int
+
+
+def places(tree: Node) -> list[Place]:
+    """Where all nodes of a tree stand, in preorder; parents are told by their numbers in this list."""
+    found: list[Place] = []
+    waiting: list[tuple[Any, int | None, int]] = [(tree, None, 0)]
+    at = 0
+    while waiting:
+        part, parent, depth = waiting.pop()
+        if isinstance(part, Node):
+            waiting.append((len(found), None, 0))
+            waiting.extend((child, len(found), depth + 1) for child in reversed(part.parts))
+            found.append(Place(part, parent, depth, at, at))
+        elif isinstance(part, str):
+            at += len(part)
+        else:
+            found[part].end = at
+    return found
+
+
+def quoted(letters: str) -> str:
     """Letters as a quoted text of a job."""
     return '"' + letters.replace("\\", "\\\\").replace('"', '\\"') + '"'
 
 
-def read_tree(text):
+def read_tree(text: str) -> Node:
     """The tree of a text, as it stands behind `tree `."""
     top = Node("")
     open_nodes, at, is_due = [top], 0, True
@@ -114,19 +215,25 @@ def read_tree(text):
             open_nodes[-2].parts.append(open_nodes[-1])
         elif mark == ")":
             open_nodes.pop()
-        elif mark is None:
+        elif letters is not None:
             open_nodes[-1].parts.append(re.sub(r"\\(.)", r"\1", letters))
         is_due = bool(name) or mark == ","
     if len(open_nodes) != 1 or len(top.parts) != 1:
         raise Malformed("the tree does not end")
-    return top.parts[0]
+    (tree,) = top.parts
+    assert isinstance(tree, Node)
+    return tree
 
 
-def read_reports(text):
+def _numbers(text: str) -> list[int]:
+    return [int(number) for number in text.split(" ")]
+
+
+def read_reports(text: str) -> Iterator[Report]:
     """The reports of what the program wrote, one after the other."""
-    lines = iter([*text.splitlines(), None])
+    lines: Iterator[str | None] = iter([*text.splitlines(), None])
 
-    def behind(front, line):
+    def behind(front: str, line: str | None) -> str:
         if line is None or not line.startswith(front + " "):
             raise Malformed(f"no report: {front!r} should stand where {str(line)[:60]!r} does")
         return line[len(front) + 1 :]
@@ -134,19 +241,246 @@ def read_reports(text):
     line = next(lines)
     while line is not None:
         word, second = int(behind("word", line)), next(lines, None)
-        score = tree = wins = None
+        if second is not None and second.startswith("refused "):
+            yield Report(word, None, None, 0, refused=behind("refused", second))
+            line = next(lines, None)
+            continue
+        score: Score | None = None
+        tree = wins = None
         if second != "none":
-            score, tree = int(behind("score", second)), read_tree(behind("tree", next(lines, None)))
+            numbers = _numbers(behind("score", second))
+            score = numbers[0] if len(numbers) == 1 else tuple(numbers)
+            tree = read_tree(behind("tree", next(lines, None)))
         cells, line = int(behind("cells", next(lines, None))), next(lines, None)
         if line is not None and line.startswith("wins"):
-            wins, line = [int(number) for number in behind("wins", line).split(" ")], next(lines, None)
+            wins, line = _numbers(behind("wins", line)), next(lines, None)
         yield Report(word, score, tree, cells, wins)
 
 
-def write_job(*, signs, algebras, rules, words=(), classes=None, grammar=None):
+def record_of(report: Report, scores: Sequence[Score] | None = None) -> dict[str, Any]:
+    """A report as an object that is not nested, for JSON: the letters that the tree covers, and its nodes in preorder.
+    Each tells its sign, the positions where it begins and ends, its parent's number among the nodes, its depth, its
+    score where these are given, and its parts: letters, or the number of a node."""
+    if report.refused is not None:
+        return {"word": report.word, "refused": report.refused}
+    record: dict[str, Any] = {"word": report.word, "score": report.score, "cells": report.cells}
+    if report.wins is not None:
+        record["wins"] = report.wins
+    if report.tree is None:
+        return record | {"letters": None, "nodes": None}
+    found = places(report.tree)
+    nodes = [{"sign": it.node.sign, "from": it.start, "to": it.end, "parent": it.parent, "depth": it.depth}
+             for it in found]
+    parts: list[list[Any]] = [[part if isinstance(part, str) else None for part in it.node.parts] for it in found]
+    for number, it in enumerate(found):
+        if it.parent is not None:
+            parts[it.parent][parts[it.parent].index(None)] = number
+    for number, node in enumerate(nodes):
+        if scores is not None:
+            node["score"] = scores[number]
+        node["parts"] = parts[number]
+    return record | {"letters": report.tree.letters(), "nodes": nodes}
+
+
+# ---- Jobs
+
+_TOKEN = re.compile(r' *(?:(\w+)|"((?:[^"\\]|\\.)*)"|(\.\.|[=(),\[\]|+*-]))')
+
+
+@dataclass
+class _Argument:
+    """An argument of an alternative: a rule, a literal, or letters of a class in a number between two bounds."""
+
+    rule: str | None = None
+    literal: str | None = None
+    letters: str = ""
+    low: int = 1
+    high: int | None = 1
+
+
+class Job:
+    """A job that the program accepts, read so that it tells the scores of a tree's nodes. Of a job with a fault nothing
+    is promised but that `Malformed` may be raised."""
+
+    def __init__(self, text: str) -> None:
+        self.axiom = ""
+        self._classes: dict[str, dict[str, int]] = {}
+        self._terms: dict[str, dict[str, tuple[int, list[int]]]] = {}
+        self._is_least: dict[str, bool] = {}
+        self._by_sign: dict[str, list[tuple[str, list[_Argument]]]] = {}
+        readers = {"class": self._read_class, "algebra": self._read_algebra, "let": self._read_let,
+                   "rule": self._read_rule, "grammar": self._read_grammar}
+        header = text[: found.start()] if (found := _WORDS_LINE.search(text, text.find("\n") + 1)) else text
+        for line in header.split("\n")[1:]:
+            tokens = [] if line.startswith("#") else self._tokens(line.rstrip("\r"))
+            if tokens and tokens[0][0] in readers:
+                try:
+                    readers[tokens[0][0]](tokens)
+                except (IndexError, KeyError, ValueError) as error:
+                    raise Malformed(f"this line of the job cannot be read: {line[:60]!r}") from error
+        if not self.axiom or not self._terms:
+            raise Malformed("this is no job: no line says its grammar, or no algebra")
+
+    @property
+    def algebras(self) -> list[str]:
+        """The names of the algebras, in order."""
+        return list(self._terms)
+
+    @staticmethod
+    def _tokens(line: str) -> list[tuple[str, bool]]:
+        """Words, marks and quoted texts, which are told apart."""
+        found = []
+        for match in _TOKEN.finditer(line):
+            word, literal, mark = match.groups()
+            found.append((re.sub(r"\\(.)", r"\1", literal), True) if literal is not None else (word or mark, False))
+        return found
+
+    def _read_class(self, tokens: list[tuple[str, bool]]) -> None:
+        weights = self._classes.setdefault(tokens[1][0], {})
+        at = 3
+        while at < len(tokens):
+            is_less = tokens[at + 1][0] == "-"
+            weight = int(tokens[at + 1 + is_less][0])
+            weights.update((letter, -weight if is_less else weight) for letter in tokens[at][0])
+            at += 2 + is_less
+
+    def _read_algebra(self, tokens: list[tuple[str, bool]]) -> None:
+        self._terms[tokens[1][0]] = {}
+        self._is_least[tokens[1][0]] = tokens[2][0] == "min"
+
+    def _read_let(self, tokens: list[tuple[str, bool]]) -> None:
+        words = [text for text, _ in tokens]
+        close = words.index(")")
+        variables = [word for word in words[3:close] if word != ","]
+        constant, factors, at = 0, [0] * len(variables), close + 2
+        while at < len(words):
+            sign = -1 if words[at] == "-" else 1
+            at += words[at] in ("+", "-")
+            number = int(words[at]) if words[at].isdigit() else 1
+            name = words[at]
+            if name.isdigit() and at + 2 < len(words) and words[at + 1] == "*":
+                name, at = words[at + 2], at + 2
+            at += 1
+            if name in variables:
+                factors[variables.index(name)] += sign * number
+            else:
+                constant += sign * int(name)
+        next(reversed(self._terms.values()))[words[1]] = constant, factors
+
+    def _read_rule(self, tokens: list[tuple[str, bool]]) -> None:
+        at = 3
+        while at < len(tokens):
+            sign, arguments, mark = tokens[at][0], [], ","
+            at += 2
+            while mark == ",":
+                argument, at = self._argument(tokens, at)
+                arguments.append(argument)
+                mark = tokens[at][0]
+                at += 1
+            self._by_sign.setdefault(sign, []).append((tokens[1][0], arguments))
+            at += 1
+
+    def _read_grammar(self, tokens: list[tuple[str, bool]]) -> None:
+        self.axiom = tokens[1][0]
+
+    @staticmethod
+    def _argument(tokens: list[tuple[str, bool]], at: int) -> tuple[_Argument, int]:
+        text, is_quoted = tokens[at]
+        if is_quoted:
+            return _Argument(literal=text), at + 1
+        if text != "[":
+            return _Argument(rule=text), at + 1
+        close = tokens.index(("]", False), at)
+        name, *bounds = (word for word, _ in tokens[at + 1 : close])
+        if not bounds:
+            return _Argument(letters=name), close + 1
+        return _Argument(letters=name, low=int(bounds[0]), high=int(bounds[2]) if len(bounds) > 2 else None), close + 1
+
+    def _worth(self, letters: str, argument: _Argument) -> int | None:
+        """What letters are worth as an argument; nothing where they do not match."""
+        if argument.literal is not None:
+            return 0 if letters == argument.literal else None
+        weights = self._classes.get(argument.letters)
+        if weights is None or len(letters) < argument.low or (argument.high or len(letters)) < len(letters):
+            return None
+        found = [weights.get(letter) for letter in letters]
+        return None if None in found else sum(weight for weight in found if weight is not None)
+
+    def _value(self, place: list[Any], arguments: list[_Argument], term: tuple[int, list[int]], at: int) -> int | None:
+        """The score of a node in one of the algebras, from those of its parts."""
+        score, factors = term
+        for part, argument, factor in zip(place, arguments, factors):
+            if isinstance(part, str):
+                value = self._worth(part, argument)
+            else:
+                best = part.get(argument.rule)
+                value = None if best is None else best[0][at]
+            if value is None:
+                return None
+            score += factor * value
+        return score
+
+    def scores(self, tree: Node, *algebras: str) -> list[Score] | None:
+        """The score of each node of a tree, in preorder, by an algebra (the first one, where none is named), or by
+        several of which the later ones judge what is equal by those before; None where the job derives no such tree.
+        """
+        names = algebras or (self.algebras[0],)
+        for name in names:
+            if name not in self._terms:
+                raise Malformed(f"the job has no algebra {name}")
+        nodes = list(tree.preorder())
+        number = {id(node): at for at, node in enumerate(nodes)}
+        # of each node its best scores under each rule that derives it, with the alternative's arguments
+        best: list[dict[str, tuple[tuple[int, ...], list[_Argument]]]] = [{} for _ in nodes]
+        for at in range(len(nodes) - 1, -1, -1):
+            node = nodes[at]
+            parts = [part if isinstance(part, str) else best[number[id(part)]] for part in node.parts]
+            for rule, arguments in self._by_sign.get(node.sign, []):
+                if len(arguments) != len(parts):
+                    continue
+                values = [self._value(parts, arguments, self._terms[name][node.sign], place)
+                          for place, name in enumerate(names)]
+                if None in values:
+                    continue
+                found = tuple(value for value in values if value is not None)
+                known = best[at].get(rule)
+                if known is None or self._order(names, found) < self._order(names, known[0]):
+                    best[at][rule] = found, arguments
+        return self._told(nodes, number, best, len(names) == 1)
+
+    def _order(self, names: Sequence[str], values: tuple[int, ...]) -> list[int]:
+        return [value if self._is_least[name] else -value for name, value in zip(names, values)]
+
+    def _told(self, nodes: list[Node], number: dict[int, int], best: list[dict[str, Any]],
+              is_one: bool) -> list[Score] | None:
+        """The scores of all nodes, by the rule that each one has under the one above it."""
+        rules: list[Any] = [self.axiom] + [None] * (len(nodes) - 1)
+        scores: list[Score] = []
+        for at, node in enumerate(nodes):
+            found = best[at].get(rules[at])
+            if found is None:
+                return None
+            scores.append(found[0][0] if is_one else found[0])
+            for part, argument in zip(node.parts, found[1]):
+                if isinstance(part, Node):
+                    rules[number[id(part)]] = argument.rule
+        return scores
+
+
+def _line(text: str) -> str:
+    """A line of a job, which may hold no line's end."""
+    if "\n" in text or text.endswith("\r"):
+        raise ValueError(f"a line of a job cannot hold a line's end: {text!r}")
+    return text
+
+
+def write_job(*, signs: Mapping[str, Sequence[str]], algebras: Mapping[str, tuple[str, Mapping[str, str]]],
+              rules: Mapping[str, Sequence[str]], words: Iterable[str] = (),
+              classes: Mapping[str, Mapping[str, int]] | None = None, grammar: str | None = None) -> str:
     """The text of a job. `signs`: of each its kinds, 'token' or 'score'. `algebras`: of each 'min' or 'max', and of
-    each sign with its variables, as 'put(x, y)', its term. `rules`: of each its alternatives; the first is the whole word's,
-    unless `grammar` names another. `classes`: of each the weight of each letter, or of several letters at once."""
+    each sign with its variables, as 'put(x, y)', its term. `rules`: of each its alternatives; the first is that of the
+    whole word, unless `grammar` names another. `classes`: of each the weight of each letter, or of several letters at
+    once."""
     lines = ["adp 1"]
     for name, weights in (classes or {}).items():
         lines.append(f"class {name} = " + " ".join(f"{quoted(it)} {weight}" for it, weight in weights.items()))
@@ -154,45 +488,105 @@ def write_job(*, signs, algebras, rules, words=(), classes=None, grammar=None):
     for name, (goal, terms) in algebras.items():
         lines += [f"algebra {name} {goal}", *(f"let {sign} = {term}" for sign, term in terms.items())]
     lines += [f"rule {name} = {' | '.join(alternatives)}" for name, alternatives in rules.items()]
-    lines += [f"grammar {grammar or next(iter(rules))}", "words", *words]
-    for line in lines:
-        if "\n" in line:
-            raise ValueError(f"a line of a job cannot hold a line's end: {line!r}")
-    return "\n".join(lines) + "\n"
+    lines += [f"grammar {grammar or next(iter(rules))}", "words", *_listed(words)]
+    return "\n".join(_line(line) for line in lines) + "\n"
 
 
-def find_program():
-    """The command `adp`: the one that ADP names, the one above this file, or the one on the PATH."""
-    beside = os.path.join(os.path.dirname(os.path.dirname(os.path.realpath(__file__))), "adp")
-    if "ADP" in os.environ:
-        return os.environ["ADP"]
-    return beside if os.access(beside, os.X_OK) else shutil.which("adp") or "adp"
+def _listed(words: Iterable[str]) -> list[str]:
+    if isinstance(words, (str, bytes)):
+        raise TypeError("words are a list of texts, and no text")
+    return list(words)
 
 
-def solve(job=None, *, mode="best", algebra=None, program=None, workers=None, seed=None, schedule=None, **parts):
-    """The reports of a job, which is a text, or is made of its parts (see `write_job`). A fault is raised. The mode is one
-    that reads a job: 'best', 'serial', 'wins', or 'replay' with a schedule."""
-    if (job is None) == (not parts):
+def _with_words(text: str, words: Iterable[str]) -> str:
+    """A job with further words behind its own."""
+    front = text if not text or text.endswith("\n") else text + "\n"
+    if not _WORDS_LINE.search(text, text.find("\n") + 1):
+        front += "words\n"
+    return front + "".join(_line(word) + "\n" for word in _listed(words))
+
+
+def _count_words(text: str) -> int:
+    """How many words stand behind the header of a job."""
+    found = _WORDS_LINE.search(text, text.find("\n") + 1)
+    behind = "" if found is None else text[found.end() + 1 :]
+    return behind.count("\n") + (behind != "" and not behind.endswith("\n"))
+
+
+def _launchers() -> list[str]:
+    """Where the command `adp` may stand: within the package, above this file, and on the PATH."""
+    here = os.path.dirname(os.path.realpath(__file__))
+    known = [os.path.join(here, "lib", "adp"), os.path.join(os.path.dirname(here), "adp"), shutil.which("adp") or ""]
+    return [path for path in known if os.path.isfile(path) and os.access(path, os.X_OK)]
+
+
+def find_program() -> str:
+    """The command `adp`: the one that ADP names, the one with this file or above it, or the one on the PATH."""
+    return os.environ.get("ADP") or [*_launchers(), "adp"][0]
+
+
+def solve(job: str | None = None, *, words: Iterable[str] | None = None, mode: str = "best",
+          algebra: str | None = None, then: str | None = None, workers: int | None = None, seed: int | None = None,
+          schedule: str | None = None, program: str | None = None, timeout: float | None = None,
+          **parts: Any) -> list[Report]:
+    """The reports of a job, which is a text, or is made of its parts (see `write_job`); `words` are asked behind those
+    of a text. A fault is raised, and after `timeout` seconds a `TimeoutError`. The mode is one that reads a job:
+    'best', 'serial', 'wins', or 'replay' with a schedule."""
+    if job is not None and parts:
+        raise TypeError(f"a job is a text, or is given by its parts: beside a text {', '.join(parts)} can't stand")
+    if job is None and not parts:
         raise TypeError("a job is a text, or is given by its parts")
-    text = write_job(**parts) if job is None else job
-    options = {"algebra": algebra, "workers": workers, "seed": seed, "schedule": schedule}
-    return list(read_reports(_written(program, mode, options, text)))
+    if job is None:
+        text = write_job(**parts, words=() if words is None else words)
+    elif isinstance(job, str):
+        text = job if words is None else _with_words(job, words)
+    else:
+        raise TypeError(f"a job is a text, and this is of type {type(job).__name__}")
+    options = {"algebra": algebra, "then": then, "workers": workers, "seed": seed, "schedule": schedule}
+    reports = list(read_reports(_written(program, mode, options, text, timeout)))
+    if [report.word for report in reports] != list(range(1, _count_words(text) + 1)):
+        raise Malformed(f"{_count_words(text)} words were given, and {len(reports)} reports came")
+    return reports
 
 
-def solve_big(size, *, seed=None, workers=None, program=None):
+def solve_big(size: int, *, seed: int | None = None, workers: int | None = None, program: str | None = None,
+              timeout: float | None = None) -> tuple[int, int]:
     """The best score and the number of cells of a word of this size that is made from a seed. A fault is raised."""
-    lines = _written(program, "big", {"size": size, "seed": seed, "workers": workers}, "").splitlines()
-    told = dict(line.split(" ", 1) for line in lines)
+    options = {"size": size, "seed": seed, "workers": workers}
+    lines = _written(program, "big", options, "", timeout).splitlines()
+    told = dict(line.split(" ", 1) for line in lines if " " in line)
     if list(told) != ["size", "score", "cells"]:
         raise Malformed(f"no report of a word that is made: {lines!r}")
     return int(told["score"]), int(told["cells"])
 
 
-def _written(program, mode, options, text):
+def _bytes_of(text: str) -> bytes:
+    return text.encode("utf-8", "surrogateescape")
+
+
+def _written(program: str | None, mode: str, options: Mapping[str, Any], text: str, timeout: float | None) -> str:
     words = [program or find_program(), mode]
     for name, value in options.items():
         words += [] if value is None else ["--" + name, str(value)]
-    ran = subprocess.run(words, input=text.encode(), capture_output=True, check=False)
-    if ran.returncode != 0:
-        raise Fault(ran.stderr.decode(errors="replace").strip(), ran.returncode)
-    return ran.stdout.decode()
+    with subprocess.Popen(words, stdin=subprocess.PIPE, stdout=subprocess.PIPE, stderr=subprocess.PIPE) as process:
+        try:
+            written, told = process.communicate(_bytes_of(text), timeout)
+        except BaseException as error:
+            _end(process)
+            if isinstance(error, subprocess.TimeoutExpired):
+                raise TimeoutError(f"no reports within {timeout} seconds") from None
+            raise
+    if process.returncode != 0:
+        lines = told.decode(errors="replace").strip().splitlines()
+        line = next((line for line in lines if line.startswith("fault ")), lines[-1] if lines else "")
+        raise Fault(line, process.returncode, (words, text))
+    return written.decode()
+
+
+def _end(process: subprocess.Popen[bytes]) -> None:
+    """Ends a run; a launcher ends its program too, where it is asked to end."""
+    process.terminate()
+    try:
+        process.wait(2)
+    except subprocess.TimeoutExpired:
+        process.kill()
