@@ -23,10 +23,12 @@ modes
   serial             the same bytes, by one sweep over each word
   wins               as best, and behind each report how many answers each evaluator put into the table
   replay             as wins, with evaluators that are stepped one by one, in the order of a schedule
+  lex                the best by one algebra and, among equals, by a second one; as best, with both scores
   big                a word that is made from seed and size: its size, best score and cells; reads no job
 
 options, in any order, each at most once
   --algebra NAME     the algebra that scores; the first of the job where none is named; not of big
+  --then NAME        the algebra that decides among equals; of lex, which needs it
   --workers N        how many evaluators, 1 to 32; 1 where nothing is said
   --seed N           the seed of their visiting orders, and of the word of big, below 2^64; 0 where nothing is said
   --schedule S       who makes each step: 1 to 4096 characters, 0 to 9 and a to v for the evaluators 0 to 31; at its end

@@ -156,7 +156,7 @@ class _Mark(str):
 class Report:
     """What is said of a word: its number, from 1; the best score and the first tree of it, or None; its cells; by the
     modes `wins` and `replay` how many answers each evaluator put into the table; and by `tools/spread` why a word was
-    refused."""
+    refused. By `lex` the score is a pair, that of the first algebra and that of the second."""
 
     word: int
     score: Score | None
@@ -249,6 +249,8 @@ def read_reports(text: str) -> Iterator[Report]:
         tree = wins = None
         if second != "none":
             numbers = _numbers(behind("score", second))
+            if len(numbers) > 2:
+                raise Malformed(f"a score has one number, or two, and not {second!r}")
             score = numbers[0] if len(numbers) == 1 else tuple(numbers)
             tree = read_tree(behind("tree", next(lines, None)))
         cells, line = int(behind("cells", next(lines, None))), next(lines, None)
@@ -525,13 +527,14 @@ def find_program() -> str:
     return os.environ.get("ADP") or [*_launchers(), "adp"][0]
 
 
-def solve(job: str | None = None, *, words: Iterable[str] | None = None, mode: str = "best",
+def solve(job: str | None = None, *, words: Iterable[str] | None = None, mode: str | None = None,
           algebra: str | None = None, then: str | None = None, workers: int | None = None, seed: int | None = None,
           schedule: str | None = None, program: str | None = None, timeout: float | None = None,
           **parts: Any) -> list[Report]:
     """The reports of a job, which is a text, or is made of its parts (see `write_job`); `words` are asked behind those
     of a text. A fault is raised, and after `timeout` seconds a `TimeoutError`. The mode is one that reads a job:
-    'best', 'serial', 'wins', or 'replay' with a schedule."""
+    'best', 'serial', 'wins', 'replay' with a schedule, or 'lex' with `then`, the algebra that decides among equals; where
+    none is named 'best', or 'lex' where `then` is given."""
     if job is not None and parts:
         raise TypeError(f"a job is a text, or is given by its parts: beside a text {', '.join(parts)} can't stand")
     if job is None and not parts:
@@ -543,6 +546,7 @@ def solve(job: str | None = None, *, words: Iterable[str] | None = None, mode: s
     else:
         raise TypeError(f"a job is a text, and this is of type {type(job).__name__}")
     options = {"algebra": algebra, "then": then, "workers": workers, "seed": seed, "schedule": schedule}
+    mode = mode or ("best" if then is None else "lex")
     reports = list(read_reports(_written(program, mode, options, text, timeout)))
     if [report.word for report in reports] != list(range(1, _count_words(text) + 1)):
         raise Malformed(f"{_count_words(text)} words were given, and {len(reports)} reports came")

@@ -46,8 +46,11 @@ function fill_tables() {
   add_mode("wins", "--algebra --workers --seed")
   add_mode("replay", "--algebra --workers --seed --schedule", "--schedule", "a schedule, which says who makes each " \
       "step: as `--schedule 0110`")
+  add_mode("lex", "--algebra --then --workers --seed", "--then", "a second algebra, which decides among the trees that " \
+      "are equal by the first: as `--then NAME`")
   add_mode("big", "--workers --seed --size", "--size", "a size, which says how many letters are made: as `--size 400`")
   add_option("--algebra", "name")
+  add_option("--then", "name")
   add_option("--workers", "number", "1", "32")
   add_option("--seed", "number", "0", "18446744073709551615")
   add_option("--schedule", "entries")
@@ -1202,6 +1205,7 @@ function explain_grammar(kind_number, name,    number) {
   else if (kind_number == 2) tell_unproductive(name)
   else if (kind_number == 3) tell_loop(name)
   else if (kind_number == 4) tell_negative(name)
+  else if (kind_number == 6) tell_other_factors(name)
   tell_section("Faults of the grammar", kind_number)
 }
 
@@ -1211,7 +1215,7 @@ function tell_algebras(name,    list, n, i) {
   tell("It has " (n == 1 ? "one:" : "these:"))
   for (i = 1; i <= n; i++) show(line_of["algebra", list[i]], header[line_of["algebra", list[i]]], 0)
   i = nearest(name, list)
-  if (i != "") tell("Is --algebra " i " meant?")
+  if (i != "") tell("Is " (given_value("--algebra") == name ? "--algebra " : "--then ") i " meant?")
 }
 
 function head_of(sort, name,    number) {
@@ -1353,10 +1357,55 @@ function is_negative(i) {
   return token[i - 1] == "-"
 }
 
+# The value of an option of the command; nothing where it is not given.
+function given_value(option,    i) {
+  for (i = 2; i < ARGC - 1; i += 2) if (ARGV[i] == option) return ARGV[i + 1]
+  return ""
+}
+
 # The line of the algebra that scores.
-function chosen_section(    i) {
-  for (i = 2; i < ARGC - 1; i++) if (ARGV[i] == "--algebra") return line_of["algebra", ARGV[i + 1]]
-  return sections[1]
+function chosen_section(    name) {
+  name = given_value("--algebra")
+  return name == "" ? sections[1] : line_of["algebra", name]
+}
+
+# The line of the algebra that decides among equals; 0 where there is none, or where it is the one that scores.
+function second_section(    name) {
+  name = given_value("--then")
+  return name == "" || line_of["algebra", name] == chosen_section() ? 0 : line_of["algebra", name] + 0
+}
+
+# The `let` lines of a sign, in both algebras of a pair, with the score whose factor is another than 1.
+function tell_other_factors(sign) {
+  tell_other_factor(sign, chosen_section(), "the first algebra")
+  if (second_section()) tell_other_factor(sign, second_section(), "the second algebra")
+}
+
+function tell_other_factor(sign, section, which,    number, j, i, factor, place) {
+  number = let_of[section, sign]
+  if (!number) return
+  wanted_number = number
+  has_form(number)
+  for (j = 1; j <= variables; j++) {
+    if (kind_of[sign, j] != "score") continue
+    factor = place = 0
+    for (i = term_at; i <= tokens; i++) if (token[i] == variable[j]) {
+      factor += factor_at(i)
+      if (!place || factor_at(i) != 1) place = i
+    }
+    if (factor == 1) continue
+    print bold name_of_job ", line " number ":" plain
+    show(number, header[number], place ? column[place] : 0)
+    tell("In " which " the variable " quoted(variable[j]) ", which is a score, " (place ? "has the factor " factor : \
+        "is left out") ", and here each score has the factor 1" (place ? "." : ": write `+ " variable[j] "`."))
+    return
+  }
+}
+
+# The factor of a variable of a term at this place.
+function factor_at(i,    first) {
+  first = token[i - 1] == "*" ? i - 2 : i
+  return (token[first - 1] == "-" ? -1 : 1) * (first == i ? 1 : token[first])
 }
 
 # ---- Limits
@@ -1377,7 +1426,9 @@ function explain_limit(number, kind_number, size,    longest) {
   read_header()
   if (is_small && kind_number == 2) tell_cells(length(wanted_line))
   else if (is_small && kind_number == 3) tell_doubling()
+  else if (is_small && kind_number == 4 && ARGV[1] == "lex") tell_both()
   else if (is_small && kind_number == 4) tell_factors()
+  else if (is_small && kind_number == 7) tell_joined(size)
   tell_section("Limits of a word", kind_number)
 }
 
@@ -1526,6 +1577,43 @@ function tell_factors(    i, j, number, sign, section, told, best, widest, width
     tell("No factor of a score is above 1: what makes it so great is the numbers, as here, or weights of classes:")
     show(widest, header[widest], 0)
   }
+}
+
+# How far the numbers of two algebras in one are over, and the greatest of each.
+function tell_joined(size,    is_told, times) {
+  is_told = is_more("9223372036854775808", size)
+  times = is_told ? int(size / MOST * 100 + 1) / 100 : 2
+  tell("The greatest number of both algebras in one is " (is_told ? size ", " times " times" : \
+      "9223372036854775808 or more, at least twice") " what it may be. It is a number of the first algebra, times " \
+      "more than twice the greatest score that the second one could give to a word of this length. So divide the " \
+      "numbers of one of them by more than " times ": the scores by both in one have to be in range too.")
+  tell_greatest(chosen_section(), "first")
+  if (second_section()) tell_greatest(second_section(), "second")
+}
+
+# Which scores are too great where there are two algebras, and the greatest number of each.
+function tell_both() {
+  tell("In the mode lex the limit holds for the scores by each of the two algebras, and for those by both in one. " \
+      "Where `best --algebra NAME` takes the word by each of them alone, it is the last: divide the numbers of one.")
+  tell_greatest(chosen_section(), "first")
+  if (second_section()) tell_greatest(second_section(), "second")
+}
+
+# The `let` line of an algebra with the greatest number.
+function tell_greatest(section, which,    i, j, number, best, at_best, greatest_number) {
+  for (i = 1; i <= lets_count; i++) {
+    number = lets[i]
+    if (let_section[number] != section) continue
+    has_form(number)
+    for (j = term_at; j <= tokens; j++) if (is_digits(token[j]) && is_more(token[j], greatest_number)) {
+      greatest_number = token[j]
+      best = number
+      at_best = column[j]
+    }
+  }
+  if (!best) return
+  tell("The greatest number of the " which " algebra:")
+  show(best, header[best], at_best)
 }
 
 function is_score(sign, name,    j) {

@@ -5,10 +5,11 @@ _adp_options_of() {
   case $1 in
     best | serial | wins) echo '--algebra --workers --seed --words' ;;
     replay) echo '--algebra --workers --seed --schedule --words' ;;
+    lex) echo '--algebra --then --workers --seed --words' ;;
     big) echo '--workers --seed --size' ;;
   esac
 }
-_adp_modes='best serial wins replay big'
+_adp_modes='best serial wins replay lex big'
 _adp_common='--time-limit --explain --help --version'
 
 # The mode that is named already.
@@ -33,7 +34,7 @@ _adp() {
   COMPREPLY=()
   mode=$(_adp_mode)
   case $before in
-    --algebra)
+    --algebra | --then)
       for job in "${COMP_WORDS[@]}"; do
         [ -f "$job" ] && mapfile -t -O ${#COMPREPLY[@]} COMPREPLY < <(
           compgen -W "$(sed -n '/^ *words *$/q; s/^ *algebra  *\([A-Za-z0-9_]*\).*/\1/p' "$job")" -- "$word"

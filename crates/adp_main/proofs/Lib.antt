@@ -9,3 +9,5 @@ pub mod Running
 pub mod Written
 pub mod FirstLimit
 pub mod Reported
+pub mod SecondAlgebras
+pub mod CompiledWords

@@ -7,7 +7,7 @@ use Rattle.adp_model.specs.declared.fault.LimitFault.{LimitFault}
 use Rattle.adp_model.specs.declared.grammar.Grammar.{Grammar}
 use Rattle.verdicts.specs.Command.{Command}
 use Rattle.adp_model.specs.PosedProblem.{PosedProblem}
-use Rattle.adp_model.specs.ProblemFields.{IsAdmissible}
+use Rattle.verdicts.specs.SecondAlgebra.{IsAdmissibleWith}
 use Rattle.verdicts.specs.Verdict.{IsVerdict, KeepLimits, IsFirstLimit, AreReports}
 use Rattle.verdicts.specs.Verdict as verdicts
 use Rattle.report.specs.declared.fault.Fault.{Fault}
@@ -16,7 +16,8 @@ use Rattle.adp_main.specs.declared.checking.CheckedJob.{CheckedJob}
 use Rattle.adp_main.specs.Ending.{IsOfVerdict, ShowsFirst, ShowsPart, ShowsVerdict}
 use Rattle.adp_main.specs.Faults.{fault_verdict, status_after}
 use Rattle.adp_main.specs.Reporting.{AreReportsOf, HasWritten, IsCheckedJob, IsJobEnding, IsJobRefusal, IsReported}
-use Rattle.adp_main.specs.Posed.{posed_words}
+use Rattle.adp_main.specs.Posed.{posed_word, posed_words}
+use Rattle.adp_main.proofs.FirstLimit.{kept_of}
 use Rattle.report.specs.Faults.{HasShortName}
 
 module _ (command : Command) where
@@ -27,20 +28,20 @@ module _ (command : Command) where
   reports_are grammar algebra number (word ∷ words) [] h = absurd h
   reports_are grammar algebra number (word ∷ words) (report ∷ reports) h = (h.0, reports_are grammar algebra (number + 1) words reports h.1)
 
-  all_keep : (grammar : Grammar) (algebra : ℕ) (words : List (List ℕ)) → AllByRecursion IsAdmissible (posed_words grammar algebra words) → KeepLimits grammar algebra words
+  all_keep : (grammar : Grammar) (algebra : ℕ) (words : List (List ℕ)) → AllByRecursion (IsAdmissibleWith command.second) (posed_words grammar algebra words) → KeepLimits command.second grammar algebra words
   all_keep grammar algebra [] h = tt
-  all_keep grammar algebra (word ∷ words) h = (h.0.limits, all_keep grammar algebra words h.1)
+  all_keep grammar algebra (word ∷ words) h = (kept_of command.second (posed_word grammar algebra word) h.0, all_keep grammar algebra words h.1)
 
   is_reported : (grammar : Grammar) (algebra : ℕ) (words : List (List ℕ)) (problems : List PosedProblem) → problems ≡ posed_words grammar algebra words
-      → AllByRecursion IsAdmissible problems → (reports : List (List ℕ)) → AreReportsOf command 1 problems reports
+      → AllByRecursion (IsAdmissibleWith command.second) problems → (reports : List (List ℕ)) → AreReportsOf command 1 problems reports
       → IsReported command grammar algebra words reports
   is_reported grammar algebra words problems e admissible reports h = record {
-    limits = all_keep grammar algebra words (subst (λ (ps : List PosedProblem). AllByRecursion IsAdmissible ps) e admissible);
+    limits = all_keep grammar algebra words (subst (λ (ps : List PosedProblem). AllByRecursion (IsAdmissibleWith command.second) ps) e admissible);
     reports_are = reports_are grammar algebra 1 words reports (subst (λ (ps : List PosedProblem). AreReportsOf command 1 ps reports) e h);
   }
 
   pub job_ending : (grammar : Grammar) (algebra : ℕ) (words : List (List ℕ)) (problems : List PosedProblem) → problems ≡ posed_words grammar algebra words
-      → AllByRecursion IsAdmissible problems → (result : Result (Unit {0}) Fault) (old new : Option (List ℕ))
+      → AllByRecursion (IsAdmissibleWith command.second) problems → (result : Result (Unit {0}) Fault) (old new : Option (List ℕ))
       → (reports : List (List ℕ)) × AreReportsOf command 1 problems reports × HasWritten result old new reports → IsJobEnding command grammar algebra words result old new
   job_ending grammar algebra words problems e admissible (Ok x) old new h = (h.0, is_reported grammar algebra words problems e admissible h.0 h.1, h.2)
   job_ending grammar algebra words problems e admissible (Err faults.Write) old new h = (h.0, is_reported grammar algebra words problems e admissible h.0 h.1, h.2)
@@ -62,7 +63,8 @@ module _ (command : Command) where
         asked.0,
         job.checked.algebra,
         asked.1,
-        there.limits,
+        subst (λ (c : Command). KeepLimits c.second asked.0.grammar job.checked.algebra asked.0.words) (sym asked.2)
+            there.limits,
         subst (λ (c : Command). AreReports c asked.0.grammar job.checked.algebra 1 asked.0.words reports) (sym asked.2)
             there.reports_are,
       )
@@ -99,13 +101,14 @@ module _ (command : Command) where
   first_of words bytes job asked (Err (faults.Limit word fault)) old new h e = cc
 
   limit_verdict : (words : List (List ℕ)) (bytes : List ℕ) (job : CheckedJob) → IsCheckedJob words bytes command job → (word : ℕ) (fault : LimitFault)
-      → IsFirstLimit job.checked.grammar job.checked.algebra 1 job.words word fault → IsVerdict words bytes (verdicts.Limit word fault)
+      → IsFirstLimit command.second job.checked.grammar job.checked.algebra 1 job.words word fault → IsVerdict words bytes (verdicts.Limit word fault)
   limit_verdict words bytes job asked word fault h = (
     asked.0,
     job.checked.algebra,
     asked.1,
-    subst (λ (ws : List (List ℕ)). IsFirstLimit asked.0.grammar job.checked.algebra 1 ws word fault) asked.4
-        (subst (λ (g : Grammar). IsFirstLimit g job.checked.algebra 1 job.words word fault) asked.3 h),
+    subst (λ (it : Command × Grammar × List (List ℕ)).
+        IsFirstLimit it.0.second it.1 job.checked.algebra 1 it.2 word fault)
+        (λ i. (sym asked.2 i, asked.3 i, asked.4 i)) h,
   )
 
   pub fault_of : (words : List (List ℕ)) (bytes : List ℕ) (job : CheckedJob) → IsCheckedJob words bytes command job

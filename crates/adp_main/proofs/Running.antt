@@ -7,20 +7,23 @@ use Rattle.std.proofs.lemmas.List.{append-nil, append_assoc, take_more, length-t
 use Rattle.adp_io.specs.Streams.{AppendsProperPrefix}
 use Rattle.adp_model.specs.PosedProblem.{PosedProblem}
 use Rattle.verdicts.specs.declared.command.Mode.{Mode}
-use Rattle.verdicts.specs.declared.command.Mode.TheVariants.{Serial}
+use Rattle.verdicts.specs.declared.command.Mode.TheVariants.{Serial, Lex}
 use Rattle.verdicts.specs.Command.{Command}
+use Rattle.adp_model.specs.Bounds.{IsScoreBound}
 use Rattle.adp_model.specs.Report.{IsReport}
+use Rattle.lex_product.specs.CompiledGrammar.{compiled_problem, multiplier_of}
+use Rattle.lex_product.specs.PairReport.{IsPairReport}
+use Rattle.verdicts.specs.SecondAlgebra.{IsAdmissibleWith, IsSecond}
 use Rattle.verdicts.specs.Verdict.{IsReportIn, IsReportWith}
 use Rattle.evaluators.specs.declared.finished.Finished.{Finished}
 use Rattle.evaluators.specs.declared.finished.RunNote.{RunNote}
-use Rattle.adp_model.specs.ProblemFields.{IsAdmissible}
 use Rattle.report.specs.declared.fault.Fault.{Fault}
 use Rattle.report.specs.declared.fault.Fault.TheVariants as faults
 use Rattle.adp_main.specs.declared.status.Status.{Status}
 use Rattle.adp_main.specs.declared.status.Status.TheVariants.{Done, WriteFault, Memory}
 use Rattle.adp_main.specs.Faults.{status_of}
 use Rattle.adp_main.specs.Reporting.{AreReportsOf, HasWritten}
-use Rattle.adp_main.specs.RunNotes.{AddsNotes, AreNoted, AreRunsOf, IsRunOf}
+use Rattle.adp_main.specs.RunNotes.{AddsNotes, AreNoted, AreRunsOf, IsNoteFor, IsNoteIn, IsRunOf}
 use Rattle.adp_main.specs.Writing.{IsReportWritten, IsRunWith, IsWordEnding}
 use Rattle.adp_main.proofs.Written.{AllReported, stopped, one_more, grew_more, broken}
 
@@ -33,15 +36,28 @@ no_wins_number : (count : ℕ) → length (no_wins count) ≡ count
 no_wins_number zero = refl
 no_wins_number (suc count) = ap suc (no_wins_number count)
 
+-- the note of a run has as many wins as there are evaluators
+note_wins : (mode : Mode) (command : Command) (p : PosedProblem) (note : RunNote) → IsNoteIn mode command p note
+    → length note.wins ≡ command.workers
+note_wins Lex command p note (second, bound, named, bounded, for) = for.wins_each
+note_wins mode command p note for = for.wins_each
+
+-- the note for a word's own problem, in a mode that asks for no second algebra
+note_in : (mode : Mode) → (mode ≡ Lex → ⊥) → (command : Command) (p : PosedProblem) (note : RunNote)
+    → IsNoteFor command p note → IsNoteIn mode command p note
+note_in Lex other command p note for = absurd (other refl)
+note_in mode other command p note for = for
+
 -- a report beside what was noted of it is one that the command asks for
 pub run_report : (command : Command) (number : ℕ) (p : PosedProblem) (report : List ℕ) (noted : List RunNote)
     → IsRunOf command number p report noted → IsReportIn command number p report
 run_report command number p report noted (inl (serial, none, is)) = (
   no_wins command.workers,
   no_wins_number command.workers,
-  subst (λ mode. IsReportWith mode number p (no_wins command.workers) report) (sym serial) is,
+  subst (λ mode. IsReportWith mode command.second number p (no_wins command.workers) report) (sym serial) is,
 )
-run_report command number p report noted (inr (other, note, one, for, is)) = (note.wins, for.wins_each, is)
+run_report command number p report noted (inr (other, note, one, for, is)) =
+    (note.wins, note_wins command.mode command p note for, is)
 
 -- ---- word by word
 
@@ -99,7 +115,7 @@ adds_more (Some old) mid new notes noted h k =
 -- ---- how the words of a job ended
 
 module _ (command : Command) (each : AllReported command) (ps : List PosedProblem)
-    (admissible : AllByRecursion IsAdmissible ps) (k : ℕ) (rs : List (List ℕ)) (notes : List RunNote)
+    (admissible : AllByRecursion (IsAdmissibleWith command.second) ps) (k : ℕ) (rs : List (List ℕ)) (notes : List RunNote)
     (runs : AreRunsOf command 1 (take k ps) rs notes) (old mid new : Option (List RunNote))
     (held held' held'' : Option (List ℕ)) (told : AddsNotes old mid notes) (grew : Appends held held' (concat rs)) where
   reports : AreReportsOf command 1 (take k ps) rs
@@ -209,17 +225,36 @@ swept_word command number p report bytes serial is same (Err faults.Memory) runs
 
 -- a report by evaluators
 pub evaluated_word : (command : Command) (mode : Mode) (number : ℕ) (p : PosedProblem) (finished : Finished)
-    (report bytes : List ℕ) → command.mode ≡ mode → (mode ≡ Serial → ⊥)
-    → IsReportWith mode number p finished.wins.items report → bytes ≡ report
+    (report bytes : List ℕ) → command.mode ≡ mode → (mode ≡ Serial → ⊥) → (mode ≡ Lex → ⊥)
+    → IsReportWith mode command.second number p finished.wins.items report → bytes ≡ report
     → (result : Result (Unit {0}) Fault) (old new : Option (List RunNote)) (held held' : Option (List ℕ))
     → IsWordEnding (IsRunWith command p finished bytes) result old new held held'
     → IsWordEnding (IsRunOf command number p) result old new held held'
-evaluated_word command mode number p finished report bytes asked other is same =
+evaluated_word command mode number p finished report bytes asked other single is same =
     ending_of (λ written noted (run : IsRunWith command p finished bytes written noted). inr (
       λ serial. other (sym asked ∙ serial),
       run.1,
       run.2,
-      run.3,
-      subst (λ (it : Mode × List ℕ × List ℕ). IsReportWith it.0 number p it.1 it.2)
+      note_in command.mode (λ lex. single (sym asked ∙ lex)) command p run.1 run.3,
+      subst (λ (it : Mode × List ℕ × List ℕ). IsReportWith it.0 command.second number p it.1 it.2)
           (λ i. (sym asked i, sym run.4 i, sym (run.0 ∙ same) i)) is,
+    ))
+
+-- a report by evaluators under the compiled algebra of two
+pub compiled_run : (command : Command) (number : ℕ) (p q : PosedProblem) (second bound : ℕ) (finished : Finished)
+    (report bytes : List ℕ) → command.mode ≡ Lex → IsSecond command.second p.grammar second
+    → IsScoreBound p.grammar second (length p.word) bound → q ≡ compiled_problem p second (multiplier_of bound)
+    → IsPairReport number p second report → bytes ≡ report
+    → (result : Result (Unit {0}) Fault) (old new : Option (List RunNote)) (held held' : Option (List ℕ))
+    → IsWordEnding (IsRunWith command q finished bytes) result old new held held'
+    → IsWordEnding (IsRunOf command number p) result old new held held'
+compiled_run command number p q second bound finished report bytes lex named bounded compiled is same =
+    ending_of (λ written noted (run : IsRunWith command q finished bytes written noted). inr (
+      λ serial. (let e = sym lex ∙ serial in cc),
+      run.1,
+      run.2,
+      subst (λ mode. IsNoteIn mode command p run.1) (sym lex)
+          (second, bound, named, bounded, subst (λ it. IsNoteFor command it run.1) compiled run.3),
+      subst (λ mode. IsReportWith mode command.second number p run.1.wins written) (sym lex)
+          (second, named, subst (IsPairReport number p second) (sym (run.0 ∙ same)) is),
     ))

@@ -7,8 +7,8 @@ use Rattle.std.proofs.lemmas.List.{append-nil, append_assoc, take-append-drop, t
 use Rattle.std.proofs.lemmas.List.Folds.{concat-append}
 use Rattle.adp_io.specs.Streams.{AppendsProperPrefix}
 use Rattle.adp_model.specs.PosedProblem.{PosedProblem}
-use Rattle.adp_model.specs.ProblemFields.{IsAdmissible}
 use Rattle.verdicts.specs.Command.{Command}
+use Rattle.verdicts.specs.SecondAlgebra.{IsAdmissibleWith}
 use Rattle.verdicts.specs.Verdict.{IsReportIn}
 use Rattle.adp_main.specs.Reporting.{AreReportsOf}
 
@@ -32,7 +32,7 @@ take_past (x ∷ a) b c (suc n) e = ap (λ l. x ∷ l) (take_past a b c n (omega
 
 -- each admissible word has a report that the command asks for
 abbrev pub AllReported : Command → Type 0
-AllReported command = (number : ℕ) (p : PosedProblem) → IsAdmissible p
+AllReported command = (number : ℕ) (p : PosedProblem) → IsAdmissibleWith command.second p
     → (report : List ℕ) × IsReportIn command number p report
 
 module _ (command : Command) where
@@ -46,7 +46,7 @@ module _ (command : Command) where
       let e : number + length (p ∷ ps) ≡ number + 1 + length ps = omega arith in
       (h.0, joined (number + 1) ps qs rs ss h.1 (subst (λ n. AreReportsOf command n qs ss) e k))
 
-  some_reports : AllReported command → (number : ℕ) (ps : List PosedProblem) → AllByRecursion IsAdmissible ps → (rs : List (List ℕ)) × AreReportsOf command number ps rs
+  some_reports : AllReported command → (number : ℕ) (ps : List PosedProblem) → AllByRecursion (IsAdmissibleWith command.second) ps → (rs : List (List ℕ)) × AreReportsOf command number ps rs
   some_reports each number [] h = ([], tt)
   some_reports each number (p ∷ ps) h =
       let first = each number p h.0 in
@@ -54,14 +54,14 @@ module _ (command : Command) where
       (first.0 ∷ others.0, (first.1, others.1))
 
   -- the reports of the first problems go on to reports of all
-  completed : AllReported command → (ps : List PosedProblem) (k : ℕ) → AllByRecursion IsAdmissible ps → (rs : List (List ℕ))
+  completed : AllReported command → (ps : List PosedProblem) (k : ℕ) → AllByRecursion (IsAdmissibleWith command.second) ps → (rs : List (List ℕ))
       → AreReportsOf command 1 (take k ps) rs → (rest : List (List ℕ)) × AreReportsOf command 1 ps (rs ++ rest)
   completed each ps k admissible rs written =
-      let rest = some_reports each (1 + length (take k ps)) (drop k ps) (all_behind IsAdmissible k ps admissible) in
+      let rest = some_reports each (1 + length (take k ps)) (drop k ps) (all_behind (IsAdmissibleWith command.second) k ps admissible) in
       (rest.0, subst (λ qs. AreReportsOf command 1 qs (rs ++ rest.0)) (take-append-drop k ps) (joined 1 (take k ps) (drop k ps) rs rest.0 written rest.1))
 
   -- want of memory after the first reports
-  pub stopped : AllReported command → (ps : List PosedProblem) (k : ℕ) → AllByRecursion IsAdmissible ps → (rs : List (List ℕ))
+  pub stopped : AllReported command → (ps : List PosedProblem) (k : ℕ) → AllByRecursion (IsAdmissibleWith command.second) ps → (rs : List (List ℕ))
       → AreReportsOf command 1 (take k ps) rs → (old new : Option (List ℕ)) → Appends old new (concat rs)
       → (reports : List (List ℕ)) × AreReportsOf command 1 ps reports × ((count : ℕ) × Appends old new (concat (take count reports)))
   stopped each ps k admissible rs written old new grew =
@@ -79,7 +79,7 @@ module _ (command : Command) where
       (joined 1 (take k ps) (p ∷ []) rs (report ∷ []) written (subst (λ n. IsReportIn command n p report) e reported, tt))
 
   -- a write failed within the next report
-  pub broken : AllReported command → (ps : List PosedProblem) (k : ℕ) (p : PosedProblem) → k < length ps → p ≡ get_or ps k p → AllByRecursion IsAdmissible ps
+  pub broken : AllReported command → (ps : List PosedProblem) (k : ℕ) (p : PosedProblem) → k < length ps → p ≡ get_or ps k p → AllByRecursion (IsAdmissibleWith command.second) ps
       → (rs : List (List ℕ)) → AreReportsOf command 1 (take k ps) rs
       → (report bytes : List ℕ) → IsReportIn command (k + 1) p report → bytes ≡ report → (old mid new : Option (List ℕ)) → Appends old mid (concat rs) → AppendsProperPrefix mid new bytes
       → (reports : List (List ℕ)) × AreReportsOf command 1 ps reports × AppendsProperPrefix old new (concat reports)

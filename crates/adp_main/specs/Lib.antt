@@ -1,6 +1,8 @@
 pub mod Status
 pub mod Faults
 pub mod Posed
+pub mod Seconds
+pub mod CompiledWords
 pub mod RunNotes
 pub mod Ending
 pub mod Writing

@@ -1,5 +1,5 @@
 -- The reports of a job's words, and what was written of them.
-use Rattle.std.specs.Prelude.{◌≡◌, ℕ, ◌+◌, ◌<◌, ◌≤◌, ◌⊎◌, List, [], ◌∷◌, length, slice_index_or, take, Option, Result, Ok, Err}
+use Rattle.std.specs.Prelude.{◌≡◌, ℕ, ◌+◌, ◌<◌, ◌≤◌, ◌⊎◌, List, [], ◌∷◌, length, slice_index_or, take, Option, None, Some, Result, Ok, Err}
 use Rattle.std.specs.List.{concat}
 use Rattle.std.specs.Io.KnownBytes.{Appends}
 use Rattle.adp_io.specs.Streams.{AppendsProperPrefix}
@@ -9,9 +9,19 @@ use Rattle.adp_model.specs.PosedProblem.{PosedProblem}
 use Rattle.verdicts.specs.Command as asked
 use Rattle.verdicts.specs.Verdict.{IsVerdict, AsksUnder, KeepLimits, IsFirstLimit, IsReportIn, AreReports}
 use Rattle.verdicts.specs.Verdict as verdicts
+use Rattle.verdicts.specs.SecondAlgebra.{IsLimitWith}
+use Rattle.lex_product.specs.PairFaults.{IsPairFault}
+use Rattle.lex_product.specs.PairLimits.{IsPairLimitFault}
+use Rattle.lex_product.specs.declared.error.CompileError.{CompileError}
+use Rattle.lex_product.specs.declared.error.CompileError.TheVariants as compile_errors
+use Rattle.lex_product.specs.declared.error.PairError.{PairError}
+use Rattle.lex_product.specs.declared.error.PairError.TheVariants as pair_errors
 use Rattle.report.specs.declared.fault.Fault.{Fault}
 use Rattle.report.specs.declared.fault.Fault.TheVariants as faults
 use Rattle.adp_main.specs.declared.checking.CheckedJob.{CheckedJob}
+use Rattle.grammar_check.specs.CheckedGrammar.{CheckedGrammar}
+use Rattle.grammar_check.specs.declared.error.AdmitError.{AdmitError}
+use Rattle.grammar_check.specs.declared.error.AdmitError.TheVariants as admit_errors
 use Rattle.grammar_check.specs.declared.error.CheckError.{CheckError}
 use Rattle.grammar_check.specs.declared.error.CheckError.TheVariants as check_errors
 use Rattle.grammar_text.specs.declared.error.TextError.{TextError}
@@ -27,8 +37,31 @@ abbrev pub grammar_refusal : CheckError → Fault
 grammar_refusal (check_errors.Fault fault) = faults.Grammar fault
 grammar_refusal check_errors.Memory = faults.Memory
 
--- the job's grammar is that of the text that the command asks about, and has no fault under the algebra; its words are
--- the text's
+-- the fault of two algebras that were not made a pair
+abbrev pub pair_refusal : PairError → Fault
+pair_refusal (pair_errors.Fault fault) = faults.Grammar fault
+pair_refusal pair_errors.Memory = faults.Memory
+
+-- why a word is refused whose pair was not compiled
+abbrev pub compile_refusal : CompileError → AdmitError
+compile_refusal (compile_errors.Fault fault) = admit_errors.Fault fault
+compile_refusal compile_errors.Memory = admit_errors.Memory
+
+-- the fault of a run whose word at this place was refused
+abbrev pub limit_refusal : ℕ → AdmitError → Fault
+limit_refusal place (admit_errors.Fault fault) = faults.Limit (place + 1) fault
+limit_refusal place admit_errors.Memory = faults.Memory
+
+-- where a second algebra is asked for, it is a fault of the pair, with a short name, or want of memory
+abbrev pub IsPairRefusal : Option (List ℕ) → CheckedGrammar → Fault → Type 0
+IsPairRefusal None first fault = fault ≡ faults.Memory
+IsPairRefusal (Some name) first (faults.Grammar fault) =
+    IsPairFault first.grammar first.algebra name fault × (length fault.name ≤ 32)
+IsPairRefusal (Some name) first faults.Memory = Unit {0}
+IsPairRefusal (Some name) first fault = ⊥
+
+-- the job's grammar is that of the text that the command asks about, and has no fault under the algebra, nor has the
+-- pair where a second one is asked for; its words are the text's
 abbrev pub IsCheckedJob : List (List ℕ) → List ℕ → asked.Command → CheckedJob → Type 0
 IsCheckedJob words bytes command checked =
     (job : Job) × (asks : AsksUnder words bytes job checked.checked.algebra) × (asks.command ≡ command)
@@ -54,10 +87,21 @@ AreShort longest words =
     (place : ℕ) → place < length words → length (slice_index_or words place []) ≤ longest
 
 -- the fault of the first word that passes a limit; of want of memory nothing is said
-abbrev pub IsLimitOf : Grammar → ℕ → List (List ℕ) → Fault → Type 0
-IsLimitOf grammar algebra words (faults.Limit word fault) = IsFirstLimit grammar algebra 1 words word fault
-IsLimitOf grammar algebra words faults.Memory = Unit {0}
-IsLimitOf grammar algebra words fault = ⊥
+abbrev pub IsLimitOf : Option (List ℕ) → Grammar → ℕ → List (List ℕ) → Fault → Type 0
+IsLimitOf second grammar algebra words (faults.Limit word fault) =
+    IsFirstLimit second grammar algebra 1 words word fault
+IsLimitOf second grammar algebra words faults.Memory = Unit {0}
+IsLimitOf second grammar algebra words fault = ⊥
+
+-- the fault of a length; of want of memory nothing is said
+abbrev pub IsLengthRefusal : Option (List ℕ) → Grammar → ℕ → ℕ → AdmitError → Type 0
+IsLengthRefusal second grammar algebra len (admit_errors.Fault fault) = IsLimitWith second grammar algebra len fault
+IsLengthRefusal second grammar algebra len admit_errors.Memory = Unit {0}
+
+-- the fault of a length under a pair; of want of memory nothing is said
+abbrev pub IsPairLimitRefusal : Grammar → ℕ → ℕ → ℕ → AdmitError → Type 0
+IsPairLimitRefusal grammar first second len (admit_errors.Fault fault) = IsPairLimitFault grammar first second len fault
+IsPairLimitRefusal grammar first second len admit_errors.Memory = Unit {0}
 
 -- the reports of these problems in order, the first of which has this number, as the command asks for them
 abbrev pub AreReportsOf : asked.Command → ℕ → List PosedProblem → List (List ℕ) → Type 0
@@ -76,7 +120,7 @@ HasWritten (Err fault) old new reports = ⊥
 -- the words keep the limits, and these are their reports
 pub record IsReported (command : asked.Command) (grammar : Grammar) (algebra : ℕ) (words : List (List ℕ))
     (reports : List (List ℕ)) : Type 0 where
-  pub limits : KeepLimits grammar algebra words
+  pub limits : KeepLimits command.second grammar algebra words
   pub reports_are : AreReports command grammar algebra 1 words reports
 
 -- how the words of a checked job were reported: one of them passes a limit and nothing was written, or it was written
@@ -84,7 +128,7 @@ pub record IsReported (command : asked.Command) (grammar : Grammar) (algebra : �
 abbrev pub IsJobEnding : asked.Command → Grammar → ℕ → List (List ℕ) → Result (Unit {0}) Fault → Option (List ℕ)
     → Option (List ℕ) → Type 0
 IsJobEnding command grammar algebra words (Err (faults.Limit word fault)) old new =
-    IsFirstLimit grammar algebra 1 words word fault × Appends old new []
+    IsFirstLimit command.second grammar algebra 1 words word fault × Appends old new []
 IsJobEnding command grammar algebra words (Err faults.Memory) old new =
     Appends old new []
     ⊎ ((reports : List (List ℕ)) × IsReported command grammar algebra words reports

@@ -5,13 +5,16 @@ use Rattle.std.specs.Io.KnownBytes.{Appends}
 use Rattle.adp_model.specs.declared.job.Job.{Job}
 use Rattle.adp_model.specs.PosedProblem.{PosedProblem, axiom_cell}
 use Rattle.adp_model.specs.Answers.{IsAnswer}
+use Rattle.adp_model.specs.Bounds.{IsScoreBound}
 use Rattle.adp_model.specs.Demand.{IsDemandedCount}
 use Rattle.adp_model.specs.Report.{IsReport}
 use Rattle.adp_model.specs.BigReport.{made_problem, IsBigReport}
 use Rattle.verdicts.specs.declared.command.Mode.{Mode}
-use Rattle.verdicts.specs.declared.command.Mode.TheVariants.{Serial, Replay, Big}
+use Rattle.verdicts.specs.declared.command.Mode.TheVariants.{Serial, Replay, Lex, Big}
 use Rattle.verdicts.specs.Command.{Command, IsCommand}
+use Rattle.verdicts.specs.SecondAlgebra.{IsSecond}
 use Rattle.verdicts.specs.Verdict.{AsksUnder, IsReportWith}
+use Rattle.lex_product.specs.CompiledGrammar.{compiled_problem, multiplier_of}
 use Rattle.evaluators.specs.declared.finished.RunNote.{RunNote}
 use Rattle.evaluators.specs.Schedules.{AreScheduled}
 use Rattle.adp_main.specs.declared.status.Status.{Status}
@@ -39,12 +42,21 @@ pub record IsNoteFor (command : Command) (p : PosedProblem) (note : RunNote) : T
   pub ended_each : length note.ended ≡ command.workers
   pub run : HaveRun command.mode command.schedule note.wins note.moves note.ended
 
+-- the note of the run for a word in a mode: that for the word's problem; or, for two algebras in order, that for the
+-- problem under the compiled one, whose algebra and answer the note has
+abbrev pub IsNoteIn : Mode → Command → PosedProblem → RunNote → Type 0
+IsNoteIn Lex command p note =
+    (second : ℕ) × (bound : ℕ) × IsSecond command.second p.grammar second
+    × IsScoreBound p.grammar second (length p.word) bound
+    × IsNoteFor command (compiled_problem p second (multiplier_of bound)) note
+IsNoteIn mode command p note = IsNoteFor command p note
+
 -- the report of the word with this number, and what was noted beside it: the note of the run, or nothing of one sweep
 abbrev pub IsRunOf : Command → ℕ → PosedProblem → List ℕ → List RunNote → Type 0
 IsRunOf command number p report noted =
     ((command.mode ≡ Serial) × (noted ≡ []) × IsReport number p report)
-    ⊎ (((command.mode ≡ Serial) → ⊥) × (note : RunNote) × (noted ≡ note ∷ []) × IsNoteFor command p note
-    × IsReportWith command.mode number p note.wins report)
+    ⊎ (((command.mode ≡ Serial) → ⊥) × (note : RunNote) × (noted ≡ note ∷ []) × IsNoteIn command.mode command p note
+    × IsReportWith command.mode command.second number p note.wins report)
 
 -- the report of the word that is made, and the note of its run beside it
 abbrev pub IsBigRun : Command → List ℕ → List RunNote → Type 0

@@ -10,6 +10,7 @@ ghost use Rattle.adp_io.specs.Streams.{SameTold};
 ghost use Rattle.adp_main.specs.Ending.{IsBeforeWriting, IsOfVerdict, OutputAfter, ShowsFirst, ShowsPart, ShowsVerdict};
 ghost use Rattle.adp_main.specs.Faults.{fault_verdict, status_after};
 ghost use Rattle.adp_main.specs.Reporting.{IsJobEnding};
+ghost use Rattle.adp_main.specs.Seconds.{IsSecondOf};
 ghost use Rattle.adp_main.specs.declared.status.Status.TheVariants.{WriteFault};
 ghost use Rattle.report.specs.Faults.{HasShortName};
 
@@ -70,6 +71,7 @@ fn write_job<R: Threads + Sync, K: Sink, G: Gate>(
 ) -> Result<(), Fault>
     requires mode { ReadsJob command.now.mode }
     requires few { length job.now.words ≤ 65536 }
+    requires second { IsSecondOf command.now.second job.now.checked job.now.second }
     ensures told { SameTold (K.held out.old) (K.held out.new) }
     ensures faults { RisesWhere (K.faults out.old) (K.faults out.new) (status_after result ≡ WriteFault) }
     ensures untouched { IsBeforeWriting (status_after result) → out.new ≡ out.old }
@@ -79,16 +81,6 @@ fn write_job<R: Threads + Sync, K: Sink, G: Gate>(
         (posed_words job.now.checked.grammar job.now.checked.algebra job.now.words)
         (status_after result) (G.runs gate.old) (G.runs gate.new) (K.held out.old) (K.held out.new) }
 {
-    let job_words = job.words.as_slice();
-    let rows = judge_words(alloc, &job.checked, job_words)?;
-    write_words(
-        rt,
-        alloc,
-        command,
-        &job.checked,
-        &rows,
-        job_words,
-        out,
-        gate,
-    )
+    let rows = judge_words(alloc, command, job)?;
+    write_words(rt, alloc, command, job, &rows, out, gate)
 }

@@ -1,11 +1,12 @@
 ghost use Rattle.std.specs.Prelude.{◌≡◌};
 ghost use Rattle.adp_main.specs.Faults.{reading_fault, status_of};
-ghost use Rattle.adp_main.specs.Reporting.{grammar_refusal, text_refusal};
+ghost use Rattle.adp_main.specs.Reporting.{grammar_refusal, pair_refusal, text_refusal};
 
 use crate::status::Status;
 use adp_io::JobFault;
 use grammar_check::CheckError;
 use grammar_text::TextError;
+use lex_product::PairError;
 use report::Fault;
 
 /// The status that a run with this fault ends with.
@@ -51,5 +52,15 @@ pub(crate) fn grammar_refusal(error: CheckError) -> Fault
     match error {
         CheckError::Fault(fault) => Fault::Grammar(fault),
         CheckError::Memory => Fault::Memory,
+    }
+}
+
+/// The fault of two algebras that were not made a pair.
+pub(crate) fn pair_refusal(error: PairError) -> Fault
+    ensures { result ≡ pair_refusal error }
+{
+    match error {
+        PairError::Fault(fault) => Fault::Grammar(fault),
+        PairError::Memory => Fault::Memory,
     }
 }

@@ -8,6 +8,7 @@ mod big;
 mod checking;
 mod evaluating;
 mod fault;
+mod lex;
 mod limits;
 mod replay;
 mod reporting;

@@ -1,45 +1,179 @@
 //! The limits of a job's words: each word is judged, and admitted again when its report is written.
-ghost use Rattle.std.specs.Prelude.{◌≡◌, ℕ, ◌+◌, ◌<◌, ◌≤◌, [], length, slice_index_or, IfOk, IfErr, MatchOption, MatchResult};
+ghost use Rattle.std.specs.Prelude.{◌≡◌, ℕ, ◌+◌, ◌<◌, ◌≤◌, [], length, slice_index_or, IfOk, IfErr, OnOk, MatchOption, MatchResult};
 ghost use Rattle.std.specs.List.{AllByRecursion};
+ghost use Rattle.adp_model.specs.Bounds.{IsScoreBound};
 ghost use Rattle.adp_model.specs.LimitFaults.{IsLimitFault};
-ghost use Rattle.adp_model.specs.ProblemFields.{IsAdmissible, KeepsLimits, most_letters};
+ghost use Rattle.adp_model.specs.ProblemFields.{KeepsLimits, greatest_score, most_letters};
 ghost use Rattle.grammar_check.specs.Admitted.{IsProblemOf};
 ghost use Rattle.grammar_check.specs.ToldRows.{AreRowsOf};
-ghost use Rattle.adp_main.specs.Posed.{posed_words};
-ghost use Rattle.adp_main.specs.Reporting.{AreShort, IsLimitOf};
+ghost use Rattle.lex_product.specs.PairAnswers.{IsPair};
+ghost use Rattle.lex_product.specs.PairLimits.{KeepsPairLimits};
+ghost use Rattle.verdicts.specs.SecondAlgebra.{IsAdmissibleWith};
+ghost use Rattle.adp_main.specs.Posed.{posed_word, posed_words};
+ghost use Rattle.adp_main.specs.Reporting.{AreShort, IsLengthRefusal, IsLimitOf, IsPairLimitRefusal, compile_refusal, limit_refusal};
+ghost use Rattle.adp_main.specs.Seconds.{AreJobRows, AreSecondRows, IsSecondOf};
 
+use crate::checking::CheckedJob;
 use adp_model::laws::limits::limits_are_kept_or_passed;
 use adp_model::{LimitFault, Problem, Text};
-use grammar_check::{BoundRows, Checked, admit_within, cells_within_limits};
+use grammar_check::{AdmitError, BoundRows, Checked, admit_within, cells_within_limits};
+use lex_product::{CompileError, compile_by};
 use report::Fault;
-use std::alloc::Global;
+use std::alloc::{AllocError, Global};
+use verdicts::Command;
 
-/// Judges the words in order: the bounds up to the longest of them, where each keeps the limits, or the fault of the
-/// first word that passes one. No bound is computed for a word that has too many letters or cells.
+/// The bounds of a job's words by their length: under its algebra, and under the second one where there is one.
+#[derive(Drop)]
+pub(crate) struct JobRows {
+    pub(crate) first: BoundRows,
+    pub(crate) second: Option<BoundRows>,
+}
+
+impl JobRows {
+    /// The rows for words of at most `longest` letters.
+    fn new(alloc: Global, job: &CheckedJob, longest: u32) -> Result<JobRows, AllocError>
+        requires { longest ≤ most_letters }
+        ensures rows { IfOk result (AreJobRows job.now.checked job.now.second) }
+        ensures longest { IfOk result (λ rows. rows.first.longest ≡ longest) }
+    {
+        let first = BoundRows::new(alloc, &job.checked, longest)?;
+        let second = second_rows(alloc, job, longest)?;
+        Ok(JobRows { first, second })
+    }
+}
+
+/// The rows under the second algebra, where there is one.
+fn second_rows(
+    alloc: Global,
+    job: &CheckedJob,
+    longest: u32,
+) -> Result<Option<BoundRows>, AllocError>
+    requires { longest ≤ most_letters }
+    ensures { IfOk result (AreSecondRows job.now.second longest) }
+{
+    match &job.second {
+        Some(second) => Ok(Some(BoundRows::new(alloc, second, longest)?)),
+        None => Ok(None),
+    }
+}
+
+/// Judges the words of a job in order: the bounds up to the longest of them, where each keeps the limits, or the fault
+/// of the first word that passes one. No bound is computed for a word that has too many letters or cells.
 pub(crate) fn judge_words(
     alloc: Global,
-    checked: &Checked,
-    words: &[Text],
-) -> Result<BoundRows, Fault>
-    requires { length words.now ≤ 65536 }
-    ensures rows { IfOk result (AreRowsOf checked.now) }
-    ensures known { IfOk result (λ rows. AreShort rows.longest words.now) }
-    ensures admissible { IfOk result (λ _. AllByRecursion IsAdmissible
-        (posed_words checked.now.grammar checked.now.algebra words.now)) }
-    ensures fault { IfErr result (IsLimitOf checked.now.grammar checked.now.algebra words.now) }
+    command: &Command<'_>,
+    job: &CheckedJob,
+) -> Result<JobRows, Fault>
+    requires few { length job.now.words ≤ 65536 }
+    requires second { IsSecondOf command.now.second job.now.checked job.now.second }
+    ensures rows { IfOk result (AreJobRows job.now.checked job.now.second) }
+    ensures known { IfOk result (λ rows. AreShort rows.first.longest job.now.words) }
+    ensures admissible { IfOk result (λ _. AllByRecursion (IsAdmissibleWith command.now.second)
+        (posed_words job.now.checked.grammar job.now.checked.algebra job.now.words)) }
+    ensures fault { IfErr result (IsLimitOf command.now.second job.now.checked.grammar job.now.checked.algebra
+        job.now.words) }
 {
-    let (count, refused) = within_cells(checked, words);
+    let words = job.words.as_slice();
+    let (count, refused) = within_cells(&job.checked, words);
     let judged = &words[..count];
-    let rows = BoundRows::new(alloc, checked, longest(judged))?;
+    let rows = JobRows::new(alloc, job, longest(judged))?;
     for (place, word) in judged.iter().enumerate() {
-        match admit_word(checked, &rows, word) {
-            Ok(problem) => problem.admissible(),
-            Err(fault) => return Err(limit(place, fault)),
+        match judge_word(alloc, command, job, &rows, word) {
+            Ok(()) => {}
+            Err(error) => return Err(limit_refusal(place, error)),
         }
     }
     match refused {
         Some(fault) => Err(limit(count, fault)),
         None => Ok(rows),
+    }
+}
+
+/// Whether the word keeps the limits: those under the job's algebra, and those of the pair where there is a second one.
+fn judge_word(
+    alloc: Global,
+    command: &Command<'_>,
+    job: &CheckedJob,
+    rows: &JobRows,
+    word: &Text,
+) -> Result<(), AdmitError>
+    requires second { IsSecondOf command.now.second job.now.checked job.now.second }
+    requires rows { AreJobRows job.now.checked job.now.second rows.now }
+    requires known { length word.now ≤ rows.now.first.longest }
+    ensures kept { OnOk result (IsAdmissibleWith command.now.second
+        (posed_word job.now.checked.grammar job.now.checked.algebra word.now)) }
+    ensures fault { IfErr result (IsLengthRefusal command.now.second job.now.checked.grammar job.now.checked.algebra
+        (length word.now)) }
+{
+    job.checked.passes();
+    let problem = match admit_word(&job.checked, &rows.first, word) {
+        Ok(problem) => problem,
+        Err(fault) => return Err(AdmitError::Fault(fault)),
+    };
+    problem.admissible();
+    match &job.second {
+        Some(second) => match &rows.second {
+            Some(rows) => judge_pair(alloc, &job.checked, second, rows, word),
+            None => unreachable!(),
+        },
+        None => Ok(()),
+    }
+}
+
+/// Whether a word that keeps the limits under the first algebra keeps the others of the pair.
+fn judge_pair(
+    alloc: Global,
+    first: &Checked,
+    second: &Checked,
+    rows: &BoundRows,
+    word: &Text,
+) -> Result<(), AdmitError>
+    requires pair { IsPair first.now second.now }
+    requires rows { AreRowsOf second.now rows.now }
+    requires known { length word.now ≤ rows.now.longest }
+    requires first { KeepsLimits first.now.grammar first.now.algebra (length word.now) }
+    ensures kept { OnOk result (KeepsPairLimits first.now.grammar first.now.algebra second.now.algebra
+        (length word.now)) }
+    ensures fault { IfErr result (IsPairLimitRefusal first.now.grammar first.now.algebra second.now.algebra
+        (length word.now)) }
+{
+    let problem = match admit_word(second, rows, word) {
+        Ok(problem) => problem,
+        Err(fault) => return Err(AdmitError::Fault(fault)),
+    };
+    let bound = bound_of(&problem);
+    let compiled = match compile_by(alloc, first, second, bound) {
+        Ok(compiled) => compiled,
+        Err(error) => return Err(compile_refusal(error)),
+    };
+    let rows = BoundRows::new(alloc, &compiled, word.bytes().len() as u32)?;
+    match admit_word(&compiled, &rows, word) {
+        Ok(problem) => {
+            problem.admissible();
+            Ok(())
+        }
+        Err(fault) => Err(AdmitError::Fault(fault)),
+    }
+}
+
+/// Why a word is refused whose pair was not compiled.
+fn compile_refusal(error: CompileError) -> AdmitError
+    ensures { result ≡ compile_refusal error }
+{
+    match error {
+        CompileError::Fault(fault) => AdmitError::Fault(fault),
+        CompileError::Memory => AdmitError::Memory,
+    }
+}
+
+/// The fault of a run whose word at this place was refused.
+fn limit_refusal(place: usize, error: AdmitError) -> Fault
+    requires { place ≤ 65536 }
+    ensures { result ≡ limit_refusal place error }
+{
+    match error {
+        AdmitError::Fault(fault) => limit(place, fault),
+        AdmitError::Memory => Fault::Memory,
     }
 }
 
@@ -95,6 +229,16 @@ fn admit_word<'a>(
 {
     let cells = cells_within_limits(checked, word)?;
     admit_within(checked, rows, word, cells)
+}
+
+/// The word's score bound, which keeps the limits as it does.
+pub(crate) fn bound_of(problem: &Problem<'_>) -> u64
+    ensures bound { IsScoreBound problem.now.grammar problem.now.algebra (length problem.now.word) result }
+    ensures low { result ≤ greatest_score }
+    ensures kept { KeepsLimits problem.now.grammar problem.now.algebra (length problem.now.word) }
+{
+    problem.admissible();
+    problem.score_bound
 }
 
 /// The problem of a word that keeps the limits. Takes no memory.

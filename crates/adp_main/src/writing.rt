@@ -1,24 +1,24 @@
 //! The reports of words that keep the limits, found and written one by one.
-ghost use Rattle.std.specs.Prelude.{◌≡◌, ◌≤◌, List, ℕ, length};
+ghost use Rattle.std.specs.Prelude.{◌≡◌, ◌<◌, ◌≤◌, List, ℕ, get_or, length};
 ghost use Rattle.std.specs.List.{AllByRecursion};
 ghost use Rattle.adp_io.specs.Causes.{RisesWhere};
 ghost use Rattle.adp_io.specs.Streams.{SameTold};
 ghost use Rattle.verdicts.specs.Command.{ReadsJob};
-ghost use Rattle.adp_model.specs.ProblemFields.{IsAdmissible};
-ghost use Rattle.grammar_check.specs.ToldRows.{AreRowsOf};
+ghost use Rattle.verdicts.specs.SecondAlgebra.{IsAdmissibleWith};
 ghost use Rattle.adp_main.specs.Faults.{status_after};
-ghost use Rattle.adp_main.specs.Posed.{posed_words};
+ghost use Rattle.adp_main.specs.Posed.{posed_word, posed_words};
 ghost use Rattle.adp_main.specs.Reporting.{AreReportsOf, AreShort, HasWritten};
 ghost use Rattle.adp_main.specs.RunNotes.{AreNoted, IsRunOf};
+ghost use Rattle.adp_main.specs.Seconds.{AreJobRows, IsSecondOf};
 ghost use Rattle.adp_main.specs.Writing.{IsReportWritten, IsWordEnding};
 ghost use Rattle.adp_main.specs.declared.status.Status.TheVariants.{WriteFault};
 
-use crate::limits::admitted;
-use crate::{best, replay, serial, wins};
+use crate::checking::CheckedJob;
+use crate::limits::{JobRows, admitted};
+use crate::{best, lex, replay, serial, wins};
 use adp_io::{Sink, write_whole};
-use adp_model::{Problem, Text};
+use adp_model::Text;
 use evaluators::Gate;
-use grammar_check::{BoundRows, Checked};
 use report::Fault;
 use std::alloc::Global;
 use std::thread::Threads;
@@ -31,33 +31,63 @@ pub(crate) fn write_words<R: Threads + Sync, K: Sink, G: Gate>(
     rt: &R,
     alloc: Global,
     command: &Command<'_>,
-    checked: &Checked,
-    rows: &BoundRows,
-    words: &[Text],
+    job: &CheckedJob,
+    rows: &JobRows,
     out: &mut K,
     gate: &mut G,
 ) -> Result<(), Fault>
     requires reads { ReadsJob command.now.mode }
-    requires few { length words.now ≤ 65536 }
-    requires rows { AreRowsOf checked.now rows.now }
-    requires known { AreShort rows.now.longest words.now }
-    requires admissible { AllByRecursion IsAdmissible
-        (posed_words checked.now.grammar checked.now.algebra words.now) }
+    requires few { length job.now.words ≤ 65536 }
+    requires second { IsSecondOf command.now.second job.now.checked job.now.second }
+    requires rows { AreJobRows job.now.checked job.now.second rows.now }
+    requires known { AreShort rows.now.first.longest job.now.words }
+    requires admissible { AllByRecursion (IsAdmissibleWith command.now.second)
+        (posed_words job.now.checked.grammar job.now.checked.algebra job.now.words) }
     ensures told { SameTold (K.held out.old) (K.held out.new) }
     ensures faults { RisesWhere (K.faults out.old) (K.faults out.new) (status_after result ≡ WriteFault) }
     ensures written { (reports : List (List ℕ))
-        × AreReportsOf command.now 1 (posed_words checked.now.grammar checked.now.algebra words.now) reports
+        × AreReportsOf command.now 1
+        (posed_words job.now.checked.grammar job.now.checked.algebra job.now.words) reports
         × HasWritten result (K.held out.old) (K.held out.new) reports }
-    ensures noted { AreNoted command.now (posed_words checked.now.grammar checked.now.algebra words.now)
+    ensures noted { AreNoted command.now
+        (posed_words job.now.checked.grammar job.now.checked.algebra job.now.words)
         (status_after result) (G.runs gate.old) (G.runs gate.new) (K.held out.old) (K.held out.new) }
 {
     command.in_range();
     words_have_reports();
+    let words = job.words.as_slice();
     for (place, word) in words.iter().enumerate() {
-        let problem = admitted(checked, rows, word);
-        write_word(rt, alloc, command, place as u32 + 1, &problem, out, gate)?;
+        is_admitted(command, job, rows, words, place, word);
+        let number = place as u32 + 1;
+        write_word(rt, alloc, command, number, job, rows, word, out, gate)?;
     }
     Ok(())
+}
+
+/// The word at this place is admitted, as all are. Does nothing when it runs.
+fn is_admitted(
+    command: &Command<'_>,
+    job: &CheckedJob,
+    rows: &JobRows,
+    words: &[Text],
+    place: usize,
+    word: &Text,
+)
+    requires words { words.now ≡ job.now.words }
+    requires inside { place < length words.now }
+    requires word { word.now ≡ get_or words.now place word.now }
+    requires known { AreShort rows.now.first.longest job.now.words }
+    requires admissible { AllByRecursion (IsAdmissibleWith command.now.second)
+        (posed_words job.now.checked.grammar job.now.checked.algebra job.now.words) }
+    ensures known { length word.now ≤ rows.now.first.longest }
+    ensures admissible { IsAdmissibleWith command.now.second
+        (posed_word job.now.checked.grammar job.now.checked.algebra word.now) }
+{
+    let _ = &command.mode;
+    let _ = &job.words;
+    let _ = &rows.first;
+    let _ = (words.len(), place);
+    let _ = word.bytes();
 }
 
 /// Reports a word in the command's mode.
@@ -66,21 +96,31 @@ fn write_word<R: Threads + Sync, K: Sink, G: Gate>(
     alloc: Global,
     command: &Command<'_>,
     number: u32,
-    problem: &Problem<'_>,
+    job: &CheckedJob,
+    rows: &JobRows,
+    word: &Text,
     out: &mut K,
     gate: &mut G,
 ) -> Result<(), Fault>
     requires reads { ReadsJob command.now.mode }
+    requires second { IsSecondOf command.now.second job.now.checked job.now.second }
+    requires rows { AreJobRows job.now.checked job.now.second rows.now }
+    requires known { length word.now ≤ rows.now.first.longest }
+    requires admissible { IsAdmissibleWith command.now.second
+        (posed_word job.now.checked.grammar job.now.checked.algebra word.now) }
     ensures told { SameTold (K.held out.old) (K.held out.new) }
     ensures faults { RisesWhere (K.faults out.old) (K.faults out.new) (status_after result ≡ WriteFault) }
-    ensures ending { IsWordEnding (IsRunOf command.now number problem.now) result
+    ensures ending { IsWordEnding (IsRunOf command.now number
+        (posed_word job.now.checked.grammar job.now.checked.algebra word.now)) result
         (G.runs gate.old) (G.runs gate.new) (K.held out.old) (K.held out.new) }
 {
+    let problem = admitted(&job.checked, &rows.first, word);
     match command.mode {
-        Mode::Best => best::report_word(rt, alloc, command, number, problem, out, gate),
-        Mode::Serial => serial::report_word(alloc, number, problem, out),
-        Mode::Wins => wins::report_word(rt, alloc, command, number, problem, out, gate),
-        Mode::Replay => replay::report_word(alloc, command, number, problem, out, gate),
+        Mode::Best => best::report_word(rt, alloc, command, number, &problem, out, gate),
+        Mode::Serial => serial::report_word(alloc, number, &problem, out),
+        Mode::Wins => wins::report_word(rt, alloc, command, number, &problem, out, gate),
+        Mode::Replay => replay::report_word(alloc, command, number, &problem, out, gate),
+        Mode::Lex => lex::report_word(rt, alloc, command, number, job, rows, word, out, gate),
         Mode::Big => unreachable!(),
     }
 }

@@ -11,7 +11,7 @@ use anyhow::{Context, Result};
 use std::fs;
 
 // The files of cases, in order.
-const FILES: [&str; 8] = [
+const FILES: [&str; 9] = [
     "first.cases",
     "commands.cases",
     "texts.cases",
@@ -20,6 +20,7 @@ const FILES: [&str; 8] = [
     "faults.cases",
     "workers.cases",
     "replay.cases",
+    "lex.cases",
 ];
 
 fn main(rt: HostRuntime) -> Result<()> {

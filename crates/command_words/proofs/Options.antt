@@ -5,11 +5,11 @@ use Rattle.std.proofs.lemmas.List.Elements.{All-nil, All-cons, All-head, All-tai
 use lib.Pointwise.{pointwise}
 use Rattle.adp_model.specs.WellFormed.{is_name}
 use Rattle.verdicts.specs.declared.command.Mode.{Mode}
-use Rattle.verdicts.specs.declared.command.Mode.TheVariants.{Best, Serial, Wins, Replay, Big}
-use Rattle.verdicts.specs.Command.{Setting, Algebra, Workers, Seed, Schedule, Size, Allows, AreSettings, AreSetOnce, IsValue, IsCommand, HasCommand, algebra_set, workers_set, seed_set, schedule_set, size_set, mode_word, option_word}
+use Rattle.verdicts.specs.declared.command.Mode.TheVariants.{Best, Serial, Wins, Replay, Lex, Big}
+use Rattle.verdicts.specs.Command.{Setting, Algebra, Then, Workers, Seed, Schedule, Size, Allows, AreSettings, AreSetOnce, IsValue, IsCommand, HasCommand, algebra_set, second_set, workers_set, seed_set, schedule_set, size_set, mode_word, option_word}
 use Rattle.verdicts.specs.ScheduleText.{machines_of, is_schedule}
 use Rattle.command_words.specs.OptionValues.{OptionValues}
-use Rattle.command_words.specs.Settings.{Adds, AddsWorkers, AddsSeed, AddsSize, Suits}
+use Rattle.command_words.specs.Settings.{Adds, AddsSchedule, AddsWorkers, AddsSeed, AddsSize, Suits}
 
 -- ---- one option
 
@@ -43,6 +43,11 @@ module _ (before : OptionValues) (option value : List ℕ) where
       → Refuses before option value
   not_seed is refuses (Seed seed) after adds = refuses seed after adds.1
   not_seed is refuses setting after adds = omega (arith, ap fourth_letter (sym is ∙ adds.0))
+
+  pub not_schedule : option ≡ option_word (Schedule [])
+      → ((after : OptionValues) → AddsSchedule before value after → ⊥) → Refuses before option value
+  not_schedule is refuses (Schedule machines) after adds = refuses after adds.2
+  not_schedule is refuses setting after adds = omega (arith, ap fourth_letter (sym is ∙ adds.0))
 
   pub not_size : option ≡ option_word (Size 0)
       → ((size : ℕ) (after : OptionValues) → AddsSize before value size after → ⊥)
@@ -78,6 +83,7 @@ pub record AreRead (words : List (List ℕ)) (state : OptionValues) : Type 0 whe
   pub set : AreSettings words settings
   pub once : AreSetOnce settings
   pub algebra : state.algebra ≡ algebra_set settings
+  pub second : state.second ≡ second_set settings
   pub workers : state.workers ≡ workers_found settings
   pub seed : state.seed ≡ seed_found settings
   pub schedule : state.schedule ≡ schedule_found settings
@@ -144,6 +150,11 @@ module _ (text : List ℕ) where
   no_algebra (Algebra other ∷ settings) e = cc
   no_algebra (setting ∷ settings) e = no_algebra settings e
 
+  no_second : (settings : List Setting) → second_set settings ≡ None → occurs (Then text) settings ≡ false
+  no_second [] e = refl
+  no_second (Then other ∷ settings) e = cc
+  no_second (setting ∷ settings) e = no_second settings e
+
   no_schedule : (settings : List Setting) → schedule_found settings ≡ None → occurs (Schedule text) settings ≡ false
   no_schedule [] e = refl
   no_schedule (Schedule other ∷ settings) e = cc
@@ -153,6 +164,11 @@ module _ (text : List ℕ) where
   free_algebra [] e = refl
   free_algebra (Algebra other ∷ settings) e = cc
   free_algebra (setting ∷ settings) e = free_algebra settings e
+
+  free_second : (settings : List Setting) → occurs (Then text) settings ≡ false → second_set settings ≡ None
+  free_second [] e = refl
+  free_second (Then other ∷ settings) e = cc
+  free_second (setting ∷ settings) e = free_second settings e
 
   free_schedule : (settings : List Setting) → occurs (Schedule text) settings ≡ false → schedule_found settings ≡ None
   free_schedule [] e = refl
@@ -190,6 +206,19 @@ module _ (option value : List ℕ) (words : List (List ℕ)) (before after : Opt
     once = once_more (Algebra named) read.settings
         (no_algebra named read.settings (sym read.algebra ∙ adds.2.free)) read.once;
     algebra = ap (λ (s : OptionValues). s.algebra) adds.2.set ∙ ap Some (sym adds.1);
+    second = ap (λ (s : OptionValues). s.second) adds.2.set ∙ read.second;
+    workers = ap (λ (s : OptionValues). s.workers) adds.2.set ∙ read.workers;
+    seed = ap (λ (s : OptionValues). s.seed) adds.2.set ∙ read.seed;
+    schedule = ap (λ (s : OptionValues). s.schedule) adds.2.set ∙ read.schedule;
+    size = ap (λ (s : OptionValues). s.size) adds.2.set ∙ read.size;
+  }
+  read_more (Then named) adds read = record {
+    settings = Then named ∷ read.settings;
+    set = (adds.0, (adds.2.name, adds.1), read.set);
+    once = once_more (Then named) read.settings
+        (no_second named read.settings (sym read.second ∙ adds.2.free)) read.once;
+    algebra = ap (λ (s : OptionValues). s.algebra) adds.2.set ∙ read.algebra;
+    second = ap (λ (s : OptionValues). s.second) adds.2.set ∙ ap Some (sym adds.1);
     workers = ap (λ (s : OptionValues). s.workers) adds.2.set ∙ read.workers;
     seed = ap (λ (s : OptionValues). s.seed) adds.2.set ∙ read.seed;
     schedule = ap (λ (s : OptionValues). s.schedule) adds.2.set ∙ read.schedule;
@@ -201,6 +230,7 @@ module _ (option value : List ℕ) (words : List (List ℕ)) (before after : Opt
     once = once_more (Workers workers) read.settings
         (no_workers workers read.settings (sym read.workers ∙ adds.1.free)) read.once;
     algebra = ap (λ (s : OptionValues). s.algebra) adds.1.set ∙ read.algebra;
+    second = ap (λ (s : OptionValues). s.second) adds.1.set ∙ read.second;
     workers = ap (λ (s : OptionValues). s.workers) adds.1.set;
     seed = ap (λ (s : OptionValues). s.seed) adds.1.set ∙ read.seed;
     schedule = ap (λ (s : OptionValues). s.schedule) adds.1.set ∙ read.schedule;
@@ -211,6 +241,7 @@ module _ (option value : List ℕ) (words : List (List ℕ)) (before after : Opt
     set = (adds.0, (adds.1.number, adds.1.fits), read.set);
     once = once_more (Seed seed) read.settings (no_seed seed read.settings (sym read.seed ∙ adds.1.free)) read.once;
     algebra = ap (λ (s : OptionValues). s.algebra) adds.1.set ∙ read.algebra;
+    second = ap (λ (s : OptionValues). s.second) adds.1.set ∙ read.second;
     workers = ap (λ (s : OptionValues). s.workers) adds.1.set ∙ read.workers;
     seed = ap (λ (s : OptionValues). s.seed) adds.1.set;
     schedule = ap (λ (s : OptionValues). s.schedule) adds.1.set ∙ read.schedule;
@@ -222,6 +253,7 @@ module _ (option value : List ℕ) (words : List (List ℕ)) (before after : Opt
     once = once_more (Schedule named) read.settings
         (no_schedule named read.settings (sym read.schedule ∙ adds.2.free)) read.once;
     algebra = ap (λ (s : OptionValues). s.algebra) adds.2.set ∙ read.algebra;
+    second = ap (λ (s : OptionValues). s.second) adds.2.set ∙ read.second;
     workers = ap (λ (s : OptionValues). s.workers) adds.2.set ∙ read.workers;
     seed = ap (λ (s : OptionValues). s.seed) adds.2.set ∙ read.seed;
     schedule = ap (λ (s : OptionValues). s.schedule) adds.2.set ∙ ap Some (sym adds.1);
@@ -232,6 +264,7 @@ module _ (option value : List ℕ) (words : List (List ℕ)) (before after : Opt
     set = (adds.0, (adds.1.number, adds.1.some, adds.1.small), read.set);
     once = once_more (Size size) read.settings (no_size size read.settings (sym read.size ∙ adds.1.free)) read.once;
     algebra = ap (λ (s : OptionValues). s.algebra) adds.1.set ∙ read.algebra;
+    second = ap (λ (s : OptionValues). s.second) adds.1.set ∙ read.second;
     workers = ap (λ (s : OptionValues). s.workers) adds.1.set ∙ read.workers;
     seed = ap (λ (s : OptionValues). s.seed) adds.1.set ∙ read.seed;
     schedule = ap (λ (s : OptionValues). s.schedule) adds.1.set ∙ read.schedule;
@@ -243,6 +276,7 @@ module _ (option value : List ℕ) (words : List (List ℕ)) (before after : Opt
 setting_unique : (option value : List ℕ) (s t : Setting) → option ≡ option_word s → IsValue value s
     → option ≡ option_word t → IsValue value t → s ≡ t
 setting_unique option value (Algebra a) (Algebra b) e f g h = ap Algebra (f.1 ∙ sym h.1)
+setting_unique option value (Then a) (Then b) e f g h = ap Then (f.1 ∙ sym h.1)
 setting_unique option value (Workers a) (Workers b) e f g h = ap Workers (f.0.1 ∙ sym h.0.1)
 setting_unique option value (Seed a) (Seed b) e f g h = ap Seed (f.0.1 ∙ sym h.0.1)
 setting_unique option value (Schedule a) (Schedule b) e f g h = ap Schedule (f.1 ∙ sym h.1)
@@ -295,6 +329,11 @@ module _ (option value : List ℕ) (words : List (List ℕ)) (before : OptionVal
       let free : before.algebra ≡ None = read.algebra ∙ ap algebra_set same ∙ free_algebra named ss absent in
       refuses (Algebra named) (record before { algebra = Some value })
       (is, value_is.1, record { free = free; name = value_is.0; set = refl })
+  refused_by (Then named) ss is value_is set absent =
+      let same = settings_unique words read.settings ss read.set set in
+      let free : before.second ≡ None = read.second ∙ ap second_set same ∙ free_second named ss absent in
+      refuses (Then named) (record before { second = Some value })
+      (is, value_is.1, record { free = free; name = value_is.0; set = refl })
   refused_by (Workers workers) ss is value_is set absent =
       let same = settings_unique words read.settings ss read.set set in
       let free : before.workers ≡ None = read.workers ∙ ap workers_found same ∙ free_workers workers ss absent in
@@ -329,28 +368,78 @@ mode_same Best Best e = refl
 mode_same Serial Serial e = refl
 mode_same Wins Wins e = refl
 mode_same Replay Replay e = refl
+mode_same Lex Lex e = refl
 mode_same Big Big e = refl
 mode_same a b e = absurd (omega (arith, ap (λ (w : List ℕ). get_or w 2 0) e))
 
 module _ (mode : Mode) where
   -- each option is one that is not set, or that the mode allows
-  all_allowed : (settings : List Setting) → IsNone (algebra_set settings) ⊎ (mode ≡ Big → ⊥)
-      → IsNone (schedule_found settings) ⊎ (mode ≡ Replay) → IsNone (size_found settings) ⊎ (mode ≡ Big)
-      → All (Allows mode) settings
-  all_allowed [] named scheduled sized = All-nil (Allows mode)
-  all_allowed (Algebra name ∷ settings) (inl none) scheduled sized = absurd cc
-  all_allowed (Algebra name ∷ settings) (inr allowed) scheduled sized =
-      All-cons (Allows mode) (Algebra name) settings allowed (all_allowed settings (inr allowed) scheduled sized)
-  all_allowed (Workers workers ∷ settings) named scheduled sized =
-      All-cons (Allows mode) (Workers workers) settings tt (all_allowed settings named scheduled sized)
-  all_allowed (Seed seed ∷ settings) named scheduled sized =
-      All-cons (Allows mode) (Seed seed) settings tt (all_allowed settings named scheduled sized)
-  all_allowed (Schedule machines ∷ settings) named (inl none) sized = absurd cc
-  all_allowed (Schedule machines ∷ settings) named (inr allowed) sized =
-      All-cons (Allows mode) (Schedule machines) settings allowed (all_allowed settings named (inr allowed) sized)
-  all_allowed (Size size ∷ settings) named scheduled (inl none) = absurd cc
-  all_allowed (Size size ∷ settings) named scheduled (inr allowed) =
-      All-cons (Allows mode) (Size size) settings allowed (all_allowed settings named scheduled (inr allowed))
+  record CanBeSet (settings : List Setting) : Type 0 where
+    algebra : IsNone (algebra_set settings) ⊎ (mode ≡ Big → ⊥)
+    second : IsNone (second_set settings) ⊎ (mode ≡ Lex)
+    schedule : IsNone (schedule_found settings) ⊎ (mode ≡ Replay)
+    size : IsNone (size_found settings) ⊎ (mode ≡ Big)
+
+  all_allowed : (settings : List Setting) → CanBeSet settings → All (Allows mode) settings
+  all_allowed [] can = All-nil (Allows mode)
+  all_allowed (Algebra name ∷ settings) can =
+      All-cons (Allows mode) (Algebra name) settings (allowed can.algebra) (all_allowed settings (record {
+        algebra = inr (allowed can.algebra);
+        second = can.second;
+        schedule = can.schedule;
+        size = can.size;
+      }))
+    where
+      allowed : IsNone (Some name) ⊎ (mode ≡ Big → ⊥) → mode ≡ Big → ⊥
+      allowed (inl none) = absurd cc
+      allowed (inr other) = other
+  all_allowed (Then name ∷ settings) can =
+      All-cons (Allows mode) (Then name) settings (allowed can.second) (all_allowed settings (record {
+        algebra = can.algebra;
+        second = inr (allowed can.second);
+        schedule = can.schedule;
+        size = can.size;
+      }))
+    where
+      allowed : IsNone (Some name) ⊎ (mode ≡ Lex) → mode ≡ Lex
+      allowed (inl none) = absurd cc
+      allowed (inr lex) = lex
+  all_allowed (Workers workers ∷ settings) can =
+      All-cons (Allows mode) (Workers workers) settings tt (all_allowed settings (record {
+        algebra = can.algebra;
+        second = can.second;
+        schedule = can.schedule;
+        size = can.size;
+      }))
+  all_allowed (Seed seed ∷ settings) can =
+      All-cons (Allows mode) (Seed seed) settings tt (all_allowed settings (record {
+        algebra = can.algebra;
+        second = can.second;
+        schedule = can.schedule;
+        size = can.size;
+      }))
+  all_allowed (Schedule machines ∷ settings) can =
+      All-cons (Allows mode) (Schedule machines) settings (allowed can.schedule) (all_allowed settings (record {
+        algebra = can.algebra;
+        second = can.second;
+        schedule = inr (allowed can.schedule);
+        size = can.size;
+      }))
+    where
+      allowed : IsNone (Some machines) ⊎ (mode ≡ Replay) → mode ≡ Replay
+      allowed (inl none) = absurd cc
+      allowed (inr replay) = replay
+  all_allowed (Size size ∷ settings) can =
+      All-cons (Allows mode) (Size size) settings (allowed can.size) (all_allowed settings (record {
+        algebra = can.algebra;
+        second = can.second;
+        schedule = can.schedule;
+        size = inr (allowed can.size);
+      }))
+    where
+      allowed : IsNone (Some size) ⊎ (mode ≡ Big) → mode ≡ Big
+      allowed (inl none) = absurd cc
+      allowed (inr big) = big
 
   never_named : (settings : List Setting) → mode ≡ Big → All (Allows mode) settings
       → IsNone (algebra_set settings)
@@ -358,6 +447,14 @@ module _ (mode : Mode) where
   never_named (Algebra name ∷ settings) big all =
       absurd (All-head (Allows mode) (Algebra name) settings all big)
   never_named (setting ∷ settings) big all = never_named settings big (All-tail (Allows mode) setting settings all)
+
+  never_second : (settings : List Setting) → (mode ≡ Lex → ⊥) → All (Allows mode) settings
+      → IsNone (second_set settings)
+  never_second [] other all = refl
+  never_second (Then name ∷ settings) other all =
+      absurd (other (All-head (Allows mode) (Then name) settings all))
+  never_second (setting ∷ settings) other all =
+      never_second settings other (All-tail (Allows mode) setting settings all)
 
   never_scheduled : (settings : List Setting) → (mode ≡ Replay → ⊥) → All (Allows mode) settings
       → IsNone (schedule_found settings)
@@ -408,7 +505,7 @@ set_schedule (option ∷ value ∷ words) (Schedule machines ∷ ss) set found =
     has_machines value machines set.1.0 set.1.1
 set_schedule (option ∷ value ∷ words) (s ∷ ss) set found = set_schedule words ss set.2 found
 
--- a name that is set is one
+-- names that are set are names
 set_name : (words : List (List ℕ)) (settings : List Setting) → AreSettings words settings
     → IfSome (algebra_set settings) (λ name. IsTrue (is_name name))
 set_name words [] set = tt
@@ -418,35 +515,55 @@ set_name (option ∷ value ∷ words) (Algebra name ∷ ss) set =
     subst (λ (it : List ℕ). IsTrue (is_name it)) (sym set.1.1) set.1.0
 set_name (option ∷ value ∷ words) (s ∷ ss) set = set_name words ss set.2
 
+set_second : (words : List (List ℕ)) (settings : List Setting) → AreSettings words settings
+    → IfSome (second_set settings) (λ name. IsTrue (is_name name))
+set_second words [] set = tt
+set_second [] (s ∷ ss) set = absurd set
+set_second (option ∷ []) (s ∷ ss) set = absurd set
+set_second (option ∷ value ∷ words) (Then name ∷ ss) set =
+    subst (λ (it : List ℕ). IsTrue (is_name it)) (sym set.1.1) set.1.0
+set_second (option ∷ value ∷ words) (s ∷ ss) set = set_second words ss set.2
+
 -- what was read suits the mode exactly where its options are allowed, and those that it needs are set
 module _ (words : List (List ℕ)) (state : OptionValues) (read : AreRead words state) where
-  allowed_by : (mode : Mode) → IsNone state.algebra ⊎ (mode ≡ Big → ⊥)
+  allowed_by : (mode : Mode) → IsNone state.algebra ⊎ (mode ≡ Big → ⊥) → IsNone state.second ⊎ (mode ≡ Lex)
       → IsNone state.schedule ⊎ (mode ≡ Replay) → IsNone state.size ⊎ (mode ≡ Big)
       → All (Allows mode) read.settings
-  allowed_by mode named scheduled sized =
-      all_allowed mode read.settings (subst (λ o. IsNone o ⊎ (mode ≡ Big → ⊥)) read.algebra named)
-      (subst (λ o. IsNone o ⊎ (mode ≡ Replay)) read.schedule scheduled)
-      (subst (λ o. IsNone o ⊎ (mode ≡ Big)) read.size sized)
+  allowed_by mode named seconded scheduled sized =
+      all_allowed mode read.settings (record {
+        algebra = subst (λ o. IsNone o ⊎ (mode ≡ Big → ⊥)) read.algebra named;
+        second = subst (λ o. IsNone o ⊎ (mode ≡ Lex)) read.second seconded;
+        schedule = subst (λ o. IsNone o ⊎ (mode ≡ Replay)) read.schedule scheduled;
+        size = subst (λ o. IsNone o ⊎ (mode ≡ Big)) read.size sized;
+      })
 
   suited_allowed : (mode : Mode) → Suits mode state → All (Allows mode) read.settings
-  suited_allowed Replay suits = allowed_by Replay (inr (λ e. cc)) (inr refl) (inl suits.1)
-  suited_allowed Big suits = allowed_by Big (inl suits.0) (inl suits.1) (inr refl)
-  suited_allowed mode suits = allowed_by mode (inr (λ e. cc)) (inl suits.0) (inl suits.1)
+  suited_allowed Replay suits = allowed_by Replay (inr (λ e. cc)) (inl suits.0) (inr refl) (inl suits.2)
+  suited_allowed Lex suits = allowed_by Lex (inr (λ e. cc)) (inr refl) (inl suits.1) (inl suits.2)
+  suited_allowed Big suits = allowed_by Big (inl suits.0) (inl suits.1) (inl suits.2) (inr refl)
+  suited_allowed mode suits = allowed_by mode (inr (λ e. cc)) (inl suits.0) (inl suits.1) (inl suits.2)
+
+  suited_second : (mode : Mode) → Suits mode state → mode ≡ Lex → IsSome state.second
+  suited_second Lex suits e = suits.0
+  suited_second mode suits e = absurd cc
 
   suited_scheduled : (mode : Mode) → Suits mode state → mode ≡ Replay → 1 ≤ length (schedule_set read.settings)
   suited_scheduled Replay suits e =
-      set_schedule words read.settings read.set (subst (λ o. IsSome o) read.schedule suits.0)
+      set_schedule words read.settings read.set (subst (λ o. IsSome o) read.schedule suits.1)
   suited_scheduled mode suits e = absurd cc
 
   suited_sized : (mode : Mode) → Suits mode state → mode ≡ Big → 1 ≤ size_set read.settings
   suited_sized Big suits e =
-      set_size words read.settings read.set (subst (λ o. IsSome o) read.size suits.2)
+      set_size words read.settings read.set (subst (λ o. IsSome o) read.size suits.3)
   suited_sized mode suits e = absurd cc
 
   -- what is allowed and set by a command
   module _ (mode : Mode) (allowed : All (Allows mode) read.settings) where
     unnamed : mode ≡ Big → IsNone state.algebra
     unnamed big = subst (λ o. IsNone o) (sym read.algebra) (never_named mode read.settings big allowed)
+
+    unseconded : (mode ≡ Lex → ⊥) → IsNone state.second
+    unseconded other = subst (λ o. IsNone o) (sym read.second) (never_second mode read.settings other allowed)
 
     unscheduled : (mode ≡ Replay → ⊥) → IsNone state.schedule
     unscheduled other =
@@ -455,20 +572,24 @@ module _ (words : List (List ℕ)) (state : OptionValues) (read : AreRead words 
     unsized : (mode ≡ Big → ⊥) → IsNone state.size
     unsized other = subst (λ o. IsNone o) (sym read.size) (never_sized mode read.settings other allowed)
 
-  suited : (mode : Mode) → All (Allows mode) read.settings
+  suited : (mode : Mode) → All (Allows mode) read.settings → (mode ≡ Lex → IsSome state.second)
       → (mode ≡ Replay → 1 ≤ length (schedule_set read.settings))
       → (mode ≡ Big → 1 ≤ size_set read.settings) → Suits mode state
-  suited Replay allowed scheduled sized = (
+  suited Replay allowed there scheduled sized = (
+    unseconded Replay allowed (λ e. cc),
     subst (λ o. IsSome o) (sym read.schedule) (some_schedule read.settings (scheduled refl)),
     unsized Replay allowed (λ e. cc),
   )
-  suited Big allowed scheduled sized = (
+  suited Lex allowed there scheduled sized =
+      (there refl, unscheduled Lex allowed (λ e. cc), unsized Lex allowed (λ e. cc))
+  suited Big allowed there scheduled sized = (
     unnamed Big allowed refl,
+    unseconded Big allowed (λ e. cc),
     unscheduled Big allowed (λ e. cc),
     subst (λ o. IsSome o) (sym read.size) (some_size read.settings (sized refl)),
   )
-  suited mode allowed scheduled sized =
-      (unscheduled mode allowed (λ e. cc), unsized mode allowed (λ e. cc))
+  suited mode allowed there scheduled sized =
+      (unseconded mode allowed (λ e. cc), unscheduled mode allowed (λ e. cc), unsized mode allowed (λ e. cc))
 
 -- ---- the words of the whole line
 
@@ -508,6 +629,7 @@ module _ (words : List (List ℕ)) (first : List ℕ) (mode : Mode) (state : Opt
       → IsCommand words (record {
         mode = mode;
         algebra = state.algebra;
+        second = state.second;
         workers = workers;
         seed = seed;
         schedule = unwrap_or state.schedule [];
@@ -526,10 +648,12 @@ module _ (words : List (List ℕ)) (first : List ℕ) (mode : Mode) (state : Opt
         once = read.once;
         allowed = suited_allowed (drop 1 words) state read mode suits;
         algebra_is = read.algebra;
+        second_is = read.second;
         workers_are = w ∙ ap (λ (o : Option ℕ). unwrap_or o 1) read.workers ∙ workers_is read.settings;
         seed_is = s ∙ ap (λ (o : Option ℕ). unwrap_or o 0) read.seed ∙ seed_is read.settings;
         schedule_is = schedule_set_is;
         size_is = size_set_is;
+        paired = λ lex. suited_second (drop 1 words) state read mode suits lex;
         scheduled = λ replay. subst (λ (machines : List ℕ). 1 ≤ length machines) (sym schedule_set_is)
             (suited_scheduled (drop 1 words) state read mode suits replay);
         sized = λ big. subst (λ (n : ℕ). 1 ≤ n) (sym size_set_is)
@@ -547,9 +671,11 @@ module _ (words : List (List ℕ)) (first : List ℕ) (mode : Mode) (state : Opt
       let same = settings_unique (drop 1 words) h.settings read.settings set read.set in
       let allowed = subst (λ m. All (Allows m) read.settings) same_mode
       (subst (λ (ss : List Setting). All (Allows command.mode) ss) same h.allowed) in
+      let second_by = h.second_is ∙ ap second_set same ∙ sym read.second in
       let scheduled_by = h.schedule_is ∙ ap schedule_set same in
       let sized_by = h.size_is ∙ ap size_set same in
       refuses (suited (drop 1 words) state read mode allowed
+      (λ lex. subst (λ o. IsSome o) second_by (h.paired (same_mode ∙ lex)))
       (λ replay. subst (λ (machines : List ℕ). 1 ≤ length machines) scheduled_by (h.scheduled (same_mode ∙ replay)))
       (λ big. subst (λ (n : ℕ). 1 ≤ n) sized_by (h.sized (same_mode ∙ big))))
 
@@ -616,6 +742,7 @@ module _ {A : Type 0} (f : A → List ℕ) where
         → IsCommand (map f words) (record {
           mode = mode;
           algebra = state.algebra;
+          second = state.second;
           workers = workers;
           seed = seed;
           schedule = unwrap_or state.schedule [];
@@ -625,11 +752,16 @@ module _ {A : Type 0} (f : A → List ℕ) where
         all_read (map f words) (f first) mode state (drop_one words 0 first some is) (sym is_text ∙ is_mode)
         read_from_one
 
-    -- a name that is set is one
+    -- names that are set are names
     pub is_named : IfSome state.algebra (λ name. IsTrue (is_name name))
     is_named =
         subst (λ o. IfSome o (λ name. IsTrue (is_name name))) (sym read_from_one.algebra)
         (set_name (drop 1 (map f words)) read_from_one.settings read_from_one.set)
+
+    pub is_second_named : IfSome state.second (λ name. IsTrue (is_name name))
+    is_second_named =
+        subst (λ o. IfSome o (λ name. IsTrue (is_name name))) (sym read_from_one.second)
+        (set_second (drop 1 (map f words)) read_from_one.settings read_from_one.set)
 
     -- what was read does not suit the mode
     pub refuse : (Suits mode state → ⊥) → HasCommand (map f words) → ⊥

@@ -2,8 +2,8 @@
 use Rattle.std.specs.Prelude.{◌≡◌, ℕ, ◌^◌, ◌<◌, ◌≤◌, List, Some, None, IsNone, IsSome, IsTrue}
 use Rattle.adp_model.specs.WellFormed.{is_name}
 use Rattle.verdicts.specs.declared.command.Mode.{Mode}
-use Rattle.verdicts.specs.declared.command.Mode.TheVariants.{Replay, Big}
-use Rattle.verdicts.specs.Command.{IsNumberWord, Setting, Algebra, Workers, Seed, Schedule, Size, greatest_size, option_word}
+use Rattle.verdicts.specs.declared.command.Mode.TheVariants.{Replay, Lex, Big}
+use Rattle.verdicts.specs.Command.{IsNumberWord, Setting, Algebra, Then, Workers, Seed, Schedule, Size, greatest_size, option_word}
 use Rattle.verdicts.specs.ScheduleText.{is_schedule, machines_of}
 use Rattle.command_words.specs.OptionValues.{OptionValues}
 
@@ -12,6 +12,12 @@ pub record AddsAlgebra (before : OptionValues) (value : List ℕ) (after : Optio
   pub free : before.algebra ≡ None
   pub name : IsTrue (is_name value)
   pub set : after ≡ record before { algebra = Some value }
+
+-- the second algebra is not set before, the value is a name, and then it is set
+pub record AddsSecond (before : OptionValues) (value : List ℕ) (after : OptionValues) : Type 0 where
+  pub free : before.second ≡ None
+  pub name : IsTrue (is_name value)
+  pub set : after ≡ record before { second = Some value }
 
 -- the option is not set before, the value is a number from 1 to 32, and then it is set
 pub record AddsWorkers (before : OptionValues) (value : List ℕ) (workers : ℕ) (after : OptionValues) : Type 0 where
@@ -46,6 +52,8 @@ pub record AddsSize (before : OptionValues) (value : List ℕ) (size : ℕ) (aft
 abbrev pub Adds : OptionValues → List ℕ → List ℕ → Setting → OptionValues → Type 0
 Adds before option value (Algebra name) after =
     (option ≡ option_word (Algebra name)) × (name ≡ value) × AddsAlgebra before value after
+Adds before option value (Then name) after =
+    (option ≡ option_word (Then name)) × (name ≡ value) × AddsSecond before value after
 Adds before option value (Workers workers) after =
     (option ≡ option_word (Workers workers)) × AddsWorkers before value workers after
 Adds before option value (Seed seed) after =
@@ -57,6 +65,7 @@ Adds before option value (Size size) after =
 
 -- the options that are set are those that the mode allows, and those that it needs are among them
 abbrev pub Suits : Mode → OptionValues → Type 0
-Suits Replay set = IsSome set.schedule × IsNone set.size
-Suits Big set = IsNone set.algebra × IsNone set.schedule × IsSome set.size
-Suits mode set = IsNone set.schedule × IsNone set.size
+Suits Replay set = IsNone set.second × IsSome set.schedule × IsNone set.size
+Suits Lex set = IsSome set.second × IsNone set.schedule × IsNone set.size
+Suits Big set = IsNone set.algebra × IsNone set.second × IsNone set.schedule × IsSome set.size
+Suits mode set = IsNone set.second × IsNone set.schedule × IsNone set.size

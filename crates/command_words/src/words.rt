@@ -4,7 +4,7 @@ ghost use Rattle.std.specs.Str.Parse.{IsNumeral, digits_value};
 ghost use Rattle.verdicts.specs.declared.command.Mode.{Mode as AnyMode};
 ghost use Rattle.verdicts.specs.Command.{HasCommand, IsCommand, Setting, mode_word};
 ghost use Rattle.command_words.specs.OptionValues.{OptionValues};
-ghost use Rattle.command_words.specs.Settings.{Adds, AddsAlgebra, AddsSchedule, AddsSeed, AddsSize, AddsWorkers, Suits};
+ghost use Rattle.command_words.specs.Settings.{Adds, AddsAlgebra, AddsSchedule, AddsSecond, AddsSeed, AddsSize, AddsWorkers, Suits};
 
 use crate::schedule::is_schedule;
 use adp_model::is_name;
@@ -36,6 +36,7 @@ pub fn read_words<'w>(words: &'w [String]) -> Result<Command<'w>, Usage>
     let mode = read_mode(words[0].as_str())?;
     let mut set = Settings {
         algebra: None,
+        second: None,
         workers: None,
         seed: None,
         schedule: None,
@@ -52,6 +53,7 @@ pub fn read_words<'w>(words: &'w [String]) -> Result<Command<'w>, Usage>
     Ok(Command {
         mode,
         algebra: set.algebra,
+        second: set.second,
         workers: set.workers.unwrap_or(1),
         seed: set.seed.unwrap_or(0),
         schedule: set.schedule,
@@ -68,6 +70,7 @@ fn read_mode(word: &str) -> Result<Mode, Usage>
         "serial" => Ok(Mode::Serial),
         "wins" => Ok(Mode::Wins),
         "replay" => Ok(Mode::Replay),
+        "lex" => Ok(Mode::Lex),
         "big" => Ok(Mode::Big),
         _ => Err(Usage),
     }
@@ -77,6 +80,7 @@ fn read_mode(word: &str) -> Result<Mode, Usage>
 #[derive(Drop)]
 struct Settings<'w> {
     algebra: Option<&'w str>,
+    second: Option<&'w str>,
     workers: Option<u32>,
     seed: Option<u64>,
     schedule: Option<&'w str>,
@@ -101,6 +105,7 @@ impl<'w> Settings<'w> {
     {
         match option {
             "--algebra" => self.add_algebra(value),
+            "--then" => self.add_second(value),
             "--workers" => self.add_workers(value),
             "--seed" => self.add_seed(value),
             "--schedule" => self.add_schedule(value),
@@ -118,6 +123,19 @@ impl<'w> Settings<'w> {
         }
         Ok(Settings {
             algebra: Some(value),
+            ..self
+        })
+    }
+
+    fn add_second(self, value: &'w str) -> Result<Settings<'w>, Usage>
+        ensures added { IfOk result (λ after. AddsSecond self.entry value.now after) }
+        ensures refused { OnErr result ((after : OptionValues) → AddsSecond self.entry value.now after → ⊥) }
+    {
+        if self.second.is_some() || !is_name(value.as_bytes()) {
+            return Err(Usage);
+        }
+        Ok(Settings {
+            second: Some(value),
             ..self
         })
     }
@@ -183,11 +201,17 @@ impl<'w> Settings<'w> {
     {
         match mode {
             Mode::Best | Mode::Serial | Mode::Wins => {
-                self.schedule.is_none() && self.size.is_none()
+                self.second.is_none() && self.schedule.is_none() && self.size.is_none()
             }
-            Mode::Replay => self.schedule.is_some() && self.size.is_none(),
+            Mode::Replay => {
+                self.second.is_none() && self.schedule.is_some() && self.size.is_none()
+            }
+            Mode::Lex => self.second.is_some() && self.schedule.is_none() && self.size.is_none(),
             Mode::Big => {
-                self.algebra.is_none() && self.schedule.is_none() && self.size.is_some()
+                self.algebra.is_none()
+                    && self.second.is_none()
+                    && self.schedule.is_none()
+                    && self.size.is_some()
             }
         }
     }

@@ -1,5 +1,5 @@
 -- The compiled grammar: what stands in it, that it is well-formed, and that it passes the checks.
-use Rattle.std.proofs.Common.{◌≡◌, ◌<◌, ◌≤◌, ◌^◌, ◌-◌, ◌&&◌, ◌==◌, ℕ, zero, suc, ℤ, pos, nat_abs, Bool, true, false, IsTrue, List, [], ◌∷◌, length, map, slice_index_or, slice_set, refl, sym, ap, subst, ◌∙◌, arith, eq-eqb}
+use Rattle.std.proofs.Common.{◌≡◌, ◌<◌, ◌≤◌, ◌^◌, ◌-◌, ◌&&◌, ◌==◌, ℕ, zero, suc, ℤ, pos, nat_abs, Bool, true, false, IsTrue, Option, List, [], ◌∷◌, length, map, slice_index_or, slice_set, refl, sym, ap, subst, ◌∙◌, arith, eq-eqb}
 use Rattle.std.proofs.lemmas.Bool.{lt-ltb}
 use Rattle.std.proofs.lemmas.List.{length-set, get_or-set_same}
 use Rattle.std.proofs.lemmas.Int.{ints}
@@ -11,6 +11,7 @@ use Rattle.adp_model.specs.declared.grammar.Kind.{Kind}
 use Rattle.adp_model.specs.declared.grammar.Kind.TheVariants.{Score, Token}
 use Rattle.adp_model.specs.declared.grammar.Linear.{Linear}
 use Rattle.adp_model.specs.declared.grammar.Sign.{Sign}
+use Rattle.adp_model.specs.Checks.{IsChecked}
 use Rattle.adp_model.specs.Parts.{algebra_at, sign_at, term_for}
 use Rattle.adp_model.specs.ProblemFields.{greatest_score}
 use Rattle.adp_model.specs.Terms.{ScoreFactorsFrom, IsMonotone, CanHaveAny, KeepsOrder}
@@ -174,6 +175,28 @@ module _ (g : Grammar) (first second m : ℕ) (known : first < length g.algebras
 
 -- ---- the checks
 
+-- what the checks find is the same under the compiled algebra
+pub IsChecked-compiled : (g : Grammar) (first second m : ℕ) (least : List ℕ) (greatest : List (Option ℕ)) (ranks : List ℕ)
+    → IsChecked g first least greatest ranks → AreTermsOf g.signs (algebra_at g first).terms
+    → AreTermsOf g.signs (algebra_at g second).terms
+    → ((term : Linear) (kinds : List Kind) → IsMonotone term kinds → KeepsOrder CanHaveAny term kinds)
+    → greatest_compiled g first second m ≤ greatest_score → IsChecked (compiled_grammar g first second m) first least greatest ranks
+IsChecked-compiled g first second m least greatest ranks found fit fit' keeps low =
+    let algebras = slice_set g.algebras first (compiled_algebra g first second m) in
+    record {
+      well_formed = compiled_formed g first second m found.algebra_known fit fit' found.well_formed low;
+      algebra_known = omega (arith, found.algebra_known, length-set g.algebras first (compiled_algebra g first second m));
+      least_each = found.least_each;
+      greatest_each = found.greatest_each;
+      ranks_each = found.ranks_each;
+      least_are = λ rule inside. least_moved g algebras rule _ (found.least_are rule inside);
+      greatest_are = λ rule inside. greatest_moved g algebras rule _ (found.greatest_are rule inside);
+      ranks_fall = λ rule other edge. found.ranks_fall rule other (edge_moved (compiled_grammar g first second m) g.algebras rule other edge);
+      ranks_fit = found.ranks_fit;
+      orderly = λ sign inside. subst (λ t. KeepsOrder CanHaveAny t (sign_at g sign).kinds) (sym (compiled_term g first second m found.algebra_known fit fit' sign inside))
+          (keeps _ _ (joined_monotone m (has_same_goal g first second) (sign_at g sign).kinds (term_for g first sign).factors (term_for g second sign).factors));
+    }
+
 pub PassesChecks-compiled : (first : CheckedGrammar) (second m : ℕ) → PassesChecks first → AreTermsOf first.grammar.signs (algebra_at first.grammar first.algebra).terms
     → AreTermsOf first.grammar.signs (algebra_at first.grammar second).terms
     → ((term : Linear) (kinds : List Kind) → IsMonotone term kinds → KeepsOrder CanHaveAny term kinds)
@@ -182,19 +205,7 @@ PassesChecks-compiled first second m passes fit fit' keeps low =
     let g = first.grammar in
     let algebras = slice_set g.algebras first.algebra (compiled_algebra g first.algebra second m) in
     record {
-      found = record {
-        well_formed = compiled_formed g first.algebra second m passes.found.algebra_known fit fit' passes.found.well_formed low;
-        algebra_known = omega (arith, passes.found.algebra_known, length-set g.algebras first.algebra (compiled_algebra g first.algebra second m));
-        least_each = passes.found.least_each;
-        greatest_each = passes.found.greatest_each;
-        ranks_each = passes.found.ranks_each;
-        least_are = λ rule inside. least_moved g algebras rule _ (passes.found.least_are rule inside);
-        greatest_are = λ rule inside. greatest_moved g algebras rule _ (passes.found.greatest_are rule inside);
-        ranks_fall = λ rule other edge. passes.found.ranks_fall rule other (edge_moved (compiled_grammar g first.algebra second m) g.algebras rule other edge);
-        ranks_fit = passes.found.ranks_fit;
-        orderly = λ sign inside. subst (λ t. KeepsOrder CanHaveAny t (sign_at g sign).kinds) (sym (compiled_term g first.algebra second m passes.found.algebra_known fit fit' sign inside))
-            (keeps _ _ (joined_monotone m (has_same_goal g first.algebra second) (sign_at g sign).kinds (term_for g first.algebra sign).factors (term_for g second sign).factors));
-      };
+      found = IsChecked-compiled g first.algebra second m _ _ _ passes.found fit fit' keeps low;
       anchored = record {
         left = left_moved g algebras first.anchors.left passes.anchored.left;
         right = right_moved g algebras first.anchors.right passes.anchored.right;

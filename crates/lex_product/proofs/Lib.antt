@@ -8,3 +8,4 @@ pub mod CompiledScores
 pub mod SoundTrees
 pub mod PairLaw
 pub mod PairReports
+pub mod PairLimits

@@ -1,5 +1,5 @@
 -- The second grammar of a pair passes the checks that the first one passed, and a pair's faults by their names.
-use Rattle.std.proofs.Common.{◌≡◌, ◌<◌, ℕ, ℤ, pos, List, [], ◌∷◌, length, slice_index_or, sym, ap, subst, ◌∙◌, arith}
+use Rattle.std.proofs.Common.{◌≡◌, ◌<◌, ℕ, ℤ, pos, Option, List, [], ◌∷◌, length, slice_index_or, sym, ap, subst, ◌∙◌, arith}
 use Rattle.std.proofs.lemmas.Int.{ints}
 use Rattle.adp_model.specs.declared.fault.GrammarFault.{GrammarFault}
 use Rattle.adp_model.specs.declared.grammar.Grammar.{Grammar}
@@ -9,6 +9,7 @@ use Rattle.adp_model.specs.declared.grammar.Linear.{Linear}
 use Rattle.adp_model.specs.declared.grammar.Sign.{Sign}
 use Rattle.adp_model.specs.Parts.{sign_at, term_for}
 use Rattle.adp_model.specs.Terms.{ScoreFactorsFrom, IsMonotone, CanHaveAny, KeepsOrder}
+use Rattle.adp_model.specs.Checks.{IsChecked}
 use Rattle.adp_model.specs.GrammarFaults.{IsNamed, IsFirstFaulty}
 use Rattle.grammar_check.specs.CheckedGrammar.{CheckedGrammar, PassesChecks}
 use Rattle.lex_product.specs.PairFaults.{HaveUnitScores, AllAddScores, BothAddScores, HasOtherFactor, IsPairFault, NoAlgebra, OtherFactor}
@@ -21,25 +22,32 @@ units_monotone (factor ∷ factors) [] h = tt
 units_monotone (factor ∷ factors) (Score ∷ kinds) h = (omega (arith, ints, h.0), units_monotone factors kinds h.1)
 units_monotone (factor ∷ factors) (Token ∷ kinds) h = units_monotone factors kinds h
 
+-- what the checks find is the same under the other algebra
+pub IsChecked-other : (grammar : Grammar) (first second : ℕ) (least : List ℕ) (greatest : List (Option ℕ)) (ranks : List ℕ)
+    → IsChecked grammar first least greatest ranks → second < length grammar.algebras
+    → ((term : Linear) (kinds : List Kind) → IsMonotone term kinds → KeepsOrder CanHaveAny term kinds)
+    → AllAddScores grammar first second → IsChecked grammar second least greatest ranks
+IsChecked-other grammar first second least greatest ranks found known keeps adding = record {
+  well_formed = found.well_formed;
+  algebra_known = known;
+  least_each = found.least_each;
+  greatest_each = found.greatest_each;
+  ranks_each = found.ranks_each;
+  least_are = found.least_are;
+  greatest_are = found.greatest_are;
+  ranks_fall = found.ranks_fall;
+  ranks_fit = found.ranks_fit;
+  orderly = λ sign inside. keeps (term_for grammar second sign) (sign_at grammar sign).kinds
+      (units_monotone (term_for grammar second sign).factors (sign_at grammar sign).kinds (adding sign inside).1);
+}
+
 -- the checks under the other algebra
 pub PassesChecks-other : (first : CheckedGrammar) (copy : Grammar) (algebra : ℕ) → PassesChecks first → copy ≡ first.grammar → algebra < length first.grammar.algebras
     → ((term : Linear) (kinds : List Kind) → IsMonotone term kinds → KeepsOrder CanHaveAny term kinds)
     → AllAddScores first.grammar first.algebra algebra → PassesChecks (record first { grammar = copy; algebra = algebra })
 PassesChecks-other first copy algebra passes same known keeps adding =
     subst (λ g. PassesChecks (record first { grammar = g; algebra = algebra })) (sym same) (record {
-      found = record {
-        well_formed = passes.found.well_formed;
-        algebra_known = known;
-        least_each = passes.found.least_each;
-        greatest_each = passes.found.greatest_each;
-        ranks_each = passes.found.ranks_each;
-        least_are = passes.found.least_are;
-        greatest_are = passes.found.greatest_are;
-        ranks_fall = passes.found.ranks_fall;
-        ranks_fit = passes.found.ranks_fit;
-        orderly = λ sign inside. keeps (term_for first.grammar algebra sign) (sign_at first.grammar sign).kinds
-            (units_monotone (term_for first.grammar algebra sign).factors (sign_at first.grammar sign).kinds (adding sign inside).1);
-      };
+      found = IsChecked-other first.grammar first.algebra algebra _ _ _ passes.found known keeps adding;
       anchored = passes.anchored;
     })
 

@@ -3,6 +3,7 @@ pub mod CompiledTerms
 pub mod CompiledGrammar
 pub mod FittingTerms
 pub mod PairFaults
+pub mod PairLimits
 pub mod PairAnswers
 pub mod Compilable
 pub mod PairReport

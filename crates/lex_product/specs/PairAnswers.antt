@@ -1,15 +1,15 @@
 -- What checking and compiling a pair of algebras answer.
-use Rattle.std.specs.Prelude.{◌≡◌, ℕ, ◌≤◌, Result, Ok, Err, List}
+use Rattle.std.specs.Prelude.{◌≡◌, ℕ, Result, Ok, Err, List}
 use Rattle.adp_model.specs.GrammarFaults.{IsNamed}
 use Rattle.adp_model.specs.Bounds.{IsScoreBound}
-use Rattle.adp_model.specs.ProblemFields.{greatest_score}
 use Rattle.grammar_check.specs.CheckedGrammar.{CheckedGrammar}
 use Rattle.lex_product.specs.declared.error.PairError.{PairError}
 use Rattle.lex_product.specs.declared.error.PairError.TheVariants as pair
 use Rattle.lex_product.specs.declared.error.CompileError.{CompileError}
 use Rattle.lex_product.specs.declared.error.CompileError.TheVariants as compiling
-use Rattle.lex_product.specs.CompiledGrammar.{multiplier_of, compiled_grammar, greatest_compiled}
+use Rattle.lex_product.specs.CompiledGrammar.{multiplier_of, compiled_grammar}
 use Rattle.lex_product.specs.PairFaults.{AllAddScores, IsPairFault, IsNumberFault}
+use Rattle.lex_product.specs.PairLimits.{AreLowNumbers}
 
 -- the second is the first with another algebra, and the terms of both add scores as they are
 pub record IsPair (first second : CheckedGrammar) : Type 0 where
@@ -31,7 +31,7 @@ compiled_pair first second bound = record first {
 -- the compiled numbers are no greater than a score may be
 abbrev pub HasLowNumbers : CheckedGrammar → CheckedGrammar → ℕ → Type 0
 HasLowNumbers first second bound =
-    greatest_compiled first.grammar first.algebra second.algebra (multiplier_of bound) ≤ greatest_score
+    AreLowNumbers first.grammar first.algebra second.algebra bound
 
 -- the grammar that is compiled where the second algebra has this score bound; or the fault; or want of memory
 abbrev pub MatchCompiledBy : CheckedGrammar → CheckedGrammar → ℕ → Result CheckedGrammar CompileError → Type 0

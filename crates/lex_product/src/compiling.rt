@@ -22,6 +22,18 @@ const GREATEST_NUMBER: u128 = 4_611_686_018_427_387_903;
 /// Greater numbers are told as this one.
 const MOST_TOLD: u128 = 9_223_372_036_854_775_808;
 
+/// Whether the algebras of a pair have one goal.
+pub fn have_same_goal(first: &Checked, second: &Checked) -> bool
+    requires { IsPair first.now second.now }
+    ensures { result ≡ has_same_goal first.now.grammar first.now.algebra second.now.algebra }
+{
+    first.passes();
+    second.passes();
+    let goal = first.grammar.algebras.as_slice()[first.algebra as usize].goal;
+    let other = second.grammar.algebras.as_slice()[second.algebra as usize].goal;
+    is_same_goal(goal, other)
+}
+
 /// How two algebras of the grammar are one, where the second has this score bound.
 fn joining_of(grammar: &Grammar, first: u32, second: u32, bound: u64) -> Joining
     requires first { first < length grammar.now.algebras }

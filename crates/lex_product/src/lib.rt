@@ -10,6 +10,6 @@ pub mod laws;
 mod numbers;
 
 pub use checking::check_pair;
-pub use compiling::{compile, compile_by};
+pub use compiling::{compile, compile_by, have_same_goal};
 pub use error::{CompileError, PairError};
 pub use joining::pair_of;

@@ -1,3 +1,4 @@
 pub mod Children
 pub mod Writing
 pub mod Answering
+pub mod PairAnswering

@@ -1,2 +1,3 @@
 pub mod Pieces
+pub mod PairOutcomes
 pub mod Faults

@@ -1,6 +1,7 @@
 -- A command line and bytes have one verdict.
-use Rattle.std.proofs.Common.{◌≡◌, ℕ, zero, suc, ◌+◌, ◌^◌, ◌<◌, ◌≤◌, ◌⊎◌, inl, inr, Bool, true, false, not, ◌&&◌, IsTrue, nat_eq, Option, Result, Ok, Err, List, [], ◌∷◌, length, map, drop, get_or, slice_index_or, refl, sym, ap, ap₂, subst, ◌∙◌, arith}
-use Rattle.std.specs.List.{list_any}
+use Rattle.std.proofs.Common.{◌≡◌, ℕ, zero, suc, ◌+◌, ◌^◌, ◌<◌, ◌≤◌, ◌⊎◌, inl, inr, Bool, true, false, not, ◌&&◌, IsTrue, IsNone, nat_eq, Option, None, Some, Result, Ok, Err, List, [], ◌∷◌, length, map, drop, get_or, slice_index_or, refl, sym, ap, ap₂, subst, ◌∙◌, arith}
+use Rattle.std.specs.List.{All, list_any}
+use Rattle.std.proofs.lemmas.List.Elements.{All-head, All-tail}
 use Rattle.std.proofs.lemmas.List.{get_or-map, length-map}
 use Rattle.std.proofs.lemmas.List.Folds.{list_any_at}
 use Rattle.std.proofs.lemmas.Bool.{eq-eqb}
@@ -15,12 +16,16 @@ use Rattle.adp_model.specs.declared.fault.LimitFault.{LimitFault}
 use Rattle.adp_model.specs.Parts.{sign_at}
 use Rattle.adp_model.specs.WellFormed.{are_distinct, is_well_formed, counts_fit, names_differ, parts_fit}
 use Rattle.verdicts.specs.declared.command.Mode.{Mode}
-use Rattle.verdicts.specs.declared.command.Mode.TheVariants.{Best, Serial, Wins, Replay, Big}
-use Rattle.verdicts.specs.Command.{mode_word, Setting, Algebra as ByAlgebra, Workers, Seed, Schedule, Size, option_word, IsValue, AreSettings, algebra_set, workers_set, seed_set, schedule_set, size_set, greatest_size, Command, IsCommand, HasCommand, ReadsJob, ShowsWins, AsksForJob}
+use Rattle.verdicts.specs.declared.command.Mode.TheVariants.{Best, Serial, Wins, Replay, Lex, Big}
+use Rattle.verdicts.specs.Command.{mode_word, Setting, Algebra as ByAlgebra, Then, Workers, Seed, Schedule, Size, option_word, IsValue, AreSettings, Allows, algebra_set, second_set, workers_set, seed_set, schedule_set, size_set, greatest_size, Command, IsCommand, HasCommand, ReadsJob, ShowsWins, AsksForJob}
 use Rattle.job_texts.specs.JobText.{Accepted, IsText, IsFaultOf}
 use Rattle.adp_model.specs.Lengths.{IsProductive}
 use Rattle.adp_model.specs.Loops.{IsOnLoop}
 use Rattle.adp_model.specs.GrammarFaults.{rule_name, IsNamed, IsFirstFaulty, IsUnproductive, IsOffLoops, HasMonotoneTerm, HasOtherTerm, IsFaultless, IsGrammarFault, NoAlgebra, Unproductive, Loop, NotMonotone}
+use Rattle.lex_product.specs.PairFaults.{BothAddScores, HasOtherFactor, IsPairFault, NoAlgebra as NoSecond, OtherFactor}
+use Rattle.lex_product.specs.PairLimits.{IsCheckedPair, IsPairAdmissible, IsPairLimitFault, KeepsPairLimits}
+use Rattle.lex_product.specs.PairReport.{IsPairReport}
+use Rattle.verdicts.specs.SecondAlgebra.{IsAdmissibleWith, IsFaultWith, IsLimitWith, IsSecond, KeepsLimitsWith, MakesPairWith}
 use Rattle.adp_model.specs.Checks.{IsChecked}
 use Rattle.verdicts.specs.CheckableJobs.{AreCheckable}
 use Rattle.adp_model.specs.PosedProblem.{PosedProblem}
@@ -44,12 +49,21 @@ pub record ModelLaws : Type 0 where
   pub one_limit : (grammar : Grammar) (algebra : ℕ) (least : List ℕ) (greatest : List (Option ℕ)) (ranks : List ℕ)
       → IsChecked grammar algebra least greatest ranks → (len : ℕ) (a b : LimitFault)
       → IsLimitFault grammar algebra len a → IsLimitFault grammar algebra len b → a ≡ b
+  pub pair_kept : (grammar : Grammar) (first second : ℕ) (least : List ℕ) (greatest : List (Option ℕ)) (ranks : List ℕ)
+      → IsCheckedPair grammar first second least greatest ranks → (len : ℕ) (fault : LimitFault)
+      → KeepsPairLimits grammar first second len → IsPairLimitFault grammar first second len fault → ⊥
+  pub one_pair_limit : (grammar : Grammar) (first second : ℕ) (least : List ℕ) (greatest : List (Option ℕ))
+      (ranks : List ℕ) → IsCheckedPair grammar first second least greatest ranks → (len : ℕ) (a b : LimitFault)
+      → IsPairLimitFault grammar first second len a → IsPairLimitFault grammar first second len b → a ≡ b
+  pub one_pair_report : (number : ℕ) (p : PosedProblem) (second : ℕ) → IsPairAdmissible p second → (a b : List ℕ)
+      → IsPairReport number p second a → IsPairReport number p second b → a ≡ b
 
 -- ---- the command
 
 -- the words of two options differ at their fourth letter
 setting_unique : (value : List ℕ) (a b : Setting) → option_word a ≡ option_word b → IsValue value a → IsValue value b → a ≡ b
 setting_unique value (ByAlgebra m) (ByAlgebra n) e v w = ap ByAlgebra (v.1 ∙ sym w.1)
+setting_unique value (Then m) (Then n) e v w = ap Then (v.1 ∙ sym w.1)
 setting_unique value (Workers m) (Workers n) e v w = ap Workers (v.0.1 ∙ sym w.0.1)
 setting_unique value (Seed m) (Seed n) e v w = ap Seed (v.0.1 ∙ sym w.0.1)
 setting_unique value (Schedule m) (Schedule n) e v w = ap Schedule (v.1 ∙ sym w.1)
@@ -73,6 +87,7 @@ mode_unique Best Best e = refl
 mode_unique Serial Serial e = refl
 mode_unique Wins Wins e = refl
 mode_unique Replay Replay e = refl
+mode_unique Lex Lex e = refl
 mode_unique Big Big e = refl
 mode_unique a b e = absurd (omega (arith, ap (λ (w : List ℕ). get_or w 2 0) e))
 
@@ -83,6 +98,7 @@ command_unique words a b h k =
     let options : h.options ≡ k.options = ap (λ (ws : List (List ℕ)). drop 1 ws) heads in
     let settings = settings_unique h.options h.settings k.settings h.set (subst (λ o. AreSettings o k.settings) (sym options) k.set) in
     let algebra = h.algebra_is ∙ ap algebra_set settings ∙ sym k.algebra_is in
+    let second = h.second_is ∙ ap second_set settings ∙ sym k.second_is in
     let workers = h.workers_are ∙ ap workers_set settings ∙ sym k.workers_are in
     let seed = h.seed_is ∙ ap seed_set settings ∙ sym k.seed_is in
     let schedule = h.schedule_is ∙ ap schedule_set settings ∙ sym k.schedule_is in
@@ -90,6 +106,7 @@ command_unique words a b h k =
     λ i. record {
       mode = mode i;
       algebra = algebra i;
+      second = second i;
       workers = workers i;
       seed = seed i;
       schedule = schedule i;
@@ -104,6 +121,8 @@ numbers_in_range words [] h = (omega arith, omega arith, omega arith, omega arit
 numbers_in_range [] (setting ∷ settings) h = absurd h
 numbers_in_range (option ∷ []) (setting ∷ settings) h = absurd h
 numbers_in_range (option ∷ value ∷ words) (ByAlgebra named ∷ settings) h =
+    numbers_in_range words settings h.2
+numbers_in_range (option ∷ value ∷ words) (Then named ∷ settings) h =
     numbers_in_range words settings h.2
 numbers_in_range (option ∷ value ∷ words) (Workers workers ∷ settings) h =
     let rest = numbers_in_range words settings h.2 in
@@ -129,6 +148,20 @@ module _ (words : List (List ℕ)) (command : Command) (is : IsCommand words com
 
   pub size_in_range : command.size ≤ greatest_size
   size_in_range = subst (λ n. n ≤ greatest_size) (sym is.size_is) (numbers_in_range is.options is.settings is.set).3
+
+-- a second algebra is named in one mode alone
+never_second : (mode : Mode) → (mode ≡ Lex → ⊥) → (settings : List Setting) → All (Allows mode) settings
+    → IsNone (second_set settings)
+never_second mode other [] all = refl
+never_second mode other (Then name ∷ settings) all = absurd (other (All-head (Allows mode) (Then name) settings all))
+never_second mode other (setting ∷ settings) all =
+    never_second mode other settings (All-tail (Allows mode) setting settings all)
+
+pub no_second : (words : List (List ℕ)) (command : Command) → IsCommand words command → (command.mode ≡ Lex → ⊥)
+    → IsNone command.second
+no_second words command is other =
+    subst (λ (o : Option (List ℕ)). IsNone o) (sym is.second_is)
+    (never_second command.mode other is.settings is.allowed)
 
 -- ---- the text
 
@@ -232,48 +265,171 @@ module _ (grammar : Grammar) (formed : IsTrue (is_well_formed grammar)) (name : 
   faultless_or_fault algebra fault sound (NotMonotone other sign named productive off first) =
       subst (λ n. HasOtherTerm grammar n sign) (named_unique grammar formed name other algebra named sound.named) first.faulty (sound.monotone sign first.in_range)
 
+  -- ---- the second algebra
+
+  pair_fault_unique : (first : ℕ) (a b : GrammarFault) → IsPairFault grammar first name a → IsPairFault grammar first name b → a ≡ b
+  pair_fault_unique first a b (NoSecond none) (NoSecond none') = refl
+  pair_fault_unique first a b (NoSecond none) (OtherFactor second sign named is) = absurd (none second named)
+  pair_fault_unique first a b (OtherFactor second sign named is) (NoSecond none) = absurd (none second named)
+  pair_fault_unique first a b (OtherFactor second sign named is) (OtherFactor second' sign' named' is') =
+      ap (λ (n : ℕ). record { kind = 6; name = (sign_at grammar n).name })
+      (first_unique (HasOtherFactor grammar first second) (BothAddScores grammar first second) (length grammar.signs) sign sign' (λ n faulty sound. faulty sound) is
+      (subst (λ n. IsFirstFaulty (HasOtherFactor grammar first n) (BothAddScores grammar first n) (length grammar.signs) sign') (named_unique grammar formed name second' second named' named) is'))
+
+module _ (grammar : Grammar) (formed : IsTrue (is_well_formed grammar)) (name : List ℕ) where
+  fault_with_unique : (second : Option (List ℕ)) (a b : GrammarFault) → IsFaultWith second grammar name a
+      → IsFaultWith second grammar name b → a ≡ b
+  fault_with_unique None a b h k = grammar_fault_unique grammar formed name a b h k
+  fault_with_unique (Some other) a b (inl h) (inl k) = grammar_fault_unique grammar formed name a b h k
+  fault_with_unique (Some other) a b (inl h) (inr k) = absurd (faultless_or_fault grammar formed name k.0 a k.1 h)
+  fault_with_unique (Some other) a b (inr h) (inl k) = absurd (faultless_or_fault grammar formed name h.0 b h.1 k)
+  fault_with_unique (Some other) a b (inr h) (inr k) =
+      pair_fault_unique grammar formed other h.0 a b h.2
+      (subst (λ n. IsPairFault grammar n other b) (named_unique grammar formed name k.0 h.0 k.1.named h.1.named) k.2)
+
+  pair_or_fault : (algebra second : ℕ) (other : List ℕ) (fault : GrammarFault) → IsNamed grammar other second
+      → ((sign : ℕ) → sign < length grammar.signs → BothAddScores grammar algebra second sign)
+      → IsPairFault grammar algebra other fault → ⊥
+  pair_or_fault algebra second other fault named adding (NoSecond none) = none second named
+  pair_or_fault algebra second other fault named adding (OtherFactor second' sign named' is) =
+      subst (λ n. HasOtherFactor grammar algebra n sign) (named_unique grammar formed other second' second named' named)
+      is.faulty (adding sign is.in_range)
+
+  faultless_with_or_fault : (second : Option (List ℕ)) (algebra : ℕ) (fault : GrammarFault)
+      → IsFaultless grammar name algebra → MakesPairWith second grammar algebra → IsFaultWith second grammar name fault → ⊥
+  faultless_with_or_fault None algebra fault sound pair h = faultless_or_fault grammar formed name algebra fault sound h
+  faultless_with_or_fault (Some other) algebra fault sound pair (inl h) =
+      faultless_or_fault grammar formed name algebra fault sound h
+  faultless_with_or_fault (Some other) algebra fault sound pair (inr h) =
+      pair_or_fault algebra pair.0 other fault pair.1 pair.2
+      (subst (λ n. IsPairFault grammar n other fault) (named_unique grammar formed name h.0 algebra h.1.named sound.named) h.2)
+
 -- ---- the words
 
 module _ (laws : ModelLaws) (grammar : Grammar) (algebra : ℕ) (least : List ℕ) (greatest : List (Option ℕ)) (ranks : List ℕ) (checked : IsChecked grammar algebra least greatest ranks) where
-  limit_unique : (number : ℕ) (words : List (List ℕ)) (a b : ℕ) (fault fault' : LimitFault) → IsFirstLimit grammar algebra number words a fault → IsFirstLimit grammar algebra number words b fault' → Limit a fault ≡ Limit b fault'
-  limit_unique number [] a b fault fault' h k = absurd h
-  limit_unique number (word ∷ words) a b fault fault' (inl h) (inl k) = ap₂ Limit (h.0 ∙ sym k.0) (laws.one_limit grammar algebra least greatest ranks checked (length word) fault fault' h.1 k.1)
-  limit_unique number (word ∷ words) a b fault fault' (inl h) (inr k) = absurd (laws.kept grammar algebra least greatest ranks checked (length word) fault k.0 h.1)
-  limit_unique number (word ∷ words) a b fault fault' (inr h) (inl k) = absurd (laws.kept grammar algebra least greatest ranks checked (length word) fault' h.0 k.1)
-  limit_unique number (word ∷ words) a b fault fault' (inr h) (inr k) = limit_unique (number + 1) words a b fault fault' h.1 k.1
+  -- the second algebra's number is that of its name, with which the algebra makes a pair
+  checked_pair : (name : List ℕ) → MakesPairWith (Some name) grammar algebra → (second : ℕ) → IsNamed grammar name second
+      → IsCheckedPair grammar algebra second least greatest ranks
+  checked_pair name pair second named = record {
+    checked = checked;
+    known = named.in_range;
+    adding = λ sign inside. subst (λ n. BothAddScores grammar algebra n sign)
+        (named_unique grammar checked.well_formed name pair.0 second pair.1 named) (pair.2 sign inside);
+  }
 
-  kept_or_limit : (number : ℕ) (words : List (List ℕ)) (first : ℕ) (fault : LimitFault) → KeepLimits grammar algebra words → IsFirstLimit grammar algebra number words first fault → ⊥
-  kept_or_limit number [] first fault kept h = h
-  kept_or_limit number (word ∷ words) first fault kept (inl h) = laws.kept grammar algebra least greatest ranks checked (length word) fault kept.0 h.1
-  kept_or_limit number (word ∷ words) first fault kept (inr h) = kept_or_limit (number + 1) words first fault kept.1 h.1
+  kept_with : (second : Option (List ℕ)) → MakesPairWith second grammar algebra → (len : ℕ) (fault : LimitFault)
+      → KeepsLimitsWith second grammar algebra len → IsLimitWith second grammar algebra len fault → ⊥
+  kept_with None pair len fault kept is = laws.kept grammar algebra least greatest ranks checked len fault kept is
+  kept_with (Some name) pair len fault (n, named, kept) (m, named', is) =
+      laws.pair_kept grammar algebra n least greatest ranks (checked_pair name pair n named) len fault kept
+      (subst (λ x. IsPairLimitFault grammar algebra x len fault)
+      (named_unique grammar checked.well_formed name m n named' named) is)
 
--- reports of one mode that tells no wins are the same, and so they are of two modes
-abbrev PlainOrWins : Mode → Type 0
-PlainOrWins mode = ShowsWins mode ⊎ ((number : ℕ) (p : PosedProblem) (wins report : List ℕ)
-    → IsReportWith mode number p wins report → IsReport number p report)
+  one_with : (second : Option (List ℕ)) → MakesPairWith second grammar algebra → (len : ℕ) (a b : LimitFault)
+      → IsLimitWith second grammar algebra len a → IsLimitWith second grammar algebra len b → a ≡ b
+  one_with None pair len a b h k = laws.one_limit grammar algebra least greatest ranks checked len a b h k
+  one_with (Some name) pair len a b (n, named, h) (m, named', k) =
+      laws.one_pair_limit grammar algebra n least greatest ranks (checked_pair name pair n named) len a b h
+      (subst (λ x. IsPairLimitFault grammar algebra x len b)
+      (named_unique grammar checked.well_formed name m n named' named) k)
 
-plain_or_wins : (mode : Mode) → PlainOrWins mode
-plain_or_wins Best = inr (λ number p wins report is. is)
-plain_or_wins Serial = inr (λ number p wins report is. is)
-plain_or_wins Wins = inl (inl refl)
-plain_or_wins Replay = inl (inr refl)
-plain_or_wins Big = inr (λ number p wins report is. absurd is)
+  admissible_with : (second : Option (List ℕ)) → MakesPairWith second grammar algebra → (word : List ℕ)
+      → KeepsLimitsWith second grammar algebra (length word)
+      → IsAdmissibleWith second (record { grammar = grammar; algebra = algebra; word = word })
+  admissible_with None pair word kept =
+      record { least = least; greatest = greatest; ranks = ranks; checked = checked; limits = kept }
+  admissible_with (Some name) pair word (n, named, kept) = (
+    n,
+    named,
+    record {
+      least = least;
+      greatest = greatest;
+      ranks = ranks;
+      checked = checked_pair name pair n named;
+      limits = kept;
+    },
+  )
 
-module _ (laws : ModelLaws) (command : Command) (plain : (number : ℕ) (p : PosedProblem) (wins report : List ℕ)
-    → IsReportWith command.mode number p wins report → IsReport number p report) where
-  reports_unique : (grammar : Grammar) → IsTrue (is_well_formed grammar) → (algebra number : ℕ)
-      (words a b : List (List ℕ)) → AreReports command grammar algebra number words a
+  module _ (second : Option (List ℕ)) (pair : MakesPairWith second grammar algebra) where
+    limit_unique : (number : ℕ) (words : List (List ℕ)) (a b : ℕ) (fault fault' : LimitFault)
+        → IsFirstLimit second grammar algebra number words a fault
+        → IsFirstLimit second grammar algebra number words b fault' → Limit a fault ≡ Limit b fault'
+    limit_unique number [] a b fault fault' h k = absurd h
+    limit_unique number (word ∷ words) a b fault fault' (inl h) (inl k) =
+        ap₂ Limit (h.0 ∙ sym k.0) (one_with second pair (length word) fault fault' h.1 k.1)
+    limit_unique number (word ∷ words) a b fault fault' (inl h) (inr k) =
+        absurd (kept_with second pair (length word) fault k.0 h.1)
+    limit_unique number (word ∷ words) a b fault fault' (inr h) (inl k) =
+        absurd (kept_with second pair (length word) fault' h.0 k.1)
+    limit_unique number (word ∷ words) a b fault fault' (inr h) (inr k) =
+        limit_unique (number + 1) words a b fault fault' h.1 k.1
+
+    kept_or_limit : (number : ℕ) (words : List (List ℕ)) (first : ℕ) (fault : LimitFault)
+        → KeepLimits second grammar algebra words → IsFirstLimit second grammar algebra number words first fault → ⊥
+    kept_or_limit number [] first fault kept h = h
+    kept_or_limit number (word ∷ words) first fault kept (inl h) =
+        kept_with second pair (length word) fault kept.0 h.1
+    kept_or_limit number (word ∷ words) first fault kept (inr h) =
+        kept_or_limit (number + 1) words first fault kept.1 h.1
+
+-- ---- the reports
+
+-- the algebra of a checked grammar that the second one's name gives is one
+pub one_second : (second : Option (List ℕ)) (grammar : Grammar) → IsTrue (is_well_formed grammar) → (a b : ℕ)
+    → IsSecond second grammar a → IsSecond second grammar b → a ≡ b
+one_second None grammar formed a b h k = absurd h
+one_second (Some name) grammar formed a b h k = named_unique grammar formed name a b h k
+
+formed_with : (second : Option (List ℕ)) (p : PosedProblem) → IsAdmissibleWith second p
+    → IsTrue (is_well_formed p.grammar)
+formed_with None p h = h.checked.well_formed
+formed_with (Some name) p h = h.2.checked.checked.well_formed
+
+pair_with : (second : Option (List ℕ)) (p : PosedProblem) (algebra : ℕ) → IsAdmissibleWith second p
+    → IsSecond second p.grammar algebra → IsPairAdmissible p algebra
+pair_with None p algebra h named = absurd named
+pair_with (Some name) p algebra h named =
+    subst (IsPairAdmissible p)
+    (named_unique p.grammar h.2.checked.checked.well_formed name h.0 algebra h.1 named) h.2
+
+-- a mode tells wins, or its reports of a word are one
+abbrev OneOrWins : Mode → Type 0
+OneOrWins mode = ShowsWins mode ⊎ ((second : Option (List ℕ)) (number : ℕ) (p : PosedProblem) (wins wins' a b : List ℕ)
+    → IsAdmissibleWith second p → IsReportWith mode second number p wins a
+    → IsReportWith mode second number p wins' b → a ≡ b)
+
+module _ (laws : ModelLaws) where
+  one_or_wins : (mode : Mode) → OneOrWins mode
+  one_or_wins Best = inr (λ second number p wins wins' a b is h k.
+      laws.one_report number p a b (formed_with second p is) h k)
+  one_or_wins Serial = inr (λ second number p wins wins' a b is h k.
+      laws.one_report number p a b (formed_with second p is) h k)
+  one_or_wins Wins = inl (inl refl)
+  one_or_wins Replay = inl (inr refl)
+  one_or_wins Lex = inr (λ second number p wins wins' a b is h k.
+      laws.one_pair_report number p h.0 (pair_with second p h.0 is h.1) a b h.2
+      (subst (λ n. IsPairReport number p n b) (one_second second p.grammar (formed_with second p is) k.0 h.0 k.1 h.1) k.2))
+  one_or_wins Big = inr (λ second number p wins wins' a b is h k. absurd h)
+
+module _ (command : Command) (plain : (second : Option (List ℕ)) (number : ℕ) (p : PosedProblem)
+    (wins wins' a b : List ℕ) → IsAdmissibleWith second p → IsReportWith command.mode second number p wins a
+    → IsReportWith command.mode second number p wins' b → a ≡ b)
+    (grammar : Grammar) (algebra : ℕ)
+    (admissible : (word : List ℕ) → KeepsLimitsWith command.second grammar algebra (length word)
+    → IsAdmissibleWith command.second (record { grammar = grammar; algebra = algebra; word = word })) where
+  reports_unique : (number : ℕ) (words a b : List (List ℕ)) → KeepLimits command.second grammar algebra words
+      → AreReports command grammar algebra number words a
       → AreReports command grammar algebra number words b → a ≡ b
-  reports_unique grammar formed algebra number [] [] [] h k = refl
-  reports_unique grammar formed algebra number [] [] (y ∷ b) h k = absurd k
-  reports_unique grammar formed algebra number [] (x ∷ a) b h k = absurd h
-  reports_unique grammar formed algebra number (word ∷ words) [] b h k = absurd h
-  reports_unique grammar formed algebra number (word ∷ words) (x ∷ a) [] h k = absurd k
-  reports_unique grammar formed algebra number (word ∷ words) (x ∷ a) (y ∷ b) h k =
+  reports_unique number [] [] [] kept h k = refl
+  reports_unique number [] [] (y ∷ b) kept h k = absurd k
+  reports_unique number [] (x ∷ a) b kept h k = absurd h
+  reports_unique number (word ∷ words) [] b kept h k = absurd h
+  reports_unique number (word ∷ words) (x ∷ a) [] kept h k = absurd k
+  reports_unique number (word ∷ words) (x ∷ a) (y ∷ b) kept h k =
       let p : PosedProblem = record { grammar = grammar; algebra = algebra; word = word } in
       ap₂ (λ r rs. r ∷ rs)
-      (laws.one_report number p x y formed (plain number p h.0.0 x h.0.2) (plain number p k.0.0 y k.0.2))
-      (reports_unique grammar formed algebra (number + 1) words a b h.1 k.1)
+      (plain command.second number p h.0.0 k.0.0 x y (admissible word kept.0) h.0.2 k.0.2)
+      (reports_unique (number + 1) words a b kept.1 h.1 k.1)
 
 -- ---- the verdict
 
@@ -282,9 +438,15 @@ module _ (words : List (List ℕ)) (bytes : List ℕ) where
   names_same c d a b h k = ap₂ (λ e g. asked_name e g) (command_unique words d c k.is_command h.is_command) (same_grammar bytes b a k.is_text h.is_text)
 
   -- what is asked of one job is asked of the other
-  fault_of_first : (c d : Command) (a b : Job) (fault : GrammarFault) → AsksFor words bytes c a → AsksFor words bytes d b → IsGrammarFault b.grammar (asked_name d b.grammar) fault → IsGrammarFault a.grammar (asked_name c a.grammar) fault
+  fault_of_first : (c d : Command) (a b : Job) (fault : GrammarFault) → AsksFor words bytes c a → AsksFor words bytes d b → IsFaultWith d.second b.grammar (asked_name d b.grammar) fault → IsFaultWith c.second a.grammar (asked_name c a.grammar) fault
   fault_of_first c d a b fault h k is =
-      subst (λ n. IsGrammarFault a.grammar n fault) (names_same c d a b h k) (subst (λ g. IsGrammarFault g (asked_name d b.grammar) fault) (same_grammar bytes b a k.is_text h.is_text) is)
+      subst (λ (it : Command × Grammar). IsFaultWith it.0.second it.1 (asked_name it.0 it.1) fault)
+      (λ i. (command_unique words d c k.is_command h.is_command i, same_grammar bytes b a k.is_text h.is_text i)) is
+
+  pair_of_first : (c : Command) (a b : Job) (algebra : ℕ) → AsksFor words bytes c a → AsksUnder words bytes b algebra → MakesPairWith c.second a.grammar algebra
+  pair_of_first c a b algebra h k =
+      subst (λ (it : Command × Grammar). MakesPairWith it.0.second it.1 algebra)
+      (λ i. (command_unique words k.command c k.asks.is_command h.is_command i, same_grammar bytes b a k.asks.is_text h.is_text i)) k.pair
 
   faultless_of_first : (c : Command) (a b : Job) (algebra : ℕ) → AsksFor words bytes c a → AsksUnder words bytes b algebra → IsFaultless a.grammar (asked_name c a.grammar) algebra
   faultless_of_first c a b algebra h k =
@@ -309,11 +471,17 @@ module _ (words : List (List ℕ)) (bytes : List ℕ) where
   pub asked_algebra : (a b : Job) (m n : ℕ) → AsksUnder words bytes a m → AsksUnder words bytes b n → m ≡ n
   asked_algebra a b m n h k = sym (same_algebra a b m n h k)
 
-  limit_of_first : (a b : Job) (m n word : ℕ) (fault : LimitFault) → AsksUnder words bytes a m → AsksUnder words bytes b n → IsFirstLimit b.grammar n 1 b.words word fault → IsFirstLimit a.grammar m 1 a.words word fault
+  limit_of_first : (a b : Job) (m n word : ℕ) (fault : LimitFault) (h : AsksUnder words bytes a m)
+      (k : AsksUnder words bytes b n) → IsFirstLimit k.command.second b.grammar n 1 b.words word fault
+      → IsFirstLimit h.command.second a.grammar m 1 a.words word fault
   limit_of_first a b m n word fault h k is =
-      subst (λ algebra. IsFirstLimit a.grammar algebra 1 a.words word fault) (same_algebra a b m n h k)
-      (subst (λ (ws : List (List ℕ)). IsFirstLimit a.grammar n 1 ws word fault) (same_words bytes b a k.asks.is_text h.asks.is_text)
-      (subst (λ g. IsFirstLimit g n 1 b.words word fault) (same_grammar bytes b a k.asks.is_text h.asks.is_text) is))
+      subst (λ (it : Command × Grammar × ℕ × List (List ℕ)). IsFirstLimit it.0.second it.1 it.2 1 it.3 word fault)
+      (λ i. (
+        command_unique words k.command h.command k.asks.is_command h.asks.is_command i,
+        same_grammar bytes b a k.asks.is_text h.asks.is_text i,
+        same_algebra a b m n h k i,
+        same_words bytes b a k.asks.is_text h.asks.is_text i,
+      )) is
 
   reports_of_first : (command : Command) (a b : Job) (m n : ℕ) (reports : List (List ℕ)) → AsksUnder words bytes a m
       → AsksUnder words bytes b n → AreReports command b.grammar n 1 b.words reports
@@ -325,10 +493,16 @@ module _ (words : List (List ℕ)) (bytes : List ℕ) where
       (subst (λ g. AreReports command g n 1 b.words reports) (same_grammar bytes b a k.asks.is_text h.asks.is_text) is))
 
 module _ (laws : ModelLaws) (words : List (List ℕ)) (bytes : List ℕ) where
-  both_reported : (a b : List (List ℕ)) → AskForReports words bytes a → AskForReports words bytes b
-      → (Reports a ≡ Reports b) ⊎ AreOfWins words (Reports a) (Reports b)
-  both_reported a b h k = by (plain_or_wins h.2.command.mode)
+  both_reported : AreCheckable words bytes → (a b : List (List ℕ)) → AskForReports words bytes a
+      → AskForReports words bytes b → (Reports a ≡ Reports b) ⊎ AreOfWins words (Reports a) (Reports b)
+  both_reported checks a b h k = by (one_or_wins laws h.2.command.mode)
     where
+      admissible : (word : List ℕ) → KeepsLimitsWith h.2.command.second h.0.grammar h.1 (length word)
+          → IsAdmissibleWith h.2.command.second (record { grammar = h.0.grammar; algebra = h.1; word = word })
+      admissible =
+          let found = checks h.0 h.1 h.2 in
+          admissible_with laws h.0.grammar h.1 found.0 found.1 found.2 found.3 h.2.command.second h.2.pair
+
       same : h.2.command ≡ k.2.command
       same = command_unique words h.2.command k.2.command h.2.asks.is_command k.2.asks.is_command
 
@@ -336,10 +510,10 @@ module _ (laws : ModelLaws) (words : List (List ℕ)) (bytes : List ℕ) where
       others = reports_of_first words bytes h.2.command h.0 k.0 h.1 k.1 b h.2 k.2
           (subst (λ (c : Command). AreReports c k.0.grammar k.1 1 k.0.words b) (sym same) k.4)
 
-      by : PlainOrWins h.2.command.mode → (Reports a ≡ Reports b) ⊎ AreOfWins words (Reports a) (Reports b)
+      by : OneOrWins h.2.command.mode → (Reports a ≡ Reports b) ⊎ AreOfWins words (Reports a) (Reports b)
       by (inl wins) = inr (h.2.command, h.2.asks.is_command, wins)
       by (inr plain) =
-          inl (ap Reports (reports_unique laws h.2.command plain h.0.grammar h.0.well_formed h.1 1 h.0.words a b h.4 others))
+          inl (ap Reports (reports_unique h.2.command plain h.0.grammar h.1 admissible 1 h.0.words a b h.3 h.4 others))
 
   both_made : (a b : List (List ℕ)) → AskForBigReport words a → AskForBigReport words b → Reports a ≡ Reports b
   both_made a b h k =
@@ -419,11 +593,11 @@ module _ (laws : ModelLaws) (words : List (List ℕ)) (bytes : List ℕ) where
   one_verdict checks (OfGrammar fault) (Text fault') h k =
       absurd (text_or_fault bytes fault' h.1 k.2 h.2.is_text)
   one_verdict checks (OfGrammar fault) (OfGrammar fault') h k =
-      inl (ap OfGrammar (grammar_fault_unique h.1.grammar h.1.well_formed (asked_name h.0 h.1.grammar) fault fault' h.3 (fault_of_first words bytes h.0 k.0 h.1 k.1 fault' h.2 k.2 k.3)))
+      inl (ap OfGrammar (fault_with_unique h.1.grammar h.1.well_formed (asked_name h.0 h.1.grammar) h.0.second fault fault' h.3 (fault_of_first words bytes h.0 k.0 h.1 k.1 fault' h.2 k.2 k.3)))
   one_verdict checks (OfGrammar fault) (Limit word fault') h k =
-      absurd (faultless_or_fault h.1.grammar h.1.well_formed (asked_name h.0 h.1.grammar) k.1 fault (faultless_of_first words bytes h.0 h.1 k.0 k.1 h.2 k.2) h.3)
+      absurd (faultless_with_or_fault h.1.grammar h.1.well_formed (asked_name h.0 h.1.grammar) h.0.second k.1 fault (faultless_of_first words bytes h.0 h.1 k.0 k.1 h.2 k.2) (pair_of_first words bytes h.0 h.1 k.0 k.1 h.2 k.2) h.3)
   one_verdict checks (OfGrammar fault) (Reports reports) h (inl k) =
-      absurd (faultless_or_fault h.1.grammar h.1.well_formed (asked_name h.0 h.1.grammar) k.1 fault (faultless_of_first words bytes h.0 h.1 k.0 k.1 h.2 k.2) h.3)
+      absurd (faultless_with_or_fault h.1.grammar h.1.well_formed (asked_name h.0 h.1.grammar) h.0.second k.1 fault (faultless_of_first words bytes h.0 h.1 k.0 k.1 h.2 k.2) (pair_of_first words bytes h.0 h.1 k.0 k.1 h.2 k.2) h.3)
   one_verdict checks (OfGrammar fault) (Reports reports) h (inr k) = inl (sym (of_made (OfGrammar fault) reports k h))
   one_verdict checks (Limit word fault) Usage h k =
       absurd (k (has_command words bytes h.2.command h.0 h.2.asks))
@@ -432,13 +606,13 @@ module _ (laws : ModelLaws) (words : List (List ℕ)) (bytes : List ℕ) where
   one_verdict checks (Limit word fault) (Text fault') h k =
       absurd (text_or_fault bytes fault' h.0 k.2 h.2.asks.is_text)
   one_verdict checks (Limit word fault) (OfGrammar fault') h k =
-      absurd (faultless_or_fault k.1.grammar k.1.well_formed (asked_name k.0 k.1.grammar) h.1 fault' (faultless_of_first words bytes k.0 k.1 h.0 h.1 k.2 h.2) k.3)
+      absurd (faultless_with_or_fault k.1.grammar k.1.well_formed (asked_name k.0 k.1.grammar) k.0.second h.1 fault' (faultless_of_first words bytes k.0 k.1 h.0 h.1 k.2 h.2) (pair_of_first words bytes k.0 k.1 h.0 h.1 k.2 h.2) k.3)
   one_verdict checks (Limit word fault) (Limit word' fault') h k =
       let found = checks h.0 h.1 h.2 in
-      inl (limit_unique laws h.0.grammar h.1 found.0 found.1 found.2 found.3 1 h.0.words word word' fault fault' h.3 (limit_of_first words bytes h.0 k.0 h.1 k.1 word' fault' h.2 k.2 k.3))
+      inl (limit_unique laws h.0.grammar h.1 found.0 found.1 found.2 found.3 h.2.command.second h.2.pair 1 h.0.words word word' fault fault' h.3 (limit_of_first words bytes h.0 k.0 h.1 k.1 word' fault' h.2 k.2 k.3))
   one_verdict checks (Limit word fault) (Reports reports) h (inl k) =
       let found = checks k.0 k.1 k.2 in
-      absurd (kept_or_limit laws k.0.grammar k.1 found.0 found.1 found.2 found.3 1 k.0.words word fault k.3 (limit_of_first words bytes k.0 h.0 k.1 h.1 word fault k.2 h.2 h.3))
+      absurd (kept_or_limit laws k.0.grammar k.1 found.0 found.1 found.2 found.3 k.2.command.second k.2.pair 1 k.0.words word fault k.3 (limit_of_first words bytes k.0 h.0 k.1 h.1 word fault k.2 h.2 h.3))
   one_verdict checks (Limit word fault) (Reports reports) h (inr k) = inl (sym (of_made (Limit word fault) reports k h))
   one_verdict checks (Reports reports) Usage (inl h) k =
       absurd (k (has_command words bytes h.2.command h.0 h.2.asks))
@@ -447,11 +621,11 @@ module _ (laws : ModelLaws) (words : List (List ℕ)) (bytes : List ℕ) where
   one_verdict checks (Reports reports) (Text fault') (inl h) k =
       absurd (text_or_fault bytes fault' h.0 k.2 h.2.asks.is_text)
   one_verdict checks (Reports reports) (OfGrammar fault') (inl h) k =
-      absurd (faultless_or_fault k.1.grammar k.1.well_formed (asked_name k.0 k.1.grammar) h.1 fault' (faultless_of_first words bytes k.0 k.1 h.0 h.1 k.2 h.2) k.3)
+      absurd (faultless_with_or_fault k.1.grammar k.1.well_formed (asked_name k.0 k.1.grammar) k.0.second h.1 fault' (faultless_of_first words bytes k.0 k.1 h.0 h.1 k.2 h.2) (pair_of_first words bytes k.0 k.1 h.0 h.1 k.2 h.2) k.3)
   one_verdict checks (Reports reports) (Limit word fault) (inl h) k =
       let found = checks h.0 h.1 h.2 in
-      absurd (kept_or_limit laws h.0.grammar h.1 found.0 found.1 found.2 found.3 1 h.0.words word fault h.3 (limit_of_first words bytes h.0 k.0 h.1 k.1 word fault h.2 k.2 k.3))
-  one_verdict checks (Reports reports) (Reports reports') (inl h) (inl k) = both_reported reports reports' h k
+      absurd (kept_or_limit laws h.0.grammar h.1 found.0 found.1 found.2 found.3 h.2.command.second h.2.pair 1 h.0.words word fault h.3 (limit_of_first words bytes h.0 k.0 h.1 k.1 word fault h.2 k.2 k.3))
+  one_verdict checks (Reports reports) (Reports reports') (inl h) (inl k) = both_reported checks reports reports' h k
   one_verdict checks (Reports reports) (Reports reports') (inl h) (inr k) =
       inl (sym (of_made (Reports reports) reports' k (inl h)))
   one_verdict checks (Reports reports) Usage (inr h) k = inl (of_made Usage reports h k)
@@ -469,9 +643,9 @@ module _ (laws : ModelLaws) (words : List (List ℕ)) (bytes : List ℕ) where
   only_reports reports TooLong (inl h) k checks = absurd (too_long k.1 h.2.asks.short_enough)
   only_reports reports (Text fault) (inl h) k checks = absurd (text_or_fault bytes fault h.0 k.2 h.2.asks.is_text)
   only_reports reports (OfGrammar fault) (inl h) k checks =
-      absurd (faultless_or_fault k.1.grammar k.1.well_formed (asked_name k.0 k.1.grammar) h.1 fault
-      (faultless_of_first words bytes k.0 k.1 h.0 h.1 k.2 h.2) k.3)
+      absurd (faultless_with_or_fault k.1.grammar k.1.well_formed (asked_name k.0 k.1.grammar) k.0.second h.1 fault
+      (faultless_of_first words bytes k.0 k.1 h.0 h.1 k.2 h.2) (pair_of_first words bytes k.0 k.1 h.0 h.1 k.2 h.2) k.3)
   only_reports reports (Limit word fault) (inl h) k checks =
       let found = checks tt h.0 h.1 h.2 in
-      absurd (kept_or_limit laws h.0.grammar h.1 found.0 found.1 found.2 found.3 1 h.0.words word fault h.3
+      absurd (kept_or_limit laws h.0.grammar h.1 found.0 found.1 found.2 found.3 h.2.command.second h.2.pair 1 h.0.words word fault h.3
       (limit_of_first words bytes h.0 k.0 h.1 k.1 word fault h.2 k.2 k.3))

@@ -1,10 +1,10 @@
 -- The words of the command line: a mode, and then options in any order, each at most once, with its value in the next
 -- word.
-use Rattle.std.specs.Prelude.{◌≡◌, ℕ, ◌^◌, ◌<◌, ◌≤◌, ◌⊎◌, Option, None, Some, List, [], ◌∷◌, length, codes, IsTrue, map, All}
+use Rattle.std.specs.Prelude.{◌≡◌, ℕ, ◌^◌, ◌<◌, ◌≤◌, ◌⊎◌, Option, None, Some, IsSome, List, [], ◌∷◌, length, codes, IsTrue, map, All}
 use Rattle.std.specs.Str.Parse.{IsNumeral, digits_value}
 use Rattle.adp_model.specs.WellFormed.{is_name, are_distinct}
 use Rattle.verdicts.specs.declared.command.Mode.{Mode}
-use Rattle.verdicts.specs.declared.command.Mode.TheVariants.{Best, Serial, Wins, Replay, Big}
+use Rattle.verdicts.specs.declared.command.Mode.TheVariants.{Best, Serial, Wins, Replay, Lex, Big}
 use Rattle.verdicts.specs.ScheduleText.{is_schedule, machines_of}
 
 abbrev pub mode_word : Mode → List ℕ
@@ -12,12 +12,14 @@ mode_word Best = codes "best"
 mode_word Serial = codes "serial"
 mode_word Wins = codes "wins"
 mode_word Replay = codes "replay"
+mode_word Lex = codes "lex"
 mode_word Big = codes "big"
 
--- an option with its value: an algebra's name; a number of evaluators; the seed of their orders; the machines that a
--- schedule names in turn; the size of the word that is made
+-- an option with its value: an algebra's name; that of a second one, which decides among equals; a number of evaluators;
+-- the seed of their orders; the machines that a schedule names in turn; the size of the word that is made
 pub data Setting : Type 0 where
   Algebra : (name : List ℕ) → Setting
+  Then : (name : List ℕ) → Setting
   Workers : (workers : ℕ) → Setting
   Seed : (seed : ℕ) → Setting
   Schedule : (machines : List ℕ) → Setting
@@ -25,15 +27,17 @@ pub data Setting : Type 0 where
 
 abbrev pub option_word : Setting → List ℕ
 option_word (Algebra name) = codes "--algebra"
+option_word (Then name) = codes "--then"
 option_word (Workers workers) = codes "--workers"
 option_word (Seed seed) = codes "--seed"
 option_word (Schedule machines) = codes "--schedule"
 option_word (Size size) = codes "--size"
 
--- the options of a mode: a word that is made has no other algebra than its grammar's, and evaluators follow a schedule
--- in one mode alone
+-- the options of a mode: a word that is made has no other algebra than its grammar's, and a second algebra is asked for,
+-- and a schedule followed, in one mode alone
 abbrev pub Allows : Mode → Setting → Type 0
 Allows mode (Algebra name) = (mode ≡ Big) → ⊥
+Allows mode (Then name) = mode ≡ Lex
 Allows mode (Workers workers) = Unit {0}
 Allows mode (Seed seed) = Unit {0}
 Allows mode (Schedule machines) = mode ≡ Replay
@@ -50,6 +54,7 @@ greatest_size = 2046
 -- the word is a value that the setting allows
 abbrev pub IsValue : List ℕ → Setting → Type 0
 IsValue word (Algebra name) = IsTrue (is_name word) × (name ≡ word)
+IsValue word (Then name) = IsTrue (is_name word) × (name ≡ word)
 IsValue word (Workers workers) = IsNumberWord word workers × (1 ≤ workers) × (workers ≤ 32)
 IsValue word (Seed seed) = IsNumberWord word seed × (seed < 2 ^ 64)
 IsValue word (Schedule machines) = IsTrue (is_schedule word) × (machines ≡ machines_of word)
@@ -66,12 +71,17 @@ AreSettings words settings = ⊥
 abbrev pub AreSetOnce : List Setting → Type 0
 AreSetOnce settings = IsTrue (are_distinct (map option_word settings))
 
--- the value of an option, or what holds where it is not set: the first algebra, one evaluator, the seed 0, a
--- schedule without machines, the size 0
+-- the value of an option, or what holds where it is not set: the first algebra, no second one, one evaluator, the seed
+-- 0, a schedule without machines, the size 0
 abbrev pub algebra_set : List Setting → Option (List ℕ)
 algebra_set [] = None
 algebra_set (Algebra name ∷ settings) = Some name
 algebra_set (setting ∷ settings) = algebra_set settings
+
+abbrev pub second_set : List Setting → Option (List ℕ)
+second_set [] = None
+second_set (Then name ∷ settings) = Some name
+second_set (setting ∷ settings) = second_set settings
 
 abbrev pub workers_set : List Setting → ℕ
 workers_set [] = 1
@@ -93,10 +103,12 @@ size_set [] = 0
 size_set (Size size ∷ settings) = size
 size_set (setting ∷ settings) = size_set settings
 
--- what the words of a command line say; where none is set, there is no machine in the schedule, and the size is 0
+-- what the words of a command line say: the names of the algebra and of the second one, and numbers; where none is set,
+-- there is no machine in the schedule, and the size is 0
 pub record Command : Type 0 where
   pub mode : Mode
   pub algebra : Option (List ℕ)
+  pub second : Option (List ℕ)
   pub workers : ℕ
   pub seed : ℕ
   pub schedule : List ℕ
@@ -111,11 +123,13 @@ pub record IsCommand (words : List (List ℕ)) (command : Command) : Type 0 wher
   pub once : AreSetOnce settings
   pub allowed : All (Allows command.mode) settings
   pub algebra_is : command.algebra ≡ algebra_set settings
+  pub second_is : command.second ≡ second_set settings
   pub workers_are : command.workers ≡ workers_set settings
   pub seed_is : command.seed ≡ seed_set settings
   pub schedule_is : command.schedule ≡ schedule_set settings
   pub size_is : command.size ≡ size_set settings
-  -- what is replayed has a schedule, and a word that is made has a size
+  -- two algebras in order are two, what is replayed has a schedule, and a word that is made has a size
+  pub paired : command.mode ≡ Lex → IsSome command.second
   pub scheduled : command.mode ≡ Replay → 1 ≤ length command.schedule
   pub sized : command.mode ≡ Big → 1 ≤ command.size
 

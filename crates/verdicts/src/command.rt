@@ -11,19 +11,23 @@ pub enum Mode {
     Wins,
     /// The same, with evaluators that are stepped in the order of a schedule.
     Replay,
+    /// The report of each word by two algebras in order.
+    Lex,
     /// The answer for a word that is made.
     Big,
 }
 
-/// What the words of a command line say, of which it borrows the name and the schedule. There are 1 to 32 workers; a
-/// name is one that an algebra may have, and a schedule is the text of one; a word that is made has at most 2,046
-/// letters. Contracts see a name as its bytes, and a schedule as the numbers of the machines that it steps in turn.
+/// What the words of a command line say, of which it borrows names and the schedule. There are 1 to 32 workers; a name
+/// is one that an algebra may have, and a schedule is the text of one; a word that is made has at most 2,046 letters.
+/// Contracts see a name as its bytes, and a schedule as the numbers of the machines that it steps in turn.
 #[derive(Drop)]
 pub struct Command<'w> {
     /// What is asked for.
     pub mode: Mode,
     /// The algebra's name, where one is named.
     pub algebra: Option<&'w str>,
+    /// The second algebra's name, which there is for `Lex` alone.
+    pub second: Option<&'w str>,
     /// How many workers there are.
     pub workers: u32,
     /// The seed of the workers' orders.
@@ -46,9 +50,9 @@ impl<'w> Model for Command<'w> {
 }
 
 impl<'w> Command<'w> {
-    ghost use Rattle.std.specs.Prelude.{◌≡◌, ◌≤◌, IfSome, IsTrue, MatchBool};
+    ghost use Rattle.std.specs.Prelude.{◌≡◌, ◌≤◌, IfSome, IsSome, IsTrue, MatchBool};
     ghost use Rattle.adp_model.specs.WellFormed.{is_name};
-    ghost use Rattle.verdicts.specs.declared.command.Mode.TheVariants.{Big};
+    ghost use Rattle.verdicts.specs.declared.command.Mode.TheVariants.{Big, Lex};
     ghost use Rattle.verdicts.specs.Command.{ReadsJob, greatest_size};
 
     /// What every command keeps. Does nothing when it runs.
@@ -56,6 +60,8 @@ impl<'w> Command<'w> {
         ensures some_workers { 1 ≤ self.now.workers }
         ensures few_workers { self.now.workers ≤ 32 }
         ensures name { IfSome self.now.algebra (λ name. IsTrue (is_name name)) }
+        ensures second_name { IfSome self.now.second (λ name. IsTrue (is_name name)) }
+        ensures paired { self.now.mode ≡ Lex → IsSome self.now.second }
         ensures size { self.now.size ≤ greatest_size }
     {
         let _ = &self.mode;
@@ -67,7 +73,7 @@ impl<'w> Command<'w> {
     {
         match self.mode {
             Mode::Big => false,
-            Mode::Best | Mode::Serial | Mode::Wins | Mode::Replay => true,
+            Mode::Best | Mode::Serial | Mode::Wins | Mode::Replay | Mode::Lex => true,
         }
     }
 }

@@ -4,7 +4,7 @@ use Rattle.grammar_check.specs.declared.error.CheckError.{CheckError}
 use Rattle.grammar_text.specs.declared.error.TextError.{TextError}
 use Rattle.report.specs.declared.fault.Fault.{Fault}
 use Rattle.adp_main.specs.Reporting.{grammar_refusal, text_refusal}
-use Rattle.adp_main.proofs.CheckedJobs.{is_text, is_checked, grammar_fault, grammar_refused, text_fault, text_refused}
+use Rattle.adp_main.proofs.CheckedJobs.{is_text, is_checked, grammar_fault, grammar_refused, pair_fault, pair_refused, text_fault, text_refused}
 use Rattle.adp_main.proofs.Turned.{gave_ok, gave_err}
 use Rattle.adp_main.proofs.checking.checked_job.Goals as goal
 
@@ -52,13 +52,32 @@ returns-in_err-checked-clause-fault c =
     })
     c.check.ensures (gave_err c.check.result c.in_err-checked.field-0.0 (λ (e : CheckError) (fault : Fault). fault ≡ grammar_refusal e) c.in_err-checked.ensures.cases))
 
+pub returns-in_err-second-clause-refusal : goal.returns-in_err-second-clause-refusal
+returns-in_err-second-clause-refusal c =
+    let job = c.in_ok-job.job in
+    let text = is_text c.args.bytes.now job c.read_text.result c.read_text.ensures (gave_ok _ c.read_text.result job _ c.in_ok-job.ensures.variant c.in_ok-job.ensures.cases) in
+    let p = err_from_is_err_and c.from_residual-in_err-second.result c.from_residual-in_err-second.ensures.1 in
+    let same : c.new-name.result ≡ c.named_algebra-name.result.now = c.new-name.ensures ∙ c.in_ok-from_slice.ensures.items in
+    rw (p.1, p.2) (λ words is.
+    pair_refused words c.args.bytes.now c.args.command.now job c.new-name.result c.check.result c.in_ok-checked.checked c.in_err-second.field-0.0
+    (record { is_command = is; reads = c.requires.reads; short_enough = c.requires.fits; is_text = text })
+    (same ∙ c.named_algebra-name.ensures.asked)
+    c.check.ensures (gave_ok _ c.check.result c.in_ok-checked.checked _ c.in_ok-checked.ensures.variant c.in_ok-checked.ensures.cases)
+    c.in_err-second.ensures.fault)
+
+pub returns-in_err-second-clause-fault : goal.returns-in_err-second-clause-fault
+returns-in_err-second-clause-fault c =
+    let p = err_from_is_err_and c.from_residual-in_err-second.result c.from_residual-in_err-second.ensures.1 in
+    rw (p.1, p.2) (pair_fault c.args.command.now.second c.in_ok-checked.checked c.in_err-second.field-0.0 c.in_err-second.ensures.fault)
+
 pub returns-clause-job : goal.returns-clause-job
 returns-clause-job c = λ words is.
     let job = c.in_ok-job.job in
     let text = is_text c.args.bytes.now job c.read_text.result c.read_text.ensures (gave_ok _ c.read_text.result job _ c.in_ok-job.ensures.variant c.in_ok-job.ensures.cases) in
     let same : c.new-name.result ≡ c.named_algebra-name.result.now = c.new-name.ensures ∙ c.in_ok-from_slice.ensures.items in
-    let found = is_checked words c.args.bytes.now c.args.command.now job c.new-name.result c.check.result c.in_ok-checked.checked
+    let found = is_checked words c.args.bytes.now c.args.command.now job c.new-name.result c.check.result c.in_ok-checked.checked c.in_ok-second.second
     (record { is_command = is; reads = c.requires.reads; short_enough = c.requires.fits; is_text = text })
     (same ∙ c.named_algebra-name.ensures.asked)
-    c.check.ensures (gave_ok _ c.check.result c.in_ok-checked.checked _ c.in_ok-checked.ensures.variant c.in_ok-checked.ensures.cases) in
+    c.check.ensures (gave_ok _ c.check.result c.in_ok-checked.checked _ c.in_ok-checked.ensures.variant c.in_ok-checked.ensures.cases)
+    c.in_ok-second.ensures.second in
     (job, found.0, found.1, found.2, (λ i. job.words))

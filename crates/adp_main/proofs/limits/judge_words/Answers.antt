@@ -3,33 +3,47 @@ use Rattle.std.proofs.lemmas.List.{take_all}
 use Rattle.std.specs.List.{AllByRecursion}
 use Rattle.adp_model.specs.declared.fault.LimitFault.{LimitFault}
 use Rattle.adp_model.specs.LimitFaults.{IsLimitFault}
-use Rattle.adp_model.specs.ProblemFields.{IsAdmissible}
+use Rattle.verdicts.specs.SecondAlgebra.{IsAdmissibleWith, IsLimitWith}
+use Rattle.verdicts.specs.Verdict.{IsFirstLimit}
 use Rattle.adp_main.specs.Posed.{posed_words}
-use Rattle.adp_main.proofs.FirstLimit.{first_limit, first_limit-more}
+use Rattle.adp_main.proofs.FirstLimit.{first_limit, first_limit-more, first_refused}
+use Rattle.adp_main.proofs.SecondAlgebras.{first_fault}
 use Rattle.adp_main.proofs.limits.judge_words.Goals as goal
 
 pub returns-in-Err-clause-fault : goal.returns-in-Err-clause-fault
 returns-in-Err-clause-fault c =
-    let grammar = c.args.checked.now.grammar in
-    let algebra = c.args.checked.now.algebra in
+    let second = c.args.command.now.second in
+    let grammar = c.args.job.now.checked.grammar in
+    let algebra = c.args.job.now.checked.algebra in
+    let words = c.as_slice-words.result.now in
     let count = c.within_cells-count.result.0 in
-    rw c.limit.ensures
-    (first_limit-more grammar algebra 1 count c.args.words.now (c.loop-place.place + 1) c.in-Err.fault
-    (first_limit grammar algebra 1 (take count c.args.words.now) c.loop-place.place (c.loop-place.place + 1) c.index-judged-place.result c.in-Err.fault
-    (omega (arith, c.loop-place-test.true)) (omega arith) c.loop-place.invariant
-    (subst (λ (word : List ℕ). IsLimitFault grammar algebra (length word) c.in-Err.fault) c.index-judged-place.is c.in-Err.ensures)))
+    rw c.limit_refusal.ensures
+    (first_refused second grammar algebra c.args.job.now.words c.loop-place.place (length c.index-judged-place.result)
+    c.in-Err.error
+    (λ fault found. subst (λ (ws : List (List ℕ)). IsFirstLimit second grammar algebra 1 ws (c.loop-place.place + 1) fault)
+    c.as_slice-words.ensures
+    (first_limit-more second grammar algebra 1 count words (c.loop-place.place + 1) fault
+    (first_limit second grammar algebra 1 (take count words) c.loop-place.place (c.loop-place.place + 1)
+    c.index-judged-place.result fault (omega (arith, c.loop-place-test.true)) (omega arith) c.loop-place.invariant
+    (subst (λ (word : List ℕ). IsLimitWith second grammar algebra (length word) fault) c.index-judged-place.is found))))
+    c.in-Err.ensures.fault)
 
 pub returns-in-Some-clause-fault : goal.returns-in-Some-clause-fault
 returns-in-Some-clause-fault c =
-    let grammar = c.args.checked.now.grammar in
-    let algebra = c.args.checked.now.algebra in
-    let words = c.args.words.now in
+    let second = c.args.command.now.second in
+    let grammar = c.args.job.now.checked.grammar in
+    let algebra = c.args.job.now.checked.algebra in
+    let words = c.as_slice-words.result.now in
     let count = c.within_cells-count.result.0 in
     let found : (count < length words) × IsLimitFault grammar algebra (length (slice_index_or words count [])) c.in-Some.fault =
     subst (λ (r : Option LimitFault). MatchOption r (count ≡ length words)
-    (λ fault. (count < length words) × IsLimitFault grammar algebra (length (slice_index_or words count [])) fault)) c.in-Some.is c.within_cells-count.ensures.fault in
-    rw c.limit-in-Some.ensures
-    (first_limit grammar algebra 1 words count (count + 1) [] c.in-Some.fault found.0 (omega arith)
-    (subst (λ (ws : List (List ℕ)). AllByRecursion IsAdmissible (posed_words grammar algebra ws))
+    (λ fault. (count < length words) × IsLimitFault grammar algebra (length (slice_index_or words count [])) fault))
+    c.in-Some.is c.within_cells-count.ensures.fault in
+    rw c.limit.ensures
+    (subst (λ (ws : List (List ℕ)). IsFirstLimit second grammar algebra 1 ws (count + 1) c.in-Some.fault)
+    c.as_slice-words.ensures
+    (first_limit second grammar algebra 1 words count (count + 1) [] c.in-Some.fault found.0 (omega arith)
+    (subst (λ (ws : List (List ℕ)). AllByRecursion (IsAdmissibleWith second) (posed_words grammar algebra ws))
     (take_all c.loop-place.place (take count words) (omega (arith, c.loop-place-test.false))) c.loop-place.invariant)
-    found.1)
+    (first_fault c.args.job.now.checked (slice_index_or words count []) second c.args.job.now.second c.requires.second
+    c.in-Some.fault found.1)))

@@ -1,9 +1,11 @@
 -- The first words keep the limits.
 use Rattle.std.proofs.Common.{take}
 use Rattle.std.specs.List.{AllByRecursion}
-use Rattle.adp_model.specs.ProblemFields.{IsAdmissible}
+use Rattle.verdicts.specs.SecondAlgebra.{IsAdmissibleWith}
 use Rattle.adp_main.specs.Posed.{posed_words}
 use Rattle.adp_main.proofs.limits.judge_words.Given as goal
 
 abbrev pub invariant-loop-place : goal.invariant-loop-place
-invariant-loop-place l = AllByRecursion IsAdmissible (posed_words l.checked.grammar l.checked.algebra (take l.place l.judged))
+invariant-loop-place l =
+    AllByRecursion (IsAdmissibleWith l.command.second)
+    (posed_words l.job.checked.grammar l.job.checked.algebra (take l.place l.judged))

@@ -14,7 +14,7 @@ invariant-loop-place g l = record {
   faults : g.K.Sink.faults l.out ≡ g.K.Sink.faults l.initial.out;
   ran : (reports : List (List ℕ)) × (notes : List RunNote)
       × AreRunsOf l.command 1
-      (take l.place (posed_words l.checked.grammar l.checked.algebra l.words)) reports notes
+      (take l.place (posed_words l.job.checked.grammar l.job.checked.algebra l.words)) reports notes
       × AddsNotes (g.G.Gate.runs l.initial.gate) (g.G.Gate.runs l.gate) notes
       × Appends (g.K.Sink.held l.initial.out) (g.K.Sink.held l.out) (concat reports);
 }

@@ -6,7 +6,7 @@ use Rattle.verdicts.specs.Command.{IsCommand}
 use Rattle.verdicts.specs.CommandFields.{command_of}
 use Rattle.command_words.specs.OptionValues.{OptionValues, values_of}
 use Rattle.command_words.specs.Settings.{Suits}
-use Rattle.command_words.proofs.Options.{AreRead, odd_words, stop, turn, finish, is_named, refuse}
+use Rattle.command_words.proofs.Options.{AreRead, odd_words, stop, turn, finish, is_named, is_second_named, refuse}
 use Rattle.command_words.proofs.words.read_words.Goals as goal
 
 pub returns-then-words-eq0-clause-taken : goal.returns-then-words-eq0-clause-taken
@@ -58,6 +58,7 @@ read c = subst (Read c) (sym c.set.view_is) (c.loop-place.invariant.read, c.suit
 is_command : (c : goal.After-unwrap_or-3) → IsCommand (map string_bytes c.args.words.now) (command_of (record {
   mode = c.in_ok-mode.mode;
   algebra = c.set.inside.algebra;
+  second = c.set.inside.second;
   workers = c.unwrap_or.result;
   seed = c.unwrap_or-2.result;
   schedule = c.set.inside.schedule;
@@ -77,6 +78,11 @@ invariant_of-result c = record {
       c.loop-place.place (values_of c.set.inside) (omega (arith, c.if-words-eq0.false)) c.index-words-0.is
       c.as_str.ensures.value c.in_ok-mode.ensures.known c.loop-place.invariant.odd c.loop-place-test.false
       (read c).0;
+  second_name = is_second_named string_bytes c.args.words.now c.index-words-0.result c.as_str.result.now
+      c.in_ok-mode.mode c.loop-place.place (values_of c.set.inside) (omega (arith, c.if-words-eq0.false))
+      c.index-words-0.is c.as_str.ensures.value c.in_ok-mode.ensures.known c.loop-place.invariant.odd
+      c.loop-place-test.false (read c).0;
+  paired = (is_command c).paired;
   size = c.command_is_unique.ensures.size _ _ (is_command c);
 }
 

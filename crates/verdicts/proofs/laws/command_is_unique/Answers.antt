@@ -1,4 +1,4 @@
-use Rattle.verdicts.proofs.OneVerdict.{command_unique, some_workers, few_workers, seed_in_range, size_in_range}
+use Rattle.verdicts.proofs.OneVerdict.{command_unique, some_workers, few_workers, seed_in_range, size_in_range, no_second}
 use Rattle.verdicts.proofs.laws.command_is_unique.Goals as goal
 
 pub returns-clause-command : goal.returns-clause-command
@@ -15,3 +15,6 @@ returns-clause-seed c = seed_in_range
 
 pub returns-clause-size : goal.returns-clause-size
 returns-clause-size c = size_in_range
+
+pub returns-clause-second : goal.returns-clause-second
+returns-clause-second c = no_second

@@ -2,4 +2,10 @@ use Rattle.verdicts.proofs.Reported.{report_asked_for}
 use Rattle.verdicts.proofs.laws.words_have_reports.Goals as goal
 
 pub returns : goal.returns
-returns c = report_asked_for c.words_have_reports.ensures
+returns c =
+    report_asked_for (record {
+      plain = c.words_have_reports.ensures;
+      paired = λ number p second pair. c.words_have_one_pair_report.ensures.report number p second pair.limits.bound
+          (c.pair_limits_are_kept_or_passed.ensures.compilable p second pair)
+          (c.pair_limits_are_kept_or_passed.ensures.admissible p second pair);
+    })

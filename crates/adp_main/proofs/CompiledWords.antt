@@ -1,0 +1,90 @@
+-- What is compiled for a word is the problem under the compiled algebra, and a score there is both scores joined.
+use Rattle.std.proofs.Common.{◌≡◌, ℕ, Bool, Option, List, length, ◌↔◌, sym, ap, subst, ◌∙◌, arith}
+use Rattle.adp_model.specs.declared.cell.Cell.{Cell}
+use Rattle.adp_model.specs.declared.grammar.Grammar.{Grammar}
+use Rattle.adp_model.specs.declared.fault.LimitFault.{LimitFault}
+use Rattle.adp_model.specs.PosedProblem.{PosedProblem}
+use Rattle.adp_model.specs.Bounds.{IsScoreBound}
+use Rattle.adp_model.specs.Derivation.{Derives}
+use Rattle.adp_model.specs.Scores.{score_of}
+use Rattle.adp_model.specs.Tree.{Tree}
+use Rattle.adp_model.specs.ProblemFields.{KeepsLimits}
+use Rattle.grammar_check.specs.CheckedGrammar.{CheckedGrammar}
+use Rattle.lex_product.specs.CompiledTerms.{IsJoinedFrom}
+use Rattle.lex_product.specs.CompiledGrammar.{compiled_grammar, compiled_problem, has_same_goal, multiplier_of}
+use Rattle.lex_product.specs.Compilable.{IsCompilable}
+use Rattle.lex_product.specs.PairAnswers.{compiled_pair, HasLowNumbers, IsPair}
+use Rattle.lex_product.specs.PairFaults.{IsNumberFault}
+use Rattle.lex_product.specs.PairLimits.{AreLowNumbers, IsPairAdmissible}
+use Rattle.lex_product.specs.PairOrder.{scores_of}
+use Rattle.verdicts.specs.SecondAlgebra.{IsSecond}
+use Rattle.adp_main.specs.CompiledWords.{IsCompiledFor, compiled_word}
+use Rattle.adp_main.specs.Posed.{posed_word}
+use Rattle.adp_main.specs.declared.lex.Compiled.{Compiled}
+
+module _ (name : Option (List ℕ)) (p : PosedProblem) (compiled : Compiled) (for : IsCompiledFor name p compiled) where
+  pub is_compiled : compiled_word compiled p.word ≡ compiled_problem p for.second (multiplier_of for.bound)
+  is_compiled = λ i. record { grammar = for.grammar i; algebra = for.algebra i; word = p.word }
+
+  pub joined_scores : ((p : PosedProblem) (second multiplier : ℕ) (cell : Cell) (tree : Tree)
+      → Derives p cell tree ↔ Derives (compiled_problem p second multiplier) cell tree)
+      → ((p : PosedProblem) (second bound : ℕ) → IsCompilable p second bound → (cell : Cell) (tree : Tree)
+      → Derives p cell tree → IsJoinedFrom (multiplier_of bound) (has_same_goal p.grammar p.algebra second)
+      (score_of (compiled_problem p second (multiplier_of bound)) tree) (scores_of p second tree))
+      → (problem : PosedProblem) → problem ≡ compiled_word compiled p.word → (cell : Cell) (tree : Tree)
+      → Derives problem cell tree
+      → IsJoinedFrom compiled.multiplier compiled.same (score_of problem tree) (scores_of p for.second tree)
+  joined_scores trees joined problem same cell tree derived =
+      let whole = same ∙ is_compiled in
+      let here = (trees p for.second (multiplier_of for.bound) cell tree).1
+      (subst (λ (q : PosedProblem). Derives q cell tree) whole derived) in
+      subst (λ (it : ℕ × Bool × PosedProblem). IsJoinedFrom it.0 it.1 (score_of it.2 tree) (scores_of p for.second tree))
+      (λ i. (sym for.multiplier i, sym for.same i, sym whole i))
+      (joined p for.second for.bound for.compilable cell tree here)
+
+-- ---- what is made for a word of a job
+
+module _ (first second : CheckedGrammar) (pair : IsPair first second) (word : List ℕ) (bound : ℕ)
+    (admissible : IsPairAdmissible (posed_word first.grammar first.algebra word) second.algebra)
+    (bounded : IsScoreBound second.grammar second.algebra (length word) bound)
+    (one : (a b : ℕ) → IsScoreBound second.grammar second.algebra (length word) a
+    → IsScoreBound second.grammar second.algebra (length word) b → a ≡ b) where
+  grammar_is : second.grammar ≡ first.grammar
+  grammar_is = ap (λ (it : CheckedGrammar). it.grammar) pair.other
+
+  -- the bound that was found is the one that keeps the limits
+  pub bound_is : admissible.limits.bound ≡ bound
+  bound_is =
+      one admissible.limits.bound bound
+      (subst (λ (g : Grammar). IsScoreBound g second.algebra (length word) admissible.limits.bound) (sym grammar_is)
+      admissible.limits.bounded) bounded
+
+  pub low_numbers : HasLowNumbers first second bound
+  low_numbers = subst (AreLowNumbers first.grammar first.algebra second.algebra) bound_is admissible.limits.numbers
+
+  -- its numbers are low, so that it has no fault
+  pub no_fault : (fault : LimitFault) → IsNumberFault first.grammar first.algebra second.algebra bound fault → ⊥
+  no_fault fault is = let low = low_numbers in omega (arith, low, is.great)
+
+  pub made_for : ((p : PosedProblem) (second : ℕ) (pair : IsPairAdmissible p second)
+      → IsCompilable p second pair.limits.bound)
+      → (name : Option (List ℕ)) → IsSecond name first.grammar second.algebra
+      → (checked : CheckedGrammar) → checked ≡ compiled_pair first second bound → (multiplier : ℕ)
+      → multiplier ≡ multiplier_of bound → (same : Bool)
+      → same ≡ has_same_goal first.grammar first.algebra second.algebra
+      → IsCompiledFor name (posed_word first.grammar first.algebra word)
+      (record { checked = checked; multiplier = multiplier; same = same })
+  made_for compilable name named checked is multiplier multiplier_is same same_is =
+      let asked = posed_word first.grammar first.algebra word in record {
+        second = second.algebra;
+        bound = bound;
+        named = named;
+        compilable = subst (IsCompilable asked second.algebra) bound_is (compilable asked second.algebra admissible);
+        grammar = ap (λ (it : CheckedGrammar). it.grammar) is;
+        algebra = ap (λ (it : CheckedGrammar). it.algebra) is;
+        multiplier = multiplier_is;
+        same = same_is;
+        limits = subst (λ (it : CheckedGrammar). KeepsLimits it.grammar it.algebra (length word)) (sym is)
+            (subst (λ n. KeepsLimits (compiled_grammar first.grammar first.algebra second.algebra (multiplier_of n))
+            first.algebra (length word)) bound_is admissible.limits.of_compiled);
+      }

@@ -1,0 +1,13 @@
+adp 1
+sign a(token)
+sign b(token, score)
+algebra z min
+let a(x) = 0
+let b(x, s) = 1 + s
+algebra q min
+let a(x) = 0
+let b(x, s) = 2*s
+rule r = a("y") | b("y", r)
+grammar r
+words
+y
