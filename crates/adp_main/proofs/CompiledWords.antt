@@ -1,5 +1,5 @@
 -- What is compiled for a word is the problem under the compiled algebra, and a score there is both scores joined.
-use Rattle.std.proofs.Common.{◌≡◌, ℕ, Bool, Option, List, length, ◌↔◌, sym, ap, subst, ◌∙◌, arith}
+use Rattle.std.proofs.Common.{◌≡◌, ℕ, ◌≤◌, Bool, Option, List, length, ◌↔◌, sym, ap, subst, ◌∙◌, arith}
 use Rattle.adp_model.specs.declared.cell.Cell.{Cell}
 use Rattle.adp_model.specs.declared.grammar.Grammar.{Grammar}
 use Rattle.adp_model.specs.declared.fault.LimitFault.{LimitFault}
@@ -88,3 +88,29 @@ module _ (first second : CheckedGrammar) (pair : IsPair first second) (word : Li
             (subst (λ n. KeepsLimits (compiled_grammar first.grammar first.algebra second.algebra (multiplier_of n))
             first.algebra (length word)) bound_is admissible.limits.of_compiled);
       }
+
+-- ---- what is made for a word serves each word of its length
+
+pub compiled_by_length : (name : Option (List ℕ)) (grammar : Grammar) (algebra : ℕ) (word other : List ℕ)
+    (compiled : Compiled) → length other ≡ length word → IsCompiledFor name (posed_word grammar algebra word) compiled
+    → IsCompiledFor name (posed_word grammar algebra other) compiled
+compiled_by_length name grammar algebra word other compiled same for = record {
+  second = for.second;
+  bound = for.bound;
+  named = for.named;
+  compilable = record {
+    least = for.compilable.least;
+    greatest = for.compilable.greatest;
+    ranks = for.compilable.ranks;
+    checked = for.compilable.checked;
+    second_checked = for.compilable.second_checked;
+    adding = for.compilable.adding;
+    short = subst (λ n. n ≤ 4000) (sym same) for.compilable.short;
+    bounded = subst (λ n. IsScoreBound grammar for.second n for.bound) (sym same) for.compilable.bounded;
+  };
+  grammar = for.grammar;
+  algebra = for.algebra;
+  multiplier = for.multiplier;
+  same = for.same;
+  limits = subst (KeepsLimits compiled.checked.grammar compiled.checked.algebra) (sym same) for.limits;
+}

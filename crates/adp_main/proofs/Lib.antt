@@ -10,4 +10,5 @@ pub mod Written
 pub mod FirstLimit
 pub mod Reported
 pub mod SecondAlgebras
+pub mod KeptLengths
 pub mod CompiledWords

@@ -1,6 +1,7 @@
 pub mod Status
 pub mod Faults
 pub mod Posed
+pub mod KeptLengths
 pub mod Seconds
 pub mod CompiledWords
 pub mod RunNotes

@@ -1,5 +1,5 @@
 //! The mode `lex`: reports by two algebras in order, which evaluators find by the compiled one.
-ghost use Rattle.std.specs.Prelude.{◌≡◌, ◌≤◌, ℕ, List, Option, length, IfOk};
+ghost use Rattle.std.specs.Prelude.{◌≡◌, ◌≤◌, ℕ, List, Option, length, IfOk, IfSome};
 ghost use Rattle.adp_io.specs.Causes.{RisesWhere};
 ghost use Rattle.adp_io.specs.Streams.{SameTold};
 ghost use Rattle.adp_model.specs.PosedProblem.{PosedProblem};
@@ -11,7 +11,7 @@ ghost use Rattle.lex_product.specs.PairReport.{IsPairReport};
 ghost use Rattle.report.specs.PairOutcomes.{AreScoresOf, AreThere};
 ghost use Rattle.verdicts.specs.declared.command.Mode.TheVariants.{Lex};
 ghost use Rattle.verdicts.specs.SecondAlgebra.{IsAdmissibleWith, IsSecond};
-ghost use Rattle.adp_main.specs.CompiledWords.{IsCompiledFor, compiled_word};
+ghost use Rattle.adp_main.specs.CompiledWords.{IsCompiledFor, IsKeptFor, compiled_word};
 ghost use Rattle.adp_main.specs.Faults.{status_after};
 ghost use Rattle.adp_main.specs.Posed.{posed_word};
 ghost use Rattle.adp_main.specs.RunNotes.{IsRunOf};
@@ -48,8 +48,15 @@ struct Compiled {
     same: bool,
 }
 
+/// What serves the words of one length: the compiled algebra, and the bounds under it up to that length.
+#[derive(Drop)]
+pub(crate) struct Kept {
+    compiled: Compiled,
+    rows: BoundRows,
+}
+
 /// Solves the word under the compiled algebra by evaluators, writes its report by one `write_whole`, and tells the gate
-/// of their run.
+/// of their run. What was made for it is kept for the next word.
 pub(crate) fn report_word<R: Threads + Sync, K: Sink, G: Gate>(
     rt: &R,
     alloc: Global,
@@ -58,6 +65,7 @@ pub(crate) fn report_word<R: Threads + Sync, K: Sink, G: Gate>(
     job: &CheckedJob,
     rows: &JobRows,
     word: &Text,
+    kept: &mut Option<Kept>,
     out: &mut K,
     gate: &mut G,
 ) -> Result<(), Fault>
@@ -67,18 +75,53 @@ pub(crate) fn report_word<R: Threads + Sync, K: Sink, G: Gate>(
     requires known { length word.now ≤ rows.now.first.longest }
     requires admissible { IsAdmissibleWith command.now.second
         (posed_word job.now.checked.grammar job.now.checked.algebra word.now) }
+    requires kept { IfSome kept.old
+        (IsKeptFor command.now.second job.now.checked.grammar job.now.checked.algebra) }
+    ensures kept { IfSome kept.new
+        (IsKeptFor command.now.second job.now.checked.grammar job.now.checked.algebra) }
     ensures told { SameTold (K.held out.old) (K.held out.new) }
     ensures faults { RisesWhere (K.faults out.old) (K.faults out.new) (status_after result ≡ WriteFault) }
     ensures ending { IsWordEnding (IsRunOf command.now number
         (posed_word job.now.checked.grammar job.now.checked.algebra word.now)) result
         (G.runs gate.old) (G.runs gate.new) (K.held out.old) (K.held out.new) }
 {
+    let made = made_for(alloc, command, job, rows, word, kept.take())?;
+    let problem = admitted(&made.compiled.checked, &made.rows, word);
+    let finished = run_evaluators(rt, alloc, command, &problem, &*gate)?;
+    let report = report_of_both(alloc, number, &made.compiled, &problem, &finished)?;
+    let result = write_run(command, &problem, &finished, &report, out, gate);
+    drop(finished);
+    *kept = Some(made);
+    result
+}
+
+/// What serves the word: what is kept, where the word before had the same length; otherwise it is made.
+fn made_for(
+    alloc: Global,
+    command: &Command<'_>,
+    job: &CheckedJob,
+    rows: &JobRows,
+    word: &Text,
+    kept: Option<Kept>,
+) -> Result<Kept, AllocError>
+    requires mode { command.now.mode ≡ Lex }
+    requires second { IsSecondOf command.now.second job.now.checked job.now.second }
+    requires rows { AreJobRows job.now.checked job.now.second rows.now }
+    requires known { length word.now ≤ rows.now.first.longest }
+    requires admissible { IsAdmissibleWith command.now.second
+        (posed_word job.now.checked.grammar job.now.checked.algebra word.now) }
+    requires kept { IfSome kept (IsKeptFor command.now.second job.now.checked.grammar job.now.checked.algebra) }
+    ensures kept { IfOk result (IsKeptFor command.now.second job.now.checked.grammar job.now.checked.algebra) }
+    ensures long { IfOk result (λ made. made.rows.longest ≡ length word.now) }
+{
+    if let Some(kept) = kept {
+        if kept.rows.longest as usize == word.bytes().len() {
+            return Ok(kept);
+        }
+    }
     let compiled = compiled_for(alloc, command, job, rows, word)?;
     let rows = BoundRows::new(alloc, &compiled.checked, word.bytes().len() as u32)?;
-    let problem = admitted(&compiled.checked, &rows, word);
-    let finished = run_evaluators(rt, alloc, command, &problem, &*gate)?;
-    let report = report_of_both(alloc, number, &compiled, &problem, &finished)?;
-    write_run(command, &problem, &finished, &report, out, gate)
+    Ok(Kept { compiled, rows })
 }
 
 /// The compiled algebra for the word's length.

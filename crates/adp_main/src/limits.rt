@@ -1,5 +1,5 @@
 //! The limits of a job's words: each word is judged, and admitted again when its report is written.
-ghost use Rattle.std.specs.Prelude.{◌≡◌, ℕ, ◌+◌, ◌<◌, ◌≤◌, [], length, slice_index_or, IfOk, IfErr, OnOk, MatchOption, MatchResult};
+ghost use Rattle.std.specs.Prelude.{◌≡◌, ℕ, ◌+◌, ◌<◌, ◌≤◌, [], false, length, slice_index_or, IfOk, IfErr, OnOk, MatchOption, MatchResult};
 ghost use Rattle.std.specs.List.{AllByRecursion};
 ghost use Rattle.adp_model.specs.Bounds.{IsScoreBound};
 ghost use Rattle.adp_model.specs.LimitFaults.{IsLimitFault};
@@ -9,6 +9,7 @@ ghost use Rattle.grammar_check.specs.ToldRows.{AreRowsOf};
 ghost use Rattle.lex_product.specs.PairAnswers.{IsPair};
 ghost use Rattle.lex_product.specs.PairLimits.{KeepsPairLimits};
 ghost use Rattle.verdicts.specs.SecondAlgebra.{IsAdmissibleWith};
+ghost use Rattle.adp_main.specs.KeptLengths.{AreKeptLengths};
 ghost use Rattle.adp_main.specs.Posed.{posed_word, posed_words};
 ghost use Rattle.adp_main.specs.Reporting.{AreShort, IsLengthRefusal, IsLimitOf, IsPairLimitRefusal, compile_refusal, limit_refusal};
 ghost use Rattle.adp_main.specs.Seconds.{AreJobRows, AreSecondRows, IsSecondOf};
@@ -77,8 +78,9 @@ pub(crate) fn judge_words(
     let (count, refused) = within_cells(&job.checked, words);
     let judged = &words[..count];
     let rows = JobRows::new(alloc, job, longest(judged))?;
+    let mut kept = no_lengths(alloc, job, rows.first.longest)?;
     for (place, word) in judged.iter().enumerate() {
-        match judge_word(alloc, command, job, &rows, word) {
+        match judge_once(alloc, command, job, &rows, word, &mut kept) {
             Ok(()) => {}
             Err(error) => return Err(limit_refusal(place, error)),
         }
@@ -87,6 +89,49 @@ pub(crate) fn judge_words(
         Some(fault) => Err(limit(count, fault)),
         None => Ok(rows),
     }
+}
+
+/// A flag for each length up to the longest, none of which is set; without a second algebra, under which alone a word is
+/// dear to judge, there are none.
+fn no_lengths(alloc: Global, job: &CheckedJob, longest: u32) -> Result<Vec<bool>, AllocError>
+    requires { longest ≤ most_letters }
+    ensures { IfOk result (λ kept. (len : ℕ) → slice_index_or kept.items len false ≡ false) }
+{
+    match &job.second {
+        Some(_) => vec![in alloc; false; longest as usize + 1],
+        None => Ok(Vec::new(alloc)),
+    }
+}
+
+/// Judges a word whose length isn't flagged, and flags the length where it keeps the limits.
+fn judge_once(
+    alloc: Global,
+    command: &Command<'_>,
+    job: &CheckedJob,
+    rows: &JobRows,
+    word: &Text,
+    kept: &mut Vec<bool>,
+) -> Result<(), AdmitError>
+    requires second { IsSecondOf command.now.second job.now.checked job.now.second }
+    requires rows { AreJobRows job.now.checked job.now.second rows.now }
+    requires known { length word.now ≤ rows.now.first.longest }
+    requires lengths { AreKeptLengths command.now.second job.now.checked.grammar job.now.checked.algebra
+        kept.old.items }
+    ensures lengths { AreKeptLengths command.now.second job.now.checked.grammar job.now.checked.algebra kept.new.items }
+    ensures kept { OnOk result (IsAdmissibleWith command.now.second
+        (posed_word job.now.checked.grammar job.now.checked.algebra word.now)) }
+    ensures fault { IfErr result (IsLengthRefusal command.now.second job.now.checked.grammar job.now.checked.algebra
+        (length word.now)) }
+{
+    let length = word.bytes().len();
+    if kept.get(length).copied().unwrap_or(false) {
+        return Ok(());
+    }
+    judge_word(alloc, command, job, rows, word)?;
+    if length < kept.len() {
+        kept[length] = true;
+    }
+    Ok(())
 }
 
 /// Whether the word keeps the limits: those under the job's algebra, and those of the pair where there is a second one.

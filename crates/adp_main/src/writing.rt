@@ -1,10 +1,11 @@
 //! The reports of words that keep the limits, found and written one by one.
-ghost use Rattle.std.specs.Prelude.{◌≡◌, ◌<◌, ◌≤◌, List, ℕ, get_or, length};
+ghost use Rattle.std.specs.Prelude.{◌≡◌, ◌<◌, ◌≤◌, List, ℕ, IfSome, get_or, length};
 ghost use Rattle.std.specs.List.{AllByRecursion};
 ghost use Rattle.adp_io.specs.Causes.{RisesWhere};
 ghost use Rattle.adp_io.specs.Streams.{SameTold};
 ghost use Rattle.verdicts.specs.Command.{ReadsJob};
 ghost use Rattle.verdicts.specs.SecondAlgebra.{IsAdmissibleWith};
+ghost use Rattle.adp_main.specs.CompiledWords.{IsKeptFor};
 ghost use Rattle.adp_main.specs.Faults.{status_after};
 ghost use Rattle.adp_main.specs.Posed.{posed_word, posed_words};
 ghost use Rattle.adp_main.specs.Reporting.{AreReportsOf, AreShort, HasWritten};
@@ -14,6 +15,7 @@ ghost use Rattle.adp_main.specs.Writing.{IsReportWritten, IsWordEnding};
 ghost use Rattle.adp_main.specs.declared.status.Status.TheVariants.{WriteFault};
 
 use crate::checking::CheckedJob;
+use crate::lex::Kept;
 use crate::limits::{JobRows, admitted};
 use crate::{best, lex, replay, serial, wins};
 use adp_io::{Sink, write_whole};
@@ -56,10 +58,13 @@ pub(crate) fn write_words<R: Threads + Sync, K: Sink, G: Gate>(
     command.in_range();
     words_have_reports();
     let words = job.words.as_slice();
+    let mut kept = None;
     for (place, word) in words.iter().enumerate() {
         is_admitted(command, job, rows, words, place, word);
         let number = place as u32 + 1;
-        write_word(rt, alloc, command, number, job, rows, word, out, gate)?;
+        write_word(
+            rt, alloc, command, number, job, rows, word, &mut kept, out, gate,
+        )?;
     }
     Ok(())
 }
@@ -99,6 +104,7 @@ fn write_word<R: Threads + Sync, K: Sink, G: Gate>(
     job: &CheckedJob,
     rows: &JobRows,
     word: &Text,
+    kept: &mut Option<Kept>,
     out: &mut K,
     gate: &mut G,
 ) -> Result<(), Fault>
@@ -108,6 +114,10 @@ fn write_word<R: Threads + Sync, K: Sink, G: Gate>(
     requires known { length word.now ≤ rows.now.first.longest }
     requires admissible { IsAdmissibleWith command.now.second
         (posed_word job.now.checked.grammar job.now.checked.algebra word.now) }
+    requires kept { IfSome kept.old
+        (IsKeptFor command.now.second job.now.checked.grammar job.now.checked.algebra) }
+    ensures kept { IfSome kept.new
+        (IsKeptFor command.now.second job.now.checked.grammar job.now.checked.algebra) }
     ensures told { SameTold (K.held out.old) (K.held out.new) }
     ensures faults { RisesWhere (K.faults out.old) (K.faults out.new) (status_after result ≡ WriteFault) }
     ensures ending { IsWordEnding (IsRunOf command.now number
@@ -120,7 +130,9 @@ fn write_word<R: Threads + Sync, K: Sink, G: Gate>(
         Mode::Serial => serial::report_word(alloc, number, &problem, out),
         Mode::Wins => wins::report_word(rt, alloc, command, number, &problem, out, gate),
         Mode::Replay => replay::report_word(alloc, command, number, &problem, out, gate),
-        Mode::Lex => lex::report_word(rt, alloc, command, number, job, rows, word, out, gate),
+        Mode::Lex => {
+            lex::report_word(rt, alloc, command, number, job, rows, word, kept, out, gate)
+        },
         Mode::Big => unreachable!(),
     }
 }

@@ -1,18 +1,13 @@
-use Rattle.std.proofs.Common.{◌∙◌, refl, arith}
+use Rattle.std.proofs.Common.{◌∙◌, refl, sym, arith}
 use Rattle.std.proofs.lemmas.Result.{err_from_is_err_and}
 use Rattle.adp_main.specs.Posed.{posed_word}
 use Rattle.adp_main.proofs.CompiledWords.{is_compiled}
 use Rattle.adp_main.proofs.Running.{compiled_run, not_written}
 use Rattle.adp_main.proofs.lex.report_word.Goals as goal
 
-pub returns-in_err-compiled-clause-ending : goal.returns-in_err-compiled-clause-ending
-returns-in_err-compiled-clause-ending g c =
+pub returns-in_err-made-clause-ending : goal.returns-in_err-made-clause-ending
+returns-in_err-made-clause-ending g c =
     let p = err_from_is_err_and c.from_residual.result c.from_residual.ensures.1 in
-    rw (p.1, p.2) (not_written _ _)
-
-pub returns-in_err-rows-clause-ending : goal.returns-in_err-rows-clause-ending
-returns-in_err-rows-clause-ending g c =
-    let p = err_from_is_err_and c.from_residual-in_err-rows.result c.from_residual-in_err-rows.ensures.1 in
     rw (p.1, p.2) (not_written _ _)
 
 pub returns-in_err-finished-clause-ending : goal.returns-in_err-finished-clause-ending
@@ -25,27 +20,34 @@ returns-in_err-report-clause-ending g c =
     let p = err_from_is_err_and c.from_residual-in_err-report.result c.from_residual-in_err-report.ensures.1 in
     rw (p.1, p.2) (not_written _ _)
 
+pub admitted-problem-requires-clause-rows : goal.admitted-problem-requires-clause-rows
+admitted-problem-requires-clause-rows g c = c.in_ok-made.ensures.kept.rows
+
 pub admitted-problem-requires-clause-limits : goal.admitted-problem-requires-clause-limits
-admitted-problem-requires-clause-limits g c = c.in_ok-compiled.ensures.limits
+admitted-problem-requires-clause-limits g c =
+    (c.in_ok-made.ensures.kept.each c.args.word.now (sym c.in_ok-made.ensures.long)).limits
 
 pub report_of_both-requires-clause-compiled : goal.report_of_both-requires-clause-compiled
 report_of_both-requires-clause-compiled g c = (
   c.args.command.now.second,
   posed_word c.args.job.now.checked.grammar c.args.job.now.checked.algebra c.args.word.now,
-  c.in_ok-compiled.ensures,
+  c.in_ok-made.ensures.kept.each c.args.word.now (sym c.in_ok-made.ensures.long),
   c.admitted-problem.ensures,
 )
 
 pub returns-clause-ending : goal.returns-clause-ending
 returns-clause-ending g c =
     let asked = posed_word c.args.job.now.checked.grammar c.args.job.now.checked.algebra c.args.word.now in
-    let for = c.in_ok-compiled.ensures in
+    let for = c.in_ok-made.ensures.kept.each c.args.word.now (sym c.in_ok-made.ensures.long) in
     compiled_run c.args.command.now c.args.number asked c.admitted-problem.result for.second for.bound
     c.in_ok-finished.finished c.in_ok-report.report.items c.deref.result.now c.requires.mode for.named
     for.compilable.bounded
-    (c.admitted-problem.ensures ∙ is_compiled c.args.command.now.second asked c.in_ok-compiled.compiled for)
+    (c.admitted-problem.ensures ∙ is_compiled c.args.command.now.second asked c.in_ok-made.made.compiled for)
     (c.in_ok-report.ensures c.args.command.now.second asked for c.admitted-problem.ensures) c.deref.ensures.value
-    c.write_run.result _ _ _ _ c.write_run.ensures.ending
+    c.write_run-result.result _ _ _ _ c.write_run-result.ensures.ending
+
+pub returns-clause-kept : goal.returns-clause-kept
+returns-clause-kept g c = c.in_ok-made.ensures.kept
 
 pub returns-in_err-finished-clause-faults : goal.returns-in_err-finished-clause-faults
 returns-in_err-finished-clause-faults g c =

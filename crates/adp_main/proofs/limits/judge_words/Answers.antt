@@ -24,7 +24,7 @@ returns-in-Err-clause-fault c =
     c.as_slice-words.ensures
     (first_limit-more second grammar algebra 1 count words (c.loop-place.place + 1) fault
     (first_limit second grammar algebra 1 (take count words) c.loop-place.place (c.loop-place.place + 1)
-    c.index-judged-place.result fault (omega (arith, c.loop-place-test.true)) (omega arith) c.loop-place.invariant
+    c.index-judged-place.result fault (omega (arith, c.loop-place-test.true)) (omega arith) c.loop-place.invariant.judged
     (subst (λ (word : List ℕ). IsLimitWith second grammar algebra (length word) fault) c.index-judged-place.is found))))
     c.in-Err.ensures.fault)
 
@@ -44,6 +44,6 @@ returns-in-Some-clause-fault c =
     c.as_slice-words.ensures
     (first_limit second grammar algebra 1 words count (count + 1) [] c.in-Some.fault found.0 (omega arith)
     (subst (λ (ws : List (List ℕ)). AllByRecursion (IsAdmissibleWith second) (posed_words grammar algebra ws))
-    (take_all c.loop-place.place (take count words) (omega (arith, c.loop-place-test.false))) c.loop-place.invariant)
+    (take_all c.loop-place.place (take count words) (omega (arith, c.loop-place-test.false))) c.loop-place.invariant.judged)
     (first_fault c.args.job.now.checked (slice_index_or words count []) second c.args.job.now.second c.requires.second
     c.in-Some.fault found.1)))

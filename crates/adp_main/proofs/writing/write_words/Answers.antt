@@ -56,6 +56,7 @@ loop-place-preserved g c =
     let at = posed_at job.checked.grammar job.checked.algebra words c.loop-place.place c.index-words-place.result word
     (omega (arith, c.loop-place-test.true)) c.index-words-place.is refl in
     record {
+      kept = c.in_ok-write_word.ensures.kept;
       told = c.in_ok-write_word.ensures.told ∙ c.loop-place.invariant.told;
       faults = c.in_ok-write_word.ensures.faults.stands (λ failed. cc) ∙ c.loop-place.invariant.faults;
       ran = (

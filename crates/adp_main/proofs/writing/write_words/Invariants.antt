@@ -1,15 +1,17 @@
--- The first words were reported and noted.
-use Rattle.std.proofs.Common.{◌≡◌, List, ℕ, take}
+-- The first words were reported and noted, and what is kept serves words of its length.
+use Rattle.std.proofs.Common.{◌≡◌, List, ℕ, IfSome, take}
 use Rattle.std.specs.List.{concat}
 use Rattle.std.specs.Io.KnownBytes.{Appends}
 use Rattle.adp_io.specs.Streams.{SameTold}
 use Rattle.evaluators.specs.declared.finished.RunNote.{RunNote}
+use Rattle.adp_main.specs.CompiledWords.{IsKeptFor}
 use Rattle.adp_main.specs.Posed.{posed_words}
 use Rattle.adp_main.specs.RunNotes.{AddsNotes, AreRunsOf}
 use Rattle.adp_main.proofs.writing.write_words.Given as goal
 
 abbrev pub invariant-loop-place : goal.invariant-loop-place
 invariant-loop-place g l = record {
+  kept : IfSome l.kept (IsKeptFor l.command.second l.job.checked.grammar l.job.checked.algebra);
   told : SameTold (g.K.Sink.held l.initial.out) (g.K.Sink.held l.out);
   faults : g.K.Sink.faults l.out ≡ g.K.Sink.faults l.initial.out;
   ran : (reports : List (List ℕ)) × (notes : List RunNote)
