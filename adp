@@ -8,8 +8,8 @@ export LC_ALL
 self=${BASH_SOURCE[0]}
 most_bytes=4194304
 # (raised with each format that the program reads)
-version=1.0
-formats='adp 1'
+version=1.1
+formats='adp 1, adp 2'
 
 help() {
   local usage
@@ -23,7 +23,8 @@ modes
   serial             the same bytes, by one sweep over each word
   wins               as best, and behind each report how many answers each evaluator put into the table
   replay             as wins, with evaluators that are stepped one by one, in the order of a schedule
-  lex                the best by one algebra and, among equals, by a second one; as best, with both scores
+  lex                the best by one algebra and, among equals, by a second one; as best, with both scores; of jobs in
+                     the format adp 1 alone
   big                a word that is made from seed and size: its size, best score and cells; reads no job
 
 options, in any order, each at most once

@@ -27,7 +27,7 @@ from collections.abc import Iterable, Iterator, Mapping, Sequence
 from dataclasses import dataclass, field
 from typing import Any, Union
 
-__version__ = "1.0"
+__version__ = "1.1"
 __all__ = ["Fault", "Job", "Malformed", "Node", "Place", "Report", "find_program", "places", "quoted", "read_reports",
            "read_tree", "record_of", "solve", "solve_big", "write_job"]
 
@@ -287,6 +287,62 @@ def record_of(report: Report, scores: Sequence[Score] | None = None) -> dict[str
 # ---- Jobs
 
 _TOKEN = re.compile(r' *(?:(\w+)|"((?:[^"\\]|\\.)*)"|(\.\.|[=(),\[\]|+*-]))')
+# What the first format takes as a term, and a size behind an alternative, which it does not take.
+_PART_OF_SUM = r" *(?:[0-9]+ *\* *)?\w+ *"
+_SUM = re.compile(rf" *-?{_PART_OF_SUM}(?:[+-]{_PART_OF_SUM})*")
+_SIZE = re.compile(r"\) *with +size\b[^\")]*$")
+# (what binds more tightly has the greater number; brackets and functions are no operations)
+_TIGHTNESS = {"+": 1, "-": 1, "*": 2}
+
+# The steps of a term, its sides before each operation: a number, the value of the argument of a number, an operation.
+_Steps = list["tuple[str, int]"]
+
+
+def _steps(words: Sequence[str], variables: Sequence[str]) -> _Steps:
+    """The steps of a term of either format."""
+    steps: _Steps = []
+    waiting: list[str] = []
+
+    def reduce(least: int) -> None:
+        while waiting and _TIGHTNESS.get(waiting[-1], 0) >= max(least, 1):
+            steps.append((waiting.pop(), 0))
+
+    is_first = True
+    for word, behind in zip(words, [*words[1:], ""]):
+        if word == "-" and is_first:
+            steps.append(("number", 0))
+            waiting.append("-")
+        elif word in _TIGHTNESS:
+            reduce(_TIGHTNESS[word])
+            waiting.append(word)
+        elif word == "(" or (word in ("max", "min") and behind == "("):
+            waiting.append(word)
+        elif word in (",", ")"):
+            reduce(0)
+            if word == ")":
+                waiting.pop()
+                if waiting and waiting[-1] in ("max", "min"):
+                    steps.append((waiting.pop(), 0))
+        else:
+            steps.append(("number", int(word)) if word.isdigit() else ("value", variables.index(word)))
+        is_first = word in ("(", ",")
+    reduce(0)
+    return steps
+
+
+def _worth_of(steps: _Steps, values: Sequence[int]) -> int:
+    """What a term is worth at the values of its arguments."""
+    known: list[int] = []
+    for what, number in steps:
+        if what in ("number", "value"):
+            known.append(number if what == "number" else values[number])
+            continue
+        right = known.pop()
+        left = known.pop()
+        known.append({"+": left + right, "-": left - right, "*": left * right, "max": max(left, right),
+                      "min": min(left, right)}[what])
+    (worth,) = known
+    return worth
 
 
 @dataclass
@@ -300,6 +356,16 @@ class _Argument:
     high: int | None = 1
 
 
+@dataclass
+class _Alternative:
+    """An alternative of a rule: its arguments, and how many letters it may cover."""
+
+    rule: str
+    arguments: list[_Argument]
+    low: int = 0
+    high: int | None = None
+
+
 class Job:
     """A job that the program accepts, read so that it tells the scores of a tree's nodes. Of a job with a fault nothing
     is promised but that `Malformed` may be raised."""
@@ -307,9 +373,9 @@ class Job:
     def __init__(self, text: str) -> None:
         self.axiom = ""
         self._classes: dict[str, dict[str, int]] = {}
-        self._terms: dict[str, dict[str, tuple[int, list[int]]]] = {}
+        self._terms: dict[str, dict[str, _Steps]] = {}
         self._is_least: dict[str, bool] = {}
-        self._by_sign: dict[str, list[tuple[str, list[_Argument]]]] = {}
+        self._by_sign: dict[str, list[_Alternative]] = {}
         readers = {"class": self._read_class, "algebra": self._read_algebra, "let": self._read_let,
                    "rule": self._read_rule, "grammar": self._read_grammar}
         header = text[: found.start()] if (found := _WORDS_LINE.search(text, text.find("\n") + 1)) else text
@@ -354,20 +420,7 @@ class Job:
         words = [text for text, _ in tokens]
         close = words.index(")")
         variables = [word for word in words[3:close] if word != ","]
-        constant, factors, at = 0, [0] * len(variables), close + 2
-        while at < len(words):
-            sign = -1 if words[at] == "-" else 1
-            at += words[at] in ("+", "-")
-            number = int(words[at]) if words[at].isdigit() else 1
-            name = words[at]
-            if name.isdigit() and at + 2 < len(words) and words[at + 1] == "*":
-                name, at = words[at + 2], at + 2
-            at += 1
-            if name in variables:
-                factors[variables.index(name)] += sign * number
-            else:
-                constant += sign * int(name)
-        next(reversed(self._terms.values()))[words[1]] = constant, factors
+        next(reversed(self._terms.values()))[words[1]] = _steps(words[close + 2 :], variables)
 
     def _read_rule(self, tokens: list[tuple[str, bool]]) -> None:
         at = 3
@@ -379,8 +432,19 @@ class Job:
                 arguments.append(argument)
                 mark = tokens[at][0]
                 at += 1
-            self._by_sign.setdefault(sign, []).append((tokens[1][0], arguments))
+            alternative = _Alternative(tokens[1][0], arguments)
+            if tokens[at : at + 1] == [("with", False)]:
+                at = self._read_size(tokens, at + 2, alternative)
+            self._by_sign.setdefault(sign, []).append(alternative)
             at += 1
+
+    @staticmethod
+    def _read_size(tokens: list[tuple[str, bool]], at: int, alternative: _Alternative) -> int:
+        alternative.low = int(tokens[at][0])
+        if at + 2 >= len(tokens) or tokens[at + 2][0] == "|":
+            return at + 2
+        alternative.high = int(tokens[at + 2][0])
+        return at + 3
 
     def _read_grammar(self, tokens: list[tuple[str, bool]]) -> None:
         self.axiom = tokens[1][0]
@@ -408,10 +472,10 @@ class Job:
         found = [weights.get(letter) for letter in letters]
         return None if None in found else sum(weight for weight in found if weight is not None)
 
-    def _value(self, place: list[Any], arguments: list[_Argument], term: tuple[int, list[int]], at: int) -> int | None:
+    def _value(self, place: list[Any], arguments: list[_Argument], term: _Steps, at: int) -> int | None:
         """The score of a node in one of the algebras, from those of its parts."""
-        score, factors = term
-        for part, argument, factor in zip(place, arguments, factors):
+        values = []
+        for part, argument in zip(place, arguments):
             if isinstance(part, str):
                 value = self._worth(part, argument)
             else:
@@ -419,8 +483,8 @@ class Job:
                 value = None if best is None else best[0][at]
             if value is None:
                 return None
-            score += factor * value
-        return score
+            values.append(value)
+        return _worth_of(term, values)
 
     def scores(self, tree: Node, *algebras: str) -> list[Score] | None:
         """The score of each node of a tree, in preorder, by an algebra (the first one, where none is named), or by
@@ -430,15 +494,18 @@ class Job:
         for name in names:
             if name not in self._terms:
                 raise Malformed(f"the job has no algebra {name}")
-        nodes = list(tree.preorder())
+        stands = places(tree)
+        nodes = [it.node for it in stands]
         number = {id(node): at for at, node in enumerate(nodes)}
         # of each node its best scores under each rule that derives it, with the alternative's arguments
         best: list[dict[str, tuple[tuple[int, ...], list[_Argument]]]] = [{} for _ in nodes]
         for at in range(len(nodes) - 1, -1, -1):
             node = nodes[at]
             parts = [part if isinstance(part, str) else best[number[id(part)]] for part in node.parts]
-            for rule, arguments in self._by_sign.get(node.sign, []):
-                if len(arguments) != len(parts):
+            length = stands[at].end - stands[at].start
+            for alternative in self._by_sign.get(node.sign, []):
+                rule, arguments, most = alternative.rule, alternative.arguments, alternative.high
+                if len(arguments) != len(parts) or length < alternative.low or (most is not None and most < length):
                     continue
                 values = [self._value(parts, arguments, self._terms[name][node.sign], place)
                           for place, name in enumerate(names)]
@@ -478,12 +545,18 @@ def _line(text: str) -> str:
 
 def write_job(*, signs: Mapping[str, Sequence[str]], algebras: Mapping[str, tuple[str, Mapping[str, str]]],
               rules: Mapping[str, Sequence[str]], words: Iterable[str] = (),
-              classes: Mapping[str, Mapping[str, int]] | None = None, grammar: str | None = None) -> str:
+              classes: Mapping[str, Mapping[str, int]] | None = None, grammar: str | None = None,
+              version: int | None = None) -> str:
     """The text of a job. `signs`: of each its kinds, 'token' or 'score'. `algebras`: of each 'min' or 'max', and of
     each sign with its variables, as 'put(x, y)', its term. `rules`: of each its alternatives; the first is that of the
     whole word, unless `grammar` names another. `classes`: of each the weight of each letter, or of several letters at
-    once."""
-    lines = ["adp 1"]
+    once. `version` is the format, 1 or 2; where it is not given the first one, if that has such terms and
+    alternatives."""
+    if version is None:
+        terms = [term for _, lets in algebras.values() for term in lets.values()]
+        alternatives = [alternative for its in rules.values() for alternative in its]
+        version = 1 if all(map(_SUM.fullmatch, terms)) and not any(map(_SIZE.search, alternatives)) else 2
+    lines = [f"adp {version}"]
     for name, weights in (classes or {}).items():
         lines.append(f"class {name} = " + " ".join(f"{quoted(it)} {weight}" for it, weight in weights.items()))
     lines += [f"sign {name}({', '.join(kinds)})" for name, kinds in signs.items()]

@@ -21,6 +21,7 @@ BEGIN {
   MOST_TOKENS = 60000
   MOST_NOTED = 20000
   MOST_ENTRIES = 4096
+  MOST_SUM = 4294967295
   for (code = 1; code < 256; code++) code_of[sprintf("%c", code)] = code
   HEX = "0123456789ABCDEF"
   said_words = split("class sign algebra let rule grammar words", KEYWORDS, " ")
@@ -208,6 +209,7 @@ function read_job(wanted,    line, number, bytes) {
   }
   close(job)
   is_small = bytes <= MOST_HEADER
+  is_second = header[1] == "adp 2"
 }
 
 function header_end() { return words_line ? words_line : lines }
@@ -456,7 +458,7 @@ function parse_let() {
   } while (token[at] == "," && at++)
   if (!(eat(")") && eat("="))) return 0
   term_at = at
-  return parse_term()
+  return is_second ? parse_wide() : parse_term()
 }
 
 # A number, a variable, or a number, `*` and a variable; then `+` or `-` and so on.
@@ -480,6 +482,7 @@ function parse_part() {
   if (token[at - 1] !~ /^[0-9]/ || token[at] != "*") return 1
   at++
   if (token[at] == "(") return no_brackets()
+  if ((token[at] == "min" || token[at] == "max") && token[at + 1] == "(") return no_choice(token[at])
   if (token[at] ~ /^[0-9]/) return fails("there is no product of numbers: write the number that it is")
   return eat_word("a variable")
 }
@@ -491,22 +494,30 @@ function no_functions(name,    j) {
   return fails("a term has no functions, as `" name "`: it is a sum of numbers and of variables, each with a factor")
 }
 
-function no_brackets() { return fails("a term has no brackets: multiply out, as 2*x + 2*y for 2*(x + y)") }
+function no_brackets() { return fails("a term has no brackets in `adp 1`: multiply out, as 2*x + 2*y for 2*(x + y), " \
+    "or write `adp 2` in line 1") }
+
+function no_choice(name) { return fails("a term has no `" name "` in `adp 1`: write `adp 2` in line 1, or give each " \
+    "case a sign of its own, and let the goal choose between the alternatives") }
 
 # What is wrong behind a part of a term that is followed by no `+` and no `-`.
 function behind_part(    before, behind) {
   before = token[at - 1]
   behind = token[at + 1]
   if (token[at] == "*") {
-    if (before ~ /^[0-9]/ || token[at - 2] == "*") return fails("there is one factor and one variable in a product")
+    if (before ~ /^[0-9]/ || token[at - 2] == "*") return fails("there is one factor and one variable in a product " \
+        "in `adp 1`")
     if (behind ~ /^[0-9]/) return fails("a factor stands before its variable: write " behind "*" before)
-    return fails("there is no product of two variables: terms are linear, and what a step depends on besides has " \
-        "to be known to its rule (docs/GUIDE.md, the product of matrices)")
+    return fails("there is no product of two variables in `adp 1`, whose terms are sums: write `adp 2` in line 1")
   }
-  if (token[at] == "(" && (before == "min" || before == "max")) return fails("a term has no `" before \
-      "`: give each case a sign of its own, and let the goal choose between the alternatives")
+  if (token[at] == "(" && (before == "min" || before == "max")) return no_choice(before)
   if (token[at] == "(" && is_name(before)) return no_functions(before)
   if (token[at] == "(") return no_brackets()
+  return behind_value(before)
+}
+
+# What is wrong behind a number or a variable, in any format.
+function behind_value(before) {
   if (token[at] == "." && before ~ /^[0-9]/) return fails("numbers are whole: multiply all numbers of the algebra " \
       "by 10, 100 or more")
   if (token[at] == ".." && before ~ /^[0-9]/) return fails("numbers are whole, and a term has no dots")
@@ -514,6 +525,125 @@ function behind_part(    before, behind) {
   if (token[at] == "^") return fails("there is no power: write the number that it is")
   if (is_word(token[at])) return fails("`+`, `-` or `*` is missing before " quoted(token[at]))
   return fails(seen() ", where `+`, `-` or the end of the line should be")
+}
+
+# A term of the second format, as a tree: `term_root` is its top node. Of each node `operation` tells what it is, `+`,
+# `-`, `*`, `max` or `min`, or `leaf` or `nought` (the 0 before a first `-`), `side` its two sides, and the tokens from
+# `begins` to `ends` are its text, with the brackets round it. What is open waits on a stack: `open_nodes` nodes, and
+# `opened` operations and brackets.
+function parse_wide(    is_due, is_first, word) {
+  nodes = open_nodes = opened = term_root = 0
+  is_due = is_first = 1
+  for (;;) {
+    word = at > tokens ? "" : token[at]
+    if (is_due && word == "-" && is_first) {
+      add_leaf("nought")
+      open_operation("-")
+      is_first = 0
+    } else if (is_due && (word == "(" || ((word == "max" || word == "min") && token[at + 1] == "("))) {
+      bracket_at[opened + 1] = at
+      open_operation(word == "(" ? "(" : word "(")
+      if (word != "(") at++
+      is_first = 1
+    } else if (is_due) {
+      if (!is_word(word)) return no_value(word)
+      add_leaf("leaf")
+      is_due = is_first = 0
+    } else if (word == "+" || word == "-" || word == "*") {
+      reduce(word == "*" ? 2 : 1)
+      open_operation(word)
+      is_due = 1
+    } else if (word == ",") {
+      reduce(0)
+      if (stacked[opened] !~ /^m..\($/) return no_comma()
+      stacked[opened] = substr(stacked[opened], 1, 3) ","
+      is_due = is_first = 1
+    } else if (word == ")") {
+      reduce(0)
+      if (!opened) return fails("this `)` closes no bracket")
+      if (stacked[opened] ~ /\($/ && stacked[opened] != "(") return fails("`" substr(stacked[opened], 1, 3) \
+          "` takes two, with a comma between them")
+      close_bracket()
+    } else if (word == "") {
+      reduce(0)
+      if (opened) return fails("a `)` is missing: the bracket at column " column[bracket_at[opened]] " does not close")
+      term_root = waiting_node[1]
+      return 1
+    } else return behind_wide(token[at - 1])
+    at++
+  }
+}
+
+function add_leaf(sort_of_leaf) {
+  operation[++nodes] = sort_of_leaf
+  begins[nodes] = ends_at[nodes] = at
+  waiting_node[++open_nodes] = nodes
+}
+
+function open_operation(what) {
+  stacked[++opened] = what
+  stacked_at[opened] = at
+}
+
+# Joins what binds as tightly as this, or more so, down to a bracket.
+function reduce(least) {
+  while (opened && stacked[opened] ~ /^[-+*]$/ && (stacked[opened] == "*" ? 2 : 1) >= least) join_sides(stacked[opened])
+}
+
+function join_sides(what) {
+  operation[++nodes] = what
+  joined_at[nodes] = stacked_at[opened--]
+  side[nodes, 2] = waiting_node[open_nodes--]
+  side[nodes, 1] = waiting_node[open_nodes]
+  begins[nodes] = begins[side[nodes, 1]]
+  ends_at[nodes] = ends_at[side[nodes, 2]]
+  waiting_node[open_nodes] = nodes
+}
+
+function close_bracket(    first) {
+  first = bracket_at[opened]
+  if (stacked[opened] == "(") opened--
+  else join_sides(substr(stacked[opened], 1, 3))
+  begins[waiting_node[open_nodes]] = first
+  ends_at[waiting_node[open_nodes]] = at
+}
+
+# What is wrong where a number, a variable or a bracket should be.
+function no_value(word) {
+  if (word == "-") return fails("a `-` stands here before a number or a variable: put brackets, as (-x)")
+  if (word == "+") return fails("there is one sign at a time, and no `+` in front")
+  if (word == ")" && token[at - 1] == "(") return fails("nothing stands in these brackets")
+  return fails(seen() ", where a number, a variable or a bracket should be")
+}
+
+function no_comma() {
+  return fails(opened ? stacked[opened] == "(" ? "a comma stands in brackets: is `max` or `min` meant?" : "`" \
+      substr(stacked[opened], 1, 3) "` takes two: for three write " substr(stacked[opened], 1, 3) "(a, " \
+      substr(stacked[opened], 1, 3) "(b, c))" : "a comma stands outside of `max(..)` and `min(..)`")
+}
+
+function behind_wide(before) {
+  if (token[at] == "(" && before ~ /^[0-9]/) return fails("a `*` is missing before the bracket")
+  if (token[at] == "(" && is_name(before) && !is_variable(before)) {
+    if (before ~ /^(maximum|Max|MAX|greater)$/) return fails("is `max` meant?")
+    if (before ~ /^(minimum|Min|MIN|lesser)$/) return fails("is `min` meant?")
+    if (before ~ /^(len|length|size|count|strlen)$/) return fails("a term has no function " quoted(before) \
+        ": give the letters of the class the weight 1, and a run of them is worth its length")
+    return fails("a term has no functions but `max` and `min`, and none that is called " quoted(before))
+  }
+  if (token[at] == "(") return fails("`+`, `-` or `*` is missing before the bracket")
+  return behind_value(before)
+}
+
+function is_variable(name,    j) {
+  for (j = 1; j <= variables; j++) if (variable[j] == name) return 1
+  return 0
+}
+
+# The text of a part of a term.
+function part_text(node,    last) {
+  last = ends_at[node]
+  return substr(parsed, column[begins[node]], column[last] + length(token[last]) - column[begins[node]])
 }
 
 function parse_rule() {
@@ -552,7 +682,33 @@ function parse_alternative() {
       "nested " quoted(token[at - 1] "(..)") " needs a rule of its own")
   if (is_word(token[at]) || token[at] == "[" || substr(token[at], 1, 1) == "\"") return \
       fails("a `,` is missing before " quoted(token[at]))
-  return eat(")")
+  return eat(")") && parse_size(alternatives)
+}
+
+# The size of an alternative, where it has one.
+function parse_size(i) {
+  size_at[i] = 0
+  size_low[i] = size_high[i] = ""
+  if (token[at] ~ /^(with|size|sizes|minsize|maxsize|length|suchthat)$/ && (!is_second || token[at] != "with" || \
+      token[at + 1] != "size")) return fails_size()
+  if (token[at] != "with") return 1
+  size_at[i] = at
+  at += 2
+  if (!eat_word("the least number of letters")) return 0
+  size_low[i] = token[at - 1]
+  if (token[at] != "..") return fails("two dots stand behind the least number of letters: with size " size_low[i] \
+      ".., or with size " size_low[i] ".." size_low[i] " for just so many")
+  at++
+  if (is_word(token[at])) size_high[i] = token[at++]
+  return 1
+}
+
+function fails_size(    low) {
+  low = token[at + 2] == "(" && is_digits(token[at + 3]) ? token[at + 3] : "2"
+  if (!is_second) return fails("an alternative has no size in `adp 1`: write `adp 2` in line 1")
+  if (token[at + 1] == "minsize") return fails("a least number of letters is written: with size " low "..")
+  if (token[at + 1] == "maxsize") return fails("a greatest number of letters is written: with size 0.." low)
+  return fails("what letters an alternative may cover is written: with size 2..5, or: with size 2..")
 }
 
 function is_rule_elsewhere(word,    number) {
@@ -645,6 +801,8 @@ function note_rule(number,    i, j) {
   for (i = 1; i <= alternatives; i++) {
     sign_of[declared, i] = token[alternative_at[i]]
     arguments_of[declared, i] = arguments[i]
+    size_low_of[declared, i] = size_low[i]
+    size_high_of[declared, i] = size_high[i]
     for (j = 1; j <= arguments[i]; j++) {
       sort_of[declared, i, j] = sort[i, j]
       argument_of[declared, i, j] = argument[i, j]
@@ -742,6 +900,7 @@ function explain_text(number, kind_number, counted) {
     else if (kind_number == 14) tell_run(number)
     else if (kind_number == 15) tell_incomplete(number)
     else if (kind_number == 16) tell_count(number, counted)
+    else if (kind_number == 17) tell_variable_twice(number)
     else show(number, wanted_line, 0)
   }
   tell_section("Faults of the text", kind_number)
@@ -768,12 +927,12 @@ function tell_first_line() {
   if (wanted_line ~ /^\357\273\277/) tell(sentence(strange(wanted_line, 1)))
   else if (wanted_line ~ /^\377\376|^\376\377/ || wanted_line ~ /^a?$/ && lines > 1 && wanted_line != "") \
       tell("The file seems to be UTF-16: save it as plain text, ASCII or UTF-8.")
-  else if (wanted_line ~ /^[ \t]*$/) tell("The first line is empty: `adp 1` has to be the very first one.")
-  else if (wanted_line ~ /^#/) tell("A comment stands first: `adp 1` has to be the very first line.")
-  else if (tolower(wanted_line) ~ /^[ \t]*adp[ \t]*1[ \t]*$/) tell("Only `adp 1` itself will do: small letters, " \
-      "one space, and none before or behind.")
-  else if (wanted_line ~ /^adp [0-9]+$/) tell("This program reads the format `adp 1`.")
-  else tell("A job begins with the line `adp 1`.")
+  else if (wanted_line ~ /^[ \t]*$/) tell("The first line is empty: `adp 1` or `adp 2` has to be the very first one.")
+  else if (wanted_line ~ /^#/) tell("A comment stands first: `adp 1` or `adp 2` has to be the very first line.")
+  else if (tolower(wanted_line) ~ /^[ \t]*adp[ \t]*[12][ \t]*$/) tell("Only `adp " (wanted_line ~ /1/ ? 1 : 2) \
+      "` itself will do: small letters, one space, and none before or behind.")
+  else if (wanted_line ~ /^adp [0-9]+$/) tell("This program reads the formats `adp 1` and `adp 2`.")
+  else tell("A job begins with the line `adp 1` or `adp 2`.")
 }
 
 function tell_strange_byte(number,    text) {
@@ -805,7 +964,8 @@ function tell_name(number,    i, word, place) {
 function is_in_place_of_name(place,    before) {
   before = token[place - 1]
   if (shape == "let") return place < term_at || token[place] !~ /^[0-9]/
-  if (shape == "rule") return before != ".." && !(is_word(before) && token[place - 2] == "[")
+  if (shape == "rule") return before != ".." && !(is_word(before) && token[place - 2] == "[") && \
+      !is_bound_of_size(place)
   return 0
 }
 
@@ -837,7 +997,14 @@ function written_out(word,    half) {
 function is_in_place_of_number(place) {
   if (shape == "class") return place > 3
   if (shape == "let") return place >= term_at && token[place] ~ /^[0-9]/
-  if (shape == "rule") return token[place - 1] == ".." || (is_word(token[place - 1]) && token[place - 2] == "[")
+  if (shape == "rule") return token[place - 1] == ".." || (is_word(token[place - 1]) && token[place - 2] == "[") || \
+      is_bound_of_size(place)
+  return 0
+}
+
+# Whether this is the lower bound of an alternative's size.
+function is_bound_of_size(place,    i) {
+  for (i = 1; i <= alternatives; i++) if (size_at[i] && size_at[i] + 2 == place) return 1
   return 0
 }
 
@@ -1014,6 +1181,7 @@ function tell_undeclared_in_let(number,    i, j, is_there, list) {
   for (j = 1; j <= variables; j++) list[j] = variable[j]
   for (i = term_at; i <= tokens; i++) {
     if (token[i] !~ /^[A-Za-z_]/) continue
+    if (is_second && (token[i] == "max" || token[i] == "min") && token[i + 1] == "(") continue
     is_there = 0
     for (j = 1; j <= variables; j++) if (variable[j] == token[i]) is_there = 1
     if (is_there) continue
@@ -1091,6 +1259,36 @@ function tell_run(number,    i, j) {
         j] + 0 "..] for " low[i, j] + 0 " and more.")
     return
   }
+  for (i = 1; i <= alternatives; i++) {
+    if (size_high[i] == "" || size_high[i] + 0 >= size_low[i] + 0) continue
+    show(number, header[number], column[size_at[i]])
+    tell("The size of alternative " i ", " shown_alternative(i) ", goes from " size_low[i] + 0 " to " size_high[i] + 0 \
+        " letters: write with size " size_high[i] + 0 ".." size_low[i] + 0 ", or with size " size_low[i] + 0 ".. for " \
+        size_low[i] + 0 " and more.")
+    return
+  }
+}
+
+# A term of the second format that names a variable twice.
+function tell_variable_twice(number,    i, first) {
+  for (i = term_at; i <= tokens; i++) {
+    if (token[i] !~ /^[A-Za-z]/ || ((token[i] == "max" || token[i] == "min") && token[i + 1] == "(")) continue
+    if (!(token[i] in first)) { first[token[i]] = i; continue }
+    show(number, header[number], column[i])
+    tell("The variable " quoted(token[i]) " stands here again, and at column " column[first[token[i]]] " before. In " \
+        "`adp 2` a term names each variable once: " once_for(token[i], first[token[i]], i) ".")
+    return
+  }
+}
+
+# How a variable that stands at two places of a term can be named once.
+function once_for(name, one, two) {
+  if (token[two - 1] == "*" && token[two - 2] == name) return "there are no squares; of a token, a class of its own " \
+      "can have them as weights"
+  if (token[one - 1] ~ /^[(,]$/ || token[two - 1] ~ /^[(,]$/) return "put what both have outside, as max(x, y) + 1 " \
+      "for max(x + 1, y + 1)"
+  return "add up its factors, as 3*" name " for " name " + 2*" name ", or put it outside of brackets, as " name \
+      "*(y + z)"
 }
 
 function tell_count(number, counted,    what, most, mend) {
@@ -1102,6 +1300,10 @@ function tell_count(number, counted,    what, most, mend) {
       "Make it two signs, with a rule between them." }
   else if (shape == "sign") { what = "signs"; most = 256 }
   else if (shape == "algebra") { what = "algebras"; most = 16 }
+  else if (shape == "let") {
+    what = "leaves of a term, which are its numbers, its variables and a 0 for each first `-`"; most = 32
+    mend = "Add up numbers that stand side by side, or make it two signs, with a rule between them."
+  }
   else if (counted == alternatives && alternatives != 129) { what = "alternatives of a rule"; most = 64; mend = \
       "Divide them between two rules, of which a sign with one score in the first names the second." }
   else { what = "rules"; most = 128 }
@@ -1204,7 +1406,10 @@ function explain_grammar(kind_number, name,    number) {
   if (kind_number == 1) tell_algebras(name)
   else if (kind_number == 2) tell_unproductive(name)
   else if (kind_number == 3) tell_loop(name)
+  else if (kind_number == 4 && is_second) tell_falling(name)
   else if (kind_number == 4) tell_negative(name)
+  else if (kind_number == 5) tell_impossible(name)
+  else if (kind_number == 6 && is_second) tell_second_format(name)
   else if (kind_number == 6) tell_other_factors(name)
   tell_section("Faults of the grammar", kind_number)
 }
@@ -1224,7 +1429,7 @@ function head_of(sort, name,    number) {
   show(number, header[number], 0)
 }
 
-# The least length of each rule's trees, up to 4001: `least[rule]`; none where a rule has no tree.
+# The least length of each rule's trees, up to a great number: `least[rule]`; none where a rule has no tree.
 function find_least(    i, a, rule, sum, has_changed) {
   do {
     has_changed = 0
@@ -1232,6 +1437,8 @@ function find_least(    i, a, rule, sum, has_changed) {
       rule = rules[i]
       for (a = 1; a <= alternatives_of[rule]; a++) {
         sum = least_of_alternative(rule, a)
+        if (sum >= 0 && size_high_of[rule, a] != "" && sum > size_high_of[rule, a] + 0) continue
+        if (sum >= 0 && sum < size_low_of[rule, a] + 0) sum = size_low_of[rule, a] + 0
         if (sum >= 0 && (!(rule in least) || sum < least[rule])) { least[rule] = sum; has_changed = 1 }
       }
     }
@@ -1244,7 +1451,7 @@ function least_of_alternative(rule, a,    j, sum, one) {
     if (one < 0) return -1
     sum += one
   }
-  return sum > 4001 ? 4001 : sum
+  return sum > MOST_SUM ? MOST_SUM : sum
 }
 
 function least_of_argument(rule, a, j,    which) {
@@ -1264,7 +1471,8 @@ function letters_of(literal) {
 # An alternative of a rule of the grammar, in words.
 function spelled(rule, a,    j, text) {
   for (j = 1; j <= arguments_of[rule, a]; j++) text = text (j > 1 ? ", " : "") spelled_argument(rule, a, j)
-  return quoted(sign_of[rule, a] "(" text ")")
+  return quoted(sign_of[rule, a] "(" text ")" (size_low_of[rule, a] == "" ? "" : " with size " size_low_of[rule, a] \
+      ".." size_high_of[rule, a]))
 }
 
 function spelled_argument(rule, a, j,    which) {
@@ -1285,6 +1493,8 @@ function tell_unproductive(rule,    a, j, n, told) {
           "the rule itself." : "the rule " quoted(argument_of[rule, a, j]) ", which has none."))
       break
     }
+    if (j > arguments_of[rule, a]) tell("Alternative " a ", " spelled(rule, a) ", has " \
+        plural(least_of_alternative(rule, a), "letter") " at least, and its size allows " size_high_of[rule, a] + 0 " at most.")
   }
   if (n > 6) tell("And so on: none of the " n " alternatives ends.")
 }
@@ -1357,6 +1567,186 @@ function is_negative(i) {
   return token[i - 1] == "-"
 }
 
+# ---- Signs of terms of the second format
+
+# Reads the `let` of a sign in an algebra: its line, and its term as a tree.
+function read_let(section, sign,    number) {
+  number = let_of[section, sign]
+  if (number) has_form(number)
+  return number
+}
+
+# The kind of the argument that a leaf names; nothing where it is a number.
+function kind_of_leaf(sign, node,    j) {
+  for (j = 1; j <= variables; j++) if (variable[j] == token[begins[node]]) return kind_of[sign, j]
+  return ""
+}
+
+function is_leaf(node) { return operation[node] == "leaf" || operation[node] == "nought" }
+
+# The first leaf of a part that names a score; 0 where there is none.
+function named_score(sign, node,    found) {
+  if (is_leaf(node)) return operation[node] == "leaf" && kind_of_leaf(sign, node) == "score" ? node : 0
+  found = named_score(sign, side[node, 1])
+  return found ? found : named_score(sign, side[node, 2])
+}
+
+# The least part for which a part is not known not to be negative; 0 where it is known.
+function maybe_negative(sign, node,    one, two) {
+  if (operation[node] == "leaf") {
+    one = kind_of_leaf(sign, node)
+    return one == "token" && negative_class || one == "score" && negative_sign != "" ? node : 0
+  }
+  if (operation[node] == "nought") return 0
+  if (operation[node] == "-") return node
+  one = maybe_negative(sign, side[node, 1])
+  two = maybe_negative(sign, side[node, 2])
+  if (operation[node] == "max") return one && two ? is_leaf(one) && is_leaf(two) ? node : is_leaf(one) ? two : one : 0
+  return one ? one : two
+}
+
+# Finds the first class with a negative weight, and the first sign whose term is not known not to be negative.
+function find_signs(section,    number, i, name) {
+  negative_class = 0
+  negative_sign = ""
+  for (number = 2; number <= header_end() && !negative_class; number++) {
+    if (!(number in header) || header[number] !~ /^ *class[ ]/ || !has_form(number)) continue
+    for (i = 1; i <= items; i++) if (token[weight_at[i] - 1] == "-" && token[weight_at[i]] + 0 > 0) {
+      negative_class = number
+      break
+    }
+  }
+  for (i = 1; i <= signs_count && name == ""; i++) {
+    if (read_let(section, signs[i]) && maybe_negative(signs[i], term_root)) name = signs[i]
+  }
+  negative_sign = name
+}
+
+# The least part of a term that is not monotone; 0 where it is.
+function falling(sign, node,    one) {
+  if (is_leaf(node)) return 0
+  if (operation[node] == "*" && !named_score(sign, node)) return 0
+  one = falling(sign, side[node, 1])
+  if (one) return one
+  if (operation[node] == "-") return named_score(sign, side[node, 2]) ? node : 0
+  one = falling(sign, side[node, 2])
+  if (one) return one
+  if (operation[node] != "*") return 0
+  return falling_side(sign, node) ? node : 0
+}
+
+# The side of a product that could be negative, where the other names a score; 0 where there is none.
+function falling_side(sign, node,    k) {
+  for (k = 1; k <= 2; k++) if (named_score(sign, side[node, 3 - k]) && maybe_negative(sign, side[node, k])) return \
+      side[node, k]
+  return 0
+}
+
+# The `let` of a sign whose term is not monotone, the part at fault, and why it is.
+function tell_falling(sign,    section, number, part, off, score) {
+  section = chosen_section()
+  find_signs(section)
+  number = read_let(section, sign)
+  if (!number) return
+  print bold name_of_job ", line " number ":" plain
+  part = falling(sign, term_root)
+  if (!part) { show(number, header[number], 0); return }
+  if (operation[part] == "-") {
+    off = side[part, 2]
+    score = named_score(sign, off)
+    show(number, header[number], column[begins[score]])
+    tell("Here " quoted(part_text(off)) " is taken off" (off == score ? ", a score" : ", which names the score " \
+        quoted(part_text(score))) ": a greater " quoted(part_text(score)) " would make the term lesser.")
+    return
+  }
+  off = falling_side(sign, part)
+  show(number, header[number], column[begins[off]])
+  tell("In the product " quoted(part_text(part)) " the side " quoted(part_text(off)) " could be negative, and a " \
+      "greater " quoted(part_text(named_score(sign, off == side[part, 1] ? side[part, 2] : side[part, 1]))) \
+      " would then make the term lesser. " why_negative(sign, off))
+  tell_source(section, sign, maybe_negative(sign, off))
+}
+
+# Why a part could be negative, in words.
+function why_negative(sign, node,    part) {
+  part = maybe_negative(sign, node)
+  if (operation[part] == "-") return "A difference is never known not to be negative: write max(" \
+      bare(part_text(part)) ", 0), where it may be raised to 0."
+  if (operation[part] == "max") return "Neither side of " quoted(part_text(part)) " is known not to be negative: " \
+      "write max(" bare(part_text(part)) ", 0), where it may be raised to 0."
+  if (kind_of_leaf(sign, part) == "token") return "The token " quoted(part_text(part)) " could be, since a class of " \
+      "the job has a negative weight:"
+  return "The score " quoted(part_text(part)) " could be, since a `let` of the algebra is not known to give 0 or more:"
+}
+
+# A text without the brackets round it.
+function bare(text) { return text ~ /^\(.*\)$/ ? substr(text, 2, length(text) - 2) : text }
+
+# Shows the class or the `let` by which a token or a score could be negative.
+function tell_source(section, sign, part,    number, other, found) {
+  if (!is_leaf(part)) return
+  if (kind_of_leaf(sign, part) == "token") { show(negative_class, header[negative_class], 0); return }
+  other = negative_sign
+  # (scores are taken as not negative where the terms are judged)
+  negative_sign = ""
+  number = read_let(section, other)
+  found = maybe_negative(other, term_root)
+  show(number, header[number], column[begins[found]])
+  if (!is_leaf(found)) tell(why_negative(other, found))
+  else {
+    tell("Here the token " quoted(part_text(found)) " could be negative, since a class of the job has a negative " \
+        "weight:")
+    show(negative_class, header[negative_class], 0)
+  }
+}
+
+# The alternatives of a rule that no length fits.
+function tell_impossible(rule,    a, j, sum, one) {
+  head_of("rule", rule)
+  if (!is_small) return
+  find_least()
+  find_greatest()
+  for (a = 1; a <= alternatives_of[rule]; a++) {
+    sum = least_of_alternative(rule, a)
+    if (size_high_of[rule, a] != "" && sum > size_high_of[rule, a] + 0) tell("Alternative " a ", " spelled(rule, a) \
+        ", has " plural(sum, "letter") " at least" beside(rule, a, "least") ", and its size allows " \
+        size_high_of[rule, a] + 0 " at most.")
+    sum = 0
+    for (j = 1; j <= arguments_of[rule, a] && sum >= 0; j++) {
+      one = most_of_argument(rule, a, j)
+      sum = one < 0 ? -1 : sum + one
+    }
+    if (sum >= 0 && sum < size_low_of[rule, a] + 0) tell("Alternative " a ", " spelled(rule, a) ", has " plural(sum, \
+        "letter") " at most" beside(rule, a, "most") ", and its size asks for " size_low_of[rule, a] + 0 " at least.")
+  }
+}
+
+# The greatest length of an argument; -1 where it has no bound.
+function most_of_argument(rule, a, j,    one) {
+  if (sort_of[rule, a, j] == "run") return high_of[rule, a, j] == "" ? -1 : high_of[rule, a, j] + 0
+  one = greatest_of_argument(rule, a, j)
+  return sort_of[rule, a, j] == "rule" && one > 4000 ? -1 : one
+}
+
+# What each argument has, where there are several.
+function beside(rule, a, which,    j, text, one) {
+  if (arguments_of[rule, a] < 2) return ""
+  for (j = 1; j <= arguments_of[rule, a]; j++) {
+    one = which == "least" ? least_of_argument(rule, a, j) : most_of_argument(rule, a, j)
+    text = text (text == "" ? "" : " and ") one
+  }
+  return " (" text ")"
+}
+
+# A job of the second format in the mode lex.
+function tell_second_format(sign,    number) {
+  print bold name_of_job ", line 1:" plain
+  show(1, header[1], 0)
+  tell("In the mode lex both algebras add the scores of parts as they are, in the format `adp 1`; a job in `adp 2` " \
+      "is refused there whatever its terms are, at its first sign, " quoted(sign) ". Where no term has a product of two " \
+      "variables, brackets, `max` or `min`, and no alternative a size, write `adp 1` in line 1.")
+}
+
 # The value of an option of the command; nothing where it is not given.
 function given_value(option,    i) {
   for (i = 2; i < ARGC - 1; i += 2) if (ARGV[i] == option) return ARGV[i + 1]
@@ -1427,6 +1817,7 @@ function explain_limit(number, kind_number, size,    longest) {
   if (is_small && kind_number == 2) tell_cells(length(wanted_line))
   else if (is_small && kind_number == 3) tell_doubling()
   else if (is_small && kind_number == 4 && ARGV[1] == "lex") tell_both()
+  else if (is_small && kind_number == 4 && is_second) tell_products()
   else if (is_small && kind_number == 4) tell_factors()
   else if (is_small && kind_number == 7) tell_joined(size)
   tell_section("Limits of a word", kind_number)
@@ -1452,7 +1843,9 @@ function find_greatest(    round, i, a, j, sum, one, rule, has_changed) {
           sum = one < 0 ? -1 : sum + one
         }
         if (sum > 4001) sum = 4001
-        if (sum > greatest[rule]) { greatest[rule] = round > rules_count ? 4001 : sum; has_changed = 1 }
+        if (sum > greatest[rule] && round > rules_count) sum = 4001
+        if (size_high_of[rule, a] != "" && sum > size_high_of[rule, a] + 0) sum = size_high_of[rule, a] + 0
+        if (sum > greatest[rule]) { greatest[rule] = sum; has_changed = 1 }
       }
     }
     if (!has_changed) return
@@ -1579,6 +1972,24 @@ function tell_factors(    i, j, number, sign, section, told, best, widest, width
   }
 }
 
+# The `let` lines of the second format with a product of a score; where there is none, the one with the greatest number.
+function tell_products(    i, number, section, node, k, told) {
+  section = chosen_section()
+  for (i = 1; i <= lets_count; i++) {
+    number = lets[i]
+    if (let_section[number] != section || !has_form(number)) continue
+    for (node = 1; node <= nodes; node++) {
+      if (operation[node] != "*") continue
+      for (k = 1; k <= 2 && !named_score(let_sign[number], side[node, k]); k++) continue
+      if (k > 2 || token[begins[side[node, 3 - k]]] == "1") continue
+      if (!told++) tell("A product of a score multiplies at each step, and each of its sides counts as 1 at least:")
+      if (told < 5) show(number, header[number], column[joined_at[node]])
+      break
+    }
+  }
+  if (!told) tell_greatest(section, "chosen")
+}
+
 # How far the numbers of two algebras in one are over, and the greatest of each.
 function tell_joined(size,    is_told, times) {
   is_told = is_more("9223372036854775808", size)
@@ -1660,6 +2071,7 @@ function tell_treeless(number,    text, unknown, letter) {
     if (letter) tell_range(substr(text, letter, 1))
   }
   tell_reach(text)
+  tell_refused()
 }
 
 # Which letters stand in some class, and which in some literal of a rule.
@@ -1760,6 +2172,9 @@ function tell_reach(text,    n, could) {
   else tell("Trees can begin with the whole word, but none ends with it: behind could stand " could ".")
 }
 
+# Tells of an alternative that ends as far as trees go, and whose size is in the way.
+function tell_refused() { if (refused_at == reach && !gave_up) tell("The alternative " refused ".") }
+
 function last_letters(text) { return length(text) > 30 ? ".." substr(text, length(text) - 29) : text }
 
 function expected_in_words(    i, text) {
@@ -1782,6 +2197,10 @@ function find_slots(    i, a, j, rule) {
             j] + 0
       }
       slot_sort[++slots] = "end"
+      slot_low[slots] = size_low_of[rule, a] + 0
+      slot_high[slots] = size_high_of[rule, a] == "" ? 1000000 : size_high_of[rule, a] + 0
+      slot_name[slots] = rule
+      slot_alternative[slots] = a
     }
   }
 }
@@ -1797,6 +2216,7 @@ function find_reach(text,    n, p, k, pair) {
   split("", ends); split("", ends_count); split("", is_end)
   split("", waiting); split("", waiting_count); split("", is_seen); split("", run_end)
   reach = expected_count = steps = gave_up = goals_count = 0
+  refused_at = -1
   n = length(text)
   add_frame(goal_at(axiom_of_job(), 0), 0, 0)
   for (p = 0; p <= n; p++) for (k = 1; k <= waiting_count[p] + 0; k++) {
@@ -1810,6 +2230,7 @@ function goal_at(rule, p,    a) {
   if ((rule, p) in is_goal) return is_goal[rule, p]
   is_goal[rule, p] = ++goals_count
   goal_rule[goals_count] = rule
+  goal_from[goals_count] = p
   for (a = 1; a <= alternatives_of[rule]; a++) wait_at(first_slot[rule, a], goals_count, p)
   return is_goal[rule, p]
 }
@@ -1826,10 +2247,18 @@ function take_slot(slot, goal, p, text, n,    which, name, most, length_of, last
   if (slot == 0) { expect(p, "the word's end"); return }
   which = slot_sort[slot]
   name = slot_name[slot]
-  if (which == "end") end_goal(goal, p)
+  if (which == "end") {
+    if (p - goal_from[goal] >= slot_low[slot] && p - goal_from[goal] <= slot_high[slot]) end_goal(goal, p)
+    else if (p > refused_at || p == refused_at && goal_from[goal] <= refused_from) {
+      refused_at = p
+      refused_from = goal_from[goal]
+      refused = spelled(name, slot_alternative[slot]) " of the rule " quoted(name) " ends there, but its size does " \
+          "not allow its " plural(p - goal_from[goal], "letter")
+    }
+  }
   else if (which == "rule") {
     other = goal_at(name, p)
-    if (slot_sort[slot + 1] == "end") add_heir(goal, other)
+    if (slot_sort[slot + 1] == "end" && slot_low[slot + 1] == 0 && slot_high[slot + 1] == 1000000) add_heir(goal, other)
     else add_frame(other, slot + 1, goal)
   } else if (which == "literal") {
     length_of = length(name)

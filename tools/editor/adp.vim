@@ -5,14 +5,18 @@ endif
 syntax case match
 
 " the header: line 1, then lines by their first word, up to `words`
-syntax match adpFormat /\%1l^adp 1$/
+syntax match adpFormat /\%1l^adp [12]$/
 syntax match adpComment /^#.*$/
 syntax match adpKeyword /^ *\%(class\|sign\|algebra\|let\|rule\|grammar\)\ze\%( \|$\)/ nextgroup=adpName skipwhite
 syntax match adpName /\<[A-Za-z]\w*\>/ contained
 syntax match adpKind /\<\%(token\|score\|min\|max\)\>/
+" a size behind an alternative
+syntax match adpSize /) *\zswith \+size\>/
 syntax match adpNumber /\<\d\+\>/
 syntax match adpMark /[=|*+]\|-\|\.\./
 syntax match adpSign /\<[A-Za-z]\w*\ze *(/
+" in a term `max` and `min` are operations where a bracket follows
+syntax match adpChoice /\%(^ *let\>.*=.*\)\@<=\<\%(min\|max\)\ze *(/
 syntax region adpLetters start=/"/ skip=/\\"\|\\\\/ end=/"/ oneline contains=adpEscape
 syntax match adpEscape /\\["\\]/ contained
 syntax match adpClass /\[ *[A-Za-z]\w*/hs=s+1
@@ -25,6 +29,8 @@ highlight default link adpComment Comment
 highlight default link adpKeyword Keyword
 highlight default link adpName Identifier
 highlight default link adpKind Type
+highlight default link adpSize Keyword
+highlight default link adpChoice Operator
 highlight default link adpNumber Number
 highlight default link adpMark Operator
 highlight default link adpSign Function

@@ -4,7 +4,7 @@ use Rattle.adp_model.specs.declared.fault.GrammarFault.{GrammarFault}
 use Rattle.adp_model.specs.declared.grammar.Grammar.{Grammar}
 use Rattle.adp_model.specs.declared.job.Job.{Job}
 use Rattle.verdicts.specs.Command as asked
-use Rattle.adp_model.specs.GrammarFaults.{IsFaultless, IsGrammarFault, NoAlgebra, Unproductive, Loop, NotMonotone}
+use Rattle.adp_model.specs.GrammarFaults.{IsFaultless, IsGrammarFault, NoAlgebra, Unproductive, Loop, NotMonotone, Impossible}
 use Rattle.job_texts.specs.JobText.{IsText}
 use Rattle.adp_model.specs.Parts.{rule_at, sign_at}
 use Rattle.verdicts.specs.Verdict.{AsksFor, AsksUnder, asked_name, greatest_length}
@@ -120,6 +120,7 @@ short_name grammar name fault names named (NoAlgebra none) = names.short _ named
 short_name grammar name fault names named (Unproductive algebra rule under first) = names.short _ (names.rules rule first.in_range)
 short_name grammar name fault names named (Loop algebra rule under productive first) = names.short _ (names.rules rule first.in_range)
 short_name grammar name fault names named (NotMonotone algebra sign under productive no_loop first) = names.short _ (names.signs sign first.in_range)
+short_name grammar name fault names named (Impossible algebra rule under productive no_loop monotone first) = names.short _ (names.rules rule first.in_range)
 
 refused : (words : List (List ℕ)) (bytes : List ℕ) (command : asked.Command) (job : Job) (name : List ℕ) (error : CheckError)
     → AsksFor words bytes command job → name ≡ asked_name command job.grammar → MatchCheck job.grammar name (Err error)

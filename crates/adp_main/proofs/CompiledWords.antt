@@ -1,5 +1,5 @@
 -- What is compiled for a word is the problem under the compiled algebra, and a score there is both scores joined.
-use Rattle.std.proofs.Common.{◌≡◌, ℕ, ◌≤◌, Bool, Option, List, length, ◌↔◌, sym, ap, subst, ◌∙◌, arith}
+use Rattle.std.proofs.Common.{◌≡◌, ℕ, ◌≤◌, Bool, Option, Result, Ok, Err, IfOk, List, length, ◌↔◌, sym, ap, subst, ◌∙◌, arith}
 use Rattle.adp_model.specs.declared.cell.Cell.{Cell}
 use Rattle.adp_model.specs.declared.grammar.Grammar.{Grammar}
 use Rattle.adp_model.specs.declared.fault.LimitFault.{LimitFault}
@@ -11,14 +11,15 @@ use Rattle.adp_model.specs.Tree.{Tree}
 use Rattle.adp_model.specs.ProblemFields.{KeepsLimits}
 use Rattle.grammar_check.specs.CheckedGrammar.{CheckedGrammar}
 use Rattle.lex_product.specs.CompiledTerms.{IsJoinedFrom}
-use Rattle.lex_product.specs.CompiledGrammar.{compiled_grammar, compiled_problem, has_same_goal, multiplier_of}
+use Rattle.lex_product.specs.CompiledGrammar.{compiled_algebra, compiled_grammar, compiled_problem, has_same_goal, multiplier_of}
 use Rattle.lex_product.specs.Compilable.{IsCompilable}
-use Rattle.lex_product.specs.PairAnswers.{compiled_pair, HasLowNumbers, IsPair}
+use Rattle.lex_product.specs.PairAnswers.{compiled_pair, HasLowNumbers, IsButForAlgebra, IsPair}
 use Rattle.lex_product.specs.PairFaults.{IsNumberFault}
 use Rattle.lex_product.specs.PairLimits.{AreLowNumbers, IsPairAdmissible}
 use Rattle.lex_product.specs.PairOrder.{scores_of}
 use Rattle.verdicts.specs.SecondAlgebra.{IsSecond}
-use Rattle.adp_main.specs.CompiledWords.{IsCompiledFor, compiled_word}
+use Rattle.adp_main.specs.CompiledWords.{IsCompiledFor, ServesItsLength, compiled_word}
+use Rattle.adp_main.specs.KeptLengths.{IsCompiledBound}
 use Rattle.adp_main.specs.Posed.{posed_word}
 use Rattle.adp_main.specs.declared.lex.Compiled.{Compiled}
 
@@ -71,10 +72,10 @@ module _ (first second : CheckedGrammar) (pair : IsPair first second) (word : Li
       → (name : Option (List ℕ)) → IsSecond name first.grammar second.algebra
       → (checked : CheckedGrammar) → checked ≡ compiled_pair first second bound → (multiplier : ℕ)
       → multiplier ≡ multiplier_of bound → (same : Bool)
-      → same ≡ has_same_goal first.grammar first.algebra second.algebra
+      → same ≡ has_same_goal first.grammar first.algebra second.algebra → (len : ℕ)
       → IsCompiledFor name (posed_word first.grammar first.algebra word)
-      (record { checked = checked; multiplier = multiplier; same = same })
-  made_for compilable name named checked is multiplier multiplier_is same same_is =
+      (record { checked = checked; multiplier = multiplier; same = same; length = len })
+  made_for compilable name named checked is multiplier multiplier_is same same_is len =
       let asked = posed_word first.grammar first.algebra word in record {
         second = second.algebra;
         bound = bound;
@@ -114,3 +115,30 @@ compiled_by_length name grammar algebra word other compiled same for = record {
   same = for.same;
   limits = subst (KeepsLimits compiled.checked.grammar compiled.checked.algebra) (sym same) for.limits;
 }
+
+-- the bound that is kept for its length is that of the word under the compiled algebra
+pub known_bound : (name : Option (List ℕ)) (p : PosedProblem) (compiled : Compiled) → IsCompiledFor name p compiled
+    → (number : ℕ) → IsCompiledBound name p.grammar p.algebra (length p.word) number
+    → IsScoreBound compiled.checked.grammar compiled.checked.algebra (length p.word) number
+known_bound name p compiled for number bound =
+    subst (λ (it : Grammar × ℕ). IsScoreBound it.0 it.1 (length p.word) number)
+    (λ i. (sym for.grammar i, sym for.algebra i)) (bound for.second for.named for.bound for.compilable.bounded)
+
+-- what was made for a word serves each of its length
+pub made_serves : (name : Option (List ℕ)) (first : CheckedGrammar) (word : List ℕ) {E : Type 0}
+    (result : Result Compiled E) → IfOk result (IsCompiledFor name (posed_word first.grammar first.algebra word))
+    → IfOk result (λ made. IsButForAlgebra first made.checked) → IfOk result (λ made. made.length ≡ length word)
+    → IfOk result (ServesItsLength name first)
+made_serves name first word (Ok made) for whole long = record {
+  each = λ other same.
+      compiled_by_length name first.grammar first.algebra word other made (same ∙ long) for;
+  made = whole;
+}
+made_serves name first word (Err error) for whole long = tt
+
+pub but_for_algebra : (first second : CheckedGrammar) (bound : ℕ) (checked : CheckedGrammar)
+    → checked ≡ compiled_pair first second bound → IsButForAlgebra first checked
+but_for_algebra first second bound checked is = (
+  compiled_algebra first.grammar first.algebra second.algebra (multiplier_of bound),
+  is,
+)

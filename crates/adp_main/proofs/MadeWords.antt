@@ -8,7 +8,7 @@ use Rattle.adp_model.specs.Answers.{IsAnswer}
 use Rattle.adp_model.specs.BigReport.{made_problem, made_word, next_state, pairs_grammar, IsBigReport}
 use Rattle.verdicts.specs.Command.{Command}
 use Rattle.adp_model.specs.Derivation.{Derives}
-use Rattle.adp_model.specs.GrammarFaults.{HasOtherTerm, IsFaultless, IsGrammarFault, IsNamed, NoAlgebra, Unproductive, Loop, NotMonotone}
+use Rattle.adp_model.specs.GrammarFaults.{HasOtherTerm, IsFaultless, IsGrammarFault, IsNamed, NoAlgebra, Unproductive, Loop, NotMonotone, Impossible}
 use Rattle.adp_model.specs.PosedProblem.{PosedProblem, axiom_cell}
 use Rattle.adp_model.specs.Tree.{Tree}
 use Rattle.evaluators.specs.declared.finished.Finished.{Finished}
@@ -39,6 +39,7 @@ no_fault name fault sound (Loop other rule named productive first) = sound.no_lo
 no_fault name fault sound (NotMonotone other sign named productive off first) =
     subst (λ n. HasOtherTerm pairs_grammar n sign) (only_algebra name other named) first.faulty
     (sound.monotone sign first.in_range)
+no_fault name fault sound (Impossible other rule named productive off monotone first) = first.faulty (sound.possible rule first.in_range)
 
 -- the problem of the word under the checked grammar
 pub problem_is : (problem : PosedProblem) (grammar : Grammar) (algebra seed size : ℕ) (word : List ℕ)

@@ -1,15 +1,14 @@
 -- What is compiled for a word by two algebras in order.
 use Rattle.std.specs.Prelude.{◌≡◌, ℕ, Option, List, length}
-use Rattle.adp_model.specs.declared.grammar.Grammar.{Grammar}
 use Rattle.adp_model.specs.PosedProblem.{PosedProblem}
 use Rattle.adp_model.specs.ProblemFields.{KeepsLimits}
 use Rattle.lex_product.specs.Compilable.{IsCompilable}
+use Rattle.grammar_check.specs.CheckedGrammar.{CheckedGrammar}
 use Rattle.lex_product.specs.CompiledGrammar.{compiled_grammar, has_same_goal, multiplier_of}
+use Rattle.lex_product.specs.PairAnswers.{IsButForAlgebra}
 use Rattle.verdicts.specs.SecondAlgebra.{IsSecond}
-use Rattle.grammar_check.specs.ToldRows.{AreRowsOf}
 use Rattle.adp_main.specs.Posed.{posed_word}
 use Rattle.adp_main.specs.declared.lex.Compiled.{Compiled}
-use Rattle.adp_main.specs.declared.lex.Kept.{Kept}
 
 -- the grammar has the compiled algebra of the problem's and the second one, of this name, by the second one's bound at
 -- the word's length; the word keeps the limits under it
@@ -29,8 +28,8 @@ abbrev pub compiled_word : Compiled → List ℕ → PosedProblem
 compiled_word compiled word =
     record { grammar = compiled.checked.grammar; algebra = compiled.checked.algebra; word = word }
 
--- it serves each word of the length that its bounds go up to
-pub record IsKeptFor (name : Option (List ℕ)) (grammar : Grammar) (algebra : ℕ) (kept : Kept) : Type 0 where
-  pub each : (word : List ℕ) → length word ≡ kept.rows.longest
-      → IsCompiledFor name (posed_word grammar algebra word) kept.compiled
-  pub rows : AreRowsOf kept.compiled.checked kept.rows
+-- it serves each word of the length that it was made for, and the checked grammar is the first one but for its algebra
+pub record ServesItsLength (name : Option (List ℕ)) (first : CheckedGrammar) (compiled : Compiled) : Type 0 where
+  pub each : (word : List ℕ) → length word ≡ compiled.length
+      → IsCompiledFor name (posed_word first.grammar first.algebra word) compiled
+  pub made : IsButForAlgebra first compiled.checked

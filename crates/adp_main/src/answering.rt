@@ -81,6 +81,6 @@ fn write_job<R: Threads + Sync, K: Sink, G: Gate>(
         (posed_words job.now.checked.grammar job.now.checked.algebra job.now.words)
         (status_after result) (G.runs gate.old) (G.runs gate.new) (K.held out.old) (K.held out.new) }
 {
-    let rows = judge_words(alloc, command, job)?;
-    write_words(rt, alloc, command, job, &rows, out, gate)
+    let judged = judge_words(alloc, command, job)?;
+    write_words(rt, alloc, command, job, &judged, out, gate)
 }

@@ -9,8 +9,8 @@ ghost use Rattle.adp_main.specs.RunNotes.{IsBigRun};
 ghost use Rattle.adp_main.specs.Writing.{IsRunFor, IsWordEnding};
 ghost use Rattle.adp_main.specs.declared.status.Status.TheVariants.{WriteFault};
 
+use crate::admitting::admitted;
 use crate::evaluating::{run_evaluators, write_run};
-use crate::limits::admitted;
 use adp_io::Sink;
 use adp_model::{Answer, Problem, Text};
 use big_problems::laws::{made_words_have_trees, made_words_keep_the_limits, pairs_are_faultless};

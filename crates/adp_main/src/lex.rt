@@ -3,35 +3,38 @@ ghost use Rattle.std.specs.Prelude.{◌≡◌, ◌≤◌, ℕ, List, Option, len
 ghost use Rattle.adp_io.specs.Causes.{RisesWhere};
 ghost use Rattle.adp_io.specs.Streams.{SameTold};
 ghost use Rattle.adp_model.specs.PosedProblem.{PosedProblem};
+ghost use Rattle.adp_model.specs.ProblemFields.{greatest_score};
 ghost use Rattle.evaluators.specs.Runs.{IsFinished};
 ghost use Rattle.grammar_check.specs.ToldRows.{AreRowsOf};
-ghost use Rattle.lex_product.specs.PairAnswers.{IsPair};
+ghost use Rattle.lex_product.specs.PairAnswers.{IsButForAlgebra, IsPair, MatchCompiledBy};
 ghost use Rattle.lex_product.specs.PairLimits.{IsPairAdmissible};
 ghost use Rattle.lex_product.specs.PairReport.{IsPairReport};
 ghost use Rattle.report.specs.PairOutcomes.{AreScoresOf, AreThere};
 ghost use Rattle.verdicts.specs.declared.command.Mode.TheVariants.{Lex};
 ghost use Rattle.verdicts.specs.SecondAlgebra.{IsAdmissibleWith, IsSecond};
-ghost use Rattle.adp_main.specs.CompiledWords.{IsCompiledFor, IsKeptFor, compiled_word};
+ghost use Rattle.adp_main.specs.CompiledWords.{IsCompiledFor, ServesItsLength, compiled_word};
 ghost use Rattle.adp_main.specs.Faults.{status_after};
+ghost use Rattle.adp_main.specs.KeptLengths.{HasKept};
 ghost use Rattle.adp_main.specs.Posed.{posed_word};
 ghost use Rattle.adp_main.specs.RunNotes.{IsRunOf};
 ghost use Rattle.adp_main.specs.Seconds.{AreJobRows, IsSecondOf};
 ghost use Rattle.adp_main.specs.Writing.{IsWordEnding};
 ghost use Rattle.adp_main.specs.declared.status.Status.TheVariants.{WriteFault};
 
+use crate::admitting::{admitted, bound_of, compiled_bound};
 use crate::checking::CheckedJob;
 use crate::evaluating::{run_evaluators, write_run};
-use crate::limits::{JobRows, admitted, bound_of};
+use crate::limits::Judged;
 use adp_io::Sink;
 use adp_model::laws::bounds::words_have_one_bound;
 use adp_model::{Answer, Problem, Text};
 use evaluators::{Finished, Gate};
-use grammar_check::{BoundRows, Checked};
+use grammar_check::{BoundRows, Checked, admit_known};
 use lex_product::laws::{
     compiled_algebras_change_scores_alone, compiled_scores_are_both_scores,
     pair_limits_are_kept_or_passed,
 };
-use lex_product::{CompileError, compile_by, have_same_goal, pair_of};
+use lex_product::{CompileError, compile_by, have_same_goal, pair_of, recompile_by};
 use report::{Fault, PairOutcome, pair_report};
 use std::alloc::{AllocError, Global};
 use std::thread::Threads;
@@ -42,17 +45,11 @@ use verdicts::laws::second_algebra_is_unique;
 /// A job's grammar with the compiled algebra for words of one length: a score has the first one's so many times, and
 /// the second one's with its own sign where `same`.
 #[derive(Drop)]
-struct Compiled {
+pub(crate) struct Compiled {
     checked: Checked,
     multiplier: u64,
     same: bool,
-}
-
-/// What serves the words of one length: the compiled algebra, and the bounds under it up to that length.
-#[derive(Drop)]
-pub(crate) struct Kept {
-    compiled: Compiled,
-    rows: BoundRows,
+    length: usize,
 }
 
 /// Solves the word under the compiled algebra by evaluators, writes its report by one `write_whole`, and tells the gate
@@ -63,90 +60,97 @@ pub(crate) fn report_word<R: Threads + Sync, K: Sink, G: Gate>(
     command: &Command<'_>,
     number: u32,
     job: &CheckedJob,
-    rows: &JobRows,
+    judged: &Judged,
     word: &Text,
-    kept: &mut Option<Kept>,
+    kept: &mut Option<Compiled>,
     out: &mut K,
     gate: &mut G,
 ) -> Result<(), Fault>
     requires mode { command.now.mode ≡ Lex }
     requires second { IsSecondOf command.now.second job.now.checked job.now.second }
-    requires rows { AreJobRows job.now.checked job.now.second rows.now }
-    requires known { length word.now ≤ rows.now.first.longest }
+    requires rows { AreJobRows job.now.checked job.now.second judged.now.rows }
+    requires known { length word.now ≤ judged.now.rows.first.longest }
+    requires bound { HasKept command.now.second job.now.checked.grammar job.now.checked.algebra
+        judged.now.compiled.items (length word.now) }
     requires admissible { IsAdmissibleWith command.now.second
         (posed_word job.now.checked.grammar job.now.checked.algebra word.now) }
-    requires kept { IfSome kept.old
-        (IsKeptFor command.now.second job.now.checked.grammar job.now.checked.algebra) }
-    ensures kept { IfSome kept.new
-        (IsKeptFor command.now.second job.now.checked.grammar job.now.checked.algebra) }
+    requires kept { IfSome kept.old (ServesItsLength command.now.second job.now.checked) }
+    ensures kept { IfSome kept.new (ServesItsLength command.now.second job.now.checked) }
     ensures told { SameTold (K.held out.old) (K.held out.new) }
     ensures faults { RisesWhere (K.faults out.old) (K.faults out.new) (status_after result ≡ WriteFault) }
     ensures ending { IsWordEnding (IsRunOf command.now number
         (posed_word job.now.checked.grammar job.now.checked.algebra word.now)) result
         (G.runs gate.old) (G.runs gate.new) (K.held out.old) (K.held out.new) }
 {
-    let made = made_for(alloc, command, job, rows, word, kept.take())?;
-    let problem = admitted(&made.compiled.checked, &made.rows, word);
+    let made = made_for(alloc, command, job, judged, word, kept.take())?;
+    let bound = compiled_bound(command, job, judged, word);
+    let problem = admit_known(&made.checked, word, bound);
     let finished = run_evaluators(rt, alloc, command, &problem, &*gate)?;
-    let report = report_of_both(alloc, number, &made.compiled, &problem, &finished)?;
+    let report = report_of_both(alloc, number, &made, &problem, &finished)?;
     let result = write_run(command, &problem, &finished, &report, out, gate);
     drop(finished);
     *kept = Some(made);
     result
 }
 
-/// What serves the word: what is kept, where the word before had the same length; otherwise it is made.
+/// What serves the word: what is kept, where the word before had the same length; otherwise it is made, of what is kept
+/// where there is something.
 fn made_for(
     alloc: Global,
     command: &Command<'_>,
     job: &CheckedJob,
-    rows: &JobRows,
+    judged: &Judged,
     word: &Text,
-    kept: Option<Kept>,
-) -> Result<Kept, AllocError>
+    kept: Option<Compiled>,
+) -> Result<Compiled, AllocError>
     requires mode { command.now.mode ≡ Lex }
     requires second { IsSecondOf command.now.second job.now.checked job.now.second }
-    requires rows { AreJobRows job.now.checked job.now.second rows.now }
-    requires known { length word.now ≤ rows.now.first.longest }
+    requires rows { AreJobRows job.now.checked job.now.second judged.now.rows }
+    requires known { length word.now ≤ judged.now.rows.first.longest }
     requires admissible { IsAdmissibleWith command.now.second
         (posed_word job.now.checked.grammar job.now.checked.algebra word.now) }
-    requires kept { IfSome kept (IsKeptFor command.now.second job.now.checked.grammar job.now.checked.algebra) }
-    ensures kept { IfOk result (IsKeptFor command.now.second job.now.checked.grammar job.now.checked.algebra) }
-    ensures long { IfOk result (λ made. made.rows.longest ≡ length word.now) }
+    requires kept { IfSome kept (ServesItsLength command.now.second job.now.checked) }
+    ensures kept { IfOk result (ServesItsLength command.now.second job.now.checked) }
+    ensures length { IfOk result (λ made. made.length ≡ length word.now) }
 {
-    if let Some(kept) = kept {
-        if kept.rows.longest as usize == word.bytes().len() {
-            return Ok(kept);
+    match kept {
+        None => compiled_for(alloc, command, job, judged, word, None),
+        Some(kept) => {
+            if kept.length == word.bytes().len() {
+                return Ok(kept);
+            }
+            compiled_for(alloc, command, job, judged, word, Some(kept.checked))
         }
     }
-    let compiled = compiled_for(alloc, command, job, rows, word)?;
-    let rows = BoundRows::new(alloc, &compiled.checked, word.bytes().len() as u32)?;
-    Ok(Kept { compiled, rows })
 }
 
-/// The compiled algebra for the word's length.
+/// The compiled algebra for the word's length, made of what was compiled for another one where there is something.
 fn compiled_for(
     alloc: Global,
     command: &Command<'_>,
     job: &CheckedJob,
-    rows: &JobRows,
+    judged: &Judged,
     word: &Text,
+    kept: Option<Checked>,
 ) -> Result<Compiled, AllocError>
     requires mode { command.now.mode ≡ Lex }
     requires second { IsSecondOf command.now.second job.now.checked job.now.second }
-    requires rows { AreJobRows job.now.checked job.now.second rows.now }
-    requires known { length word.now ≤ rows.now.first.longest }
+    requires rows { AreJobRows job.now.checked job.now.second judged.now.rows }
+    requires known { length word.now ≤ judged.now.rows.first.longest }
     requires admissible { IsAdmissibleWith command.now.second
         (posed_word job.now.checked.grammar job.now.checked.algebra word.now) }
-    ensures { IfOk result (IsCompiledFor command.now.second
+    requires kept { IfSome kept (IsButForAlgebra job.now.checked) }
+    ensures made { IfOk result (IsCompiledFor command.now.second
         (posed_word job.now.checked.grammar job.now.checked.algebra word.now)) }
+    ensures whole { IfOk result (λ made. IsButForAlgebra job.now.checked made.checked) }
+    ensures length { IfOk result (λ made. made.length ≡ length word.now) }
 {
     command.in_range();
     job.checked.passes();
     second_algebra_is_unique();
     match &job.second {
-        Some(second) => match &rows.second {
-            Some(rows) => compile_pair(alloc, &job.checked, second, rows, word),
+        Some(second) => match &judged.rows.second {
+            Some(rows) => compile_pair(alloc, &job.checked, second, rows, word, kept),
             None => unreachable!(),
         },
         None => unreachable!(),
@@ -160,14 +164,18 @@ fn compile_pair(
     second: &Checked,
     rows: &BoundRows,
     word: &Text,
+    kept: Option<Checked>,
 ) -> Result<Compiled, AllocError>
     requires pair { IsPair first.now second.now }
     requires rows { AreRowsOf second.now rows.now }
     requires known { length word.now ≤ rows.now.longest }
     requires admissible { IsPairAdmissible (posed_word first.now.grammar first.now.algebra word.now) second.now.algebra }
-    ensures { IfOk result (λ compiled. (name : Option (List ℕ))
+    requires kept { IfSome kept (IsButForAlgebra first.now) }
+    ensures made { IfOk result (λ compiled. (name : Option (List ℕ))
         → IsSecond name first.now.grammar second.now.algebra
         → IsCompiledFor name (posed_word first.now.grammar first.now.algebra word.now) compiled) }
+    ensures whole { IfOk result (λ compiled. IsButForAlgebra first.now compiled.checked) }
+    ensures length { IfOk result (λ compiled. compiled.length ≡ length word.now) }
 {
     second.passes();
     pair_limits_are_kept_or_passed();
@@ -175,14 +183,34 @@ fn compile_pair(
     let problem = admitted(second, rows, word);
     let bound = bound_of(&problem);
     let same = have_same_goal(first, second);
-    match compile_by(alloc, first, second, bound) {
+    match compiled_by(alloc, first, second, kept, bound) {
         Ok(checked) => Ok(Compiled {
             checked,
             multiplier: 2 * bound + 1,
             same,
+            length: word.bytes().len(),
         }),
         Err(CompileError::Memory) => Err(AllocError),
         Err(CompileError::Fault(_)) => unreachable!(),
+    }
+}
+
+/// A pair's grammar with the algebra that is compiled by this bound of the second one.
+fn compiled_by(
+    alloc: Global,
+    first: &Checked,
+    second: &Checked,
+    kept: Option<Checked>,
+    bound: u64,
+) -> Result<Checked, CompileError>
+    requires pair { IsPair first.now second.now }
+    requires kept { IfSome kept (IsButForAlgebra first.now) }
+    requires low { bound ≤ greatest_score }
+    ensures { MatchCompiledBy first.now second.now bound result }
+{
+    match kept {
+        Some(kept) => recompile_by(alloc, first, second, kept, bound),
+        None => compile_by(alloc, first, second, bound),
     }
 }
 

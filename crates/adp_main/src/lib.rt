@@ -1,6 +1,7 @@
 //! The engine's top call: from the words of the command line and the bytes of a job to reports and a status.
 #![tactic(auto)]
 
+mod admitting;
 mod answering;
 mod behind_name;
 mod best;

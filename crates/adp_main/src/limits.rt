@@ -1,5 +1,5 @@
-//! The limits of a job's words: each word is judged, and admitted again when its report is written.
-ghost use Rattle.std.specs.Prelude.{◌≡◌, ℕ, ◌+◌, ◌<◌, ◌≤◌, [], false, length, slice_index_or, IfOk, IfErr, OnOk, MatchOption, MatchResult};
+//! The limits of a job's words: each word is judged, once a length where there is a second algebra.
+ghost use Rattle.std.specs.Prelude.{◌≡◌, ℕ, ◌+◌, ◌<◌, ◌≤◌, [], None, length, slice_index_or, IfOk, IfErr, OnOk, MatchOption, MatchResult};
 ghost use Rattle.std.specs.List.{AllByRecursion};
 ghost use Rattle.adp_model.specs.Bounds.{IsScoreBound};
 ghost use Rattle.adp_model.specs.LimitFaults.{IsLimitFault};
@@ -9,19 +9,21 @@ ghost use Rattle.grammar_check.specs.ToldRows.{AreRowsOf};
 ghost use Rattle.lex_product.specs.PairAnswers.{IsPair};
 ghost use Rattle.lex_product.specs.PairLimits.{KeepsPairLimits};
 ghost use Rattle.verdicts.specs.SecondAlgebra.{IsAdmissibleWith};
-ghost use Rattle.adp_main.specs.KeptLengths.{AreKeptLengths};
+ghost use Rattle.adp_main.specs.KeptLengths.{AreKeptLengths, HasKept, HaveKept, IsFound, IsPairBound};
 ghost use Rattle.adp_main.specs.Posed.{posed_word, posed_words};
 ghost use Rattle.adp_main.specs.Reporting.{AreShort, IsLengthRefusal, IsLimitOf, IsPairLimitRefusal, compile_refusal, limit_refusal};
 ghost use Rattle.adp_main.specs.Seconds.{AreJobRows, AreSecondRows, IsSecondOf};
 
+use crate::admitting::{admit_word, bound_at, bound_of};
 use crate::checking::CheckedJob;
-use adp_model::laws::limits::limits_are_kept_or_passed;
-use adp_model::{LimitFault, Problem, Text};
-use grammar_check::{AdmitError, BoundRows, Checked, admit_within, cells_within_limits};
+use adp_model::laws::bounds::words_have_one_bound;
+use adp_model::{LimitFault, Text};
+use grammar_check::{AdmitError, BoundRows, Checked, cells_within_limits};
 use lex_product::{CompileError, compile_by};
 use report::Fault;
 use std::alloc::{AllocError, Global};
 use verdicts::Command;
+use verdicts::laws::second_algebra_is_unique;
 
 /// The bounds of a job's words by their length: under its algebra, and under the second one where there is one.
 #[derive(Drop)]
@@ -41,6 +43,14 @@ impl JobRows {
         let second = second_rows(alloc, job, longest)?;
         Ok(JobRows { first, second })
     }
+}
+
+/// A job's words, judged: what their problems are made by.
+#[derive(Drop)]
+pub(crate) struct Judged {
+    pub(crate) rows: JobRows,
+    /// By length the score bound under the compiled algebra, of each length of a word where there is a second algebra.
+    pub(crate) compiled: Vec<Option<u64>>,
 }
 
 /// The rows under the second algebra, where there is one.
@@ -64,11 +74,13 @@ pub(crate) fn judge_words(
     alloc: Global,
     command: &Command<'_>,
     job: &CheckedJob,
-) -> Result<JobRows, Fault>
+) -> Result<Judged, Fault>
     requires few { length job.now.words ≤ 65536 }
     requires second { IsSecondOf command.now.second job.now.checked job.now.second }
-    ensures rows { IfOk result (AreJobRows job.now.checked job.now.second) }
-    ensures known { IfOk result (λ rows. AreShort rows.first.longest job.now.words) }
+    ensures rows { IfOk result (λ judged. AreJobRows job.now.checked job.now.second judged.rows) }
+    ensures known { IfOk result (λ judged. AreShort judged.rows.first.longest job.now.words) }
+    ensures bounds { IfOk result (λ judged. HaveKept command.now.second job.now.checked.grammar
+        job.now.checked.algebra judged.compiled.items job.now.words) }
     ensures admissible { IfOk result (λ _. AllByRecursion (IsAdmissibleWith command.now.second)
         (posed_words job.now.checked.grammar job.now.checked.algebra job.now.words)) }
     ensures fault { IfErr result (IsLimitOf command.now.second job.now.checked.grammar job.now.checked.algebra
@@ -78,79 +90,87 @@ pub(crate) fn judge_words(
     let (count, refused) = within_cells(&job.checked, words);
     let judged = &words[..count];
     let rows = JobRows::new(alloc, job, longest(judged))?;
-    let mut kept = no_lengths(alloc, job, rows.first.longest)?;
+    let mut compiled = no_bounds(alloc, rows.first.longest)?;
     for (place, word) in judged.iter().enumerate() {
-        match judge_once(alloc, command, job, &rows, word, &mut kept) {
+        match judge_once(alloc, command, job, &rows, word, &mut compiled) {
             Ok(()) => {}
             Err(error) => return Err(limit_refusal(place, error)),
         }
     }
     match refused {
         Some(fault) => Err(limit(count, fault)),
-        None => Ok(rows),
+        None => Ok(Judged { rows, compiled }),
     }
 }
 
-/// A flag for each length up to the longest, none of which is set; without a second algebra, under which alone a word is
-/// dear to judge, there are none.
-fn no_lengths(alloc: Global, job: &CheckedJob, longest: u32) -> Result<Vec<bool>, AllocError>
+/// No bound yet for each length up to the longest.
+fn no_bounds(alloc: Global, longest: u32) -> Result<Vec<Option<u64>>, AllocError>
     requires { longest ≤ most_letters }
-    ensures { IfOk result (λ kept. (len : ℕ) → slice_index_or kept.items len false ≡ false) }
+    ensures each { IfOk result (λ compiled. length compiled.items ≡ longest + 1) }
+    ensures none { IfOk result (λ compiled. (len : ℕ) → slice_index_or compiled.items len None ≡ None) }
 {
-    match &job.second {
-        Some(_) => vec![in alloc; false; longest as usize + 1],
-        None => Ok(Vec::new(alloc)),
-    }
+    vec![in alloc; None; longest as usize + 1]
 }
 
-/// Judges a word whose length isn't flagged, and flags the length where it keeps the limits.
+/// Judges a word for whose length no bound is kept. Where there is a second algebra and the word keeps the limits, keeps
+/// the score bound under the compiled one for words of its length.
 fn judge_once(
     alloc: Global,
     command: &Command<'_>,
     job: &CheckedJob,
     rows: &JobRows,
     word: &Text,
-    kept: &mut Vec<bool>,
+    compiled: &mut Vec<Option<u64>>,
 ) -> Result<(), AdmitError>
     requires second { IsSecondOf command.now.second job.now.checked job.now.second }
     requires rows { AreJobRows job.now.checked job.now.second rows.now }
     requires known { length word.now ≤ rows.now.first.longest }
+    requires each { length compiled.old.items ≡ rows.now.first.longest + 1 }
     requires lengths { AreKeptLengths command.now.second job.now.checked.grammar job.now.checked.algebra
-        kept.old.items }
-    ensures lengths { AreKeptLengths command.now.second job.now.checked.grammar job.now.checked.algebra kept.new.items }
+        compiled.old.items }
+    ensures each { length compiled.new.items ≡ length compiled.old.items }
+    ensures lengths { AreKeptLengths command.now.second job.now.checked.grammar job.now.checked.algebra
+        compiled.new.items }
+    ensures stays { (len : ℕ) → HasKept command.now.second job.now.checked.grammar job.now.checked.algebra
+        compiled.old.items len → HasKept command.now.second job.now.checked.grammar job.now.checked.algebra
+        compiled.new.items len }
+    ensures bound { OnOk result (HasKept command.now.second job.now.checked.grammar job.now.checked.algebra
+        compiled.new.items (length word.now)) }
     ensures kept { OnOk result (IsAdmissibleWith command.now.second
         (posed_word job.now.checked.grammar job.now.checked.algebra word.now)) }
     ensures fault { IfErr result (IsLengthRefusal command.now.second job.now.checked.grammar job.now.checked.algebra
         (length word.now)) }
 {
-    let length = word.bytes().len();
-    if kept.get(length).copied().unwrap_or(false) {
+    if bound_at(compiled, word).is_some() {
         return Ok(());
     }
-    judge_word(alloc, command, job, rows, word)?;
-    if length < kept.len() {
-        kept[length] = true;
+    if let Some(bound) = judge_word(alloc, command, job, rows, word)? {
+        compiled[word.bytes().len()] = Some(bound);
     }
     Ok(())
 }
 
-/// Whether the word keeps the limits: those under the job's algebra, and those of the pair where there is a second one.
+/// Whether the word keeps the limits: those under the job's algebra, and those of the pair where there is a second one,
+/// which gives the score bound under the compiled algebra.
 fn judge_word(
     alloc: Global,
     command: &Command<'_>,
     job: &CheckedJob,
     rows: &JobRows,
     word: &Text,
-) -> Result<(), AdmitError>
+) -> Result<Option<u64>, AdmitError>
     requires second { IsSecondOf command.now.second job.now.checked job.now.second }
     requires rows { AreJobRows job.now.checked job.now.second rows.now }
     requires known { length word.now ≤ rows.now.first.longest }
+    ensures bound { IfOk result (IsFound command.now.second job.now.checked.grammar job.now.checked.algebra
+        (length word.now)) }
     ensures kept { OnOk result (IsAdmissibleWith command.now.second
         (posed_word job.now.checked.grammar job.now.checked.algebra word.now)) }
     ensures fault { IfErr result (IsLengthRefusal command.now.second job.now.checked.grammar job.now.checked.algebra
         (length word.now)) }
 {
     job.checked.passes();
+    second_algebra_is_unique();
     let problem = match admit_word(&job.checked, &rows.first, word) {
         Ok(problem) => problem,
         Err(fault) => return Err(AdmitError::Fault(fault)),
@@ -158,30 +178,35 @@ fn judge_word(
     problem.admissible();
     match &job.second {
         Some(second) => match &rows.second {
-            Some(rows) => judge_pair(alloc, &job.checked, second, rows, word),
+            Some(rows) => Ok(Some(judge_pair(alloc, &job.checked, second, rows, word)?)),
             None => unreachable!(),
         },
-        None => Ok(()),
+        None => Ok(None),
     }
 }
 
-/// Whether a word that keeps the limits under the first algebra keeps the others of the pair.
+/// The score bound under the compiled algebra of a word that keeps the limits under the first one, where it keeps the
+/// others of the pair.
 fn judge_pair(
     alloc: Global,
     first: &Checked,
     second: &Checked,
     rows: &BoundRows,
     word: &Text,
-) -> Result<(), AdmitError>
+) -> Result<u64, AdmitError>
     requires pair { IsPair first.now second.now }
     requires rows { AreRowsOf second.now rows.now }
     requires known { length word.now ≤ rows.now.longest }
     requires first { KeepsLimits first.now.grammar first.now.algebra (length word.now) }
+    ensures bound { IfOk result (IsPairBound first.now.grammar first.now.algebra second.now.algebra
+        (length word.now)) }
     ensures kept { OnOk result (KeepsPairLimits first.now.grammar first.now.algebra second.now.algebra
         (length word.now)) }
     ensures fault { IfErr result (IsPairLimitRefusal first.now.grammar first.now.algebra second.now.algebra
         (length word.now)) }
 {
+    second.passes();
+    words_have_one_bound();
     let problem = match admit_word(second, rows, word) {
         Ok(problem) => problem,
         Err(fault) => return Err(AdmitError::Fault(fault)),
@@ -193,10 +218,7 @@ fn judge_pair(
     };
     let rows = BoundRows::new(alloc, &compiled, word.bytes().len() as u32)?;
     match admit_word(&compiled, &rows, word) {
-        Ok(problem) => {
-            problem.admissible();
-            Ok(())
-        }
+        Ok(problem) => Ok(bound_of(&problem)),
         Err(fault) => Err(AdmitError::Fault(fault)),
     }
 }
@@ -259,44 +281,4 @@ fn longest(words: &[Text]) -> u32
         longest = longest.max(word.bytes().len());
     }
     longest as u32
-}
-
-/// The problem of the word, or the fault of the first limit that it passes.
-fn admit_word<'a>(
-    checked: &'a Checked,
-    rows: &BoundRows,
-    word: &'a Text,
-) -> Result<Problem<'a>, LimitFault>
-    requires rows { AreRowsOf checked.now rows.now }
-    requires known { length word.now ≤ rows.now.longest }
-    ensures { MatchResult result (IsProblemOf checked.now word.now)
-        (IsLimitFault checked.now.grammar checked.now.algebra (length word.now)) }
-{
-    let cells = cells_within_limits(checked, word)?;
-    admit_within(checked, rows, word, cells)
-}
-
-/// The word's score bound, which keeps the limits as it does.
-pub(crate) fn bound_of(problem: &Problem<'_>) -> u64
-    ensures bound { IsScoreBound problem.now.grammar problem.now.algebra (length problem.now.word) result }
-    ensures low { result ≤ greatest_score }
-    ensures kept { KeepsLimits problem.now.grammar problem.now.algebra (length problem.now.word) }
-{
-    problem.admissible();
-    problem.score_bound
-}
-
-/// The problem of a word that keeps the limits. Takes no memory.
-pub(crate) fn admitted<'a>(checked: &'a Checked, rows: &BoundRows, word: &'a Text) -> Problem<'a>
-    requires rows { AreRowsOf checked.now rows.now }
-    requires known { length word.now ≤ rows.now.longest }
-    requires limits { KeepsLimits checked.now.grammar checked.now.algebra (length word.now) }
-    ensures { IsProblemOf checked.now word.now result }
-{
-    checked.passes();
-    limits_are_kept_or_passed();
-    match admit_word(checked, rows, word) {
-        Ok(problem) => problem,
-        Err(_) => unreachable!(),
-    }
 }

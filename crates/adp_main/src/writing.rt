@@ -5,8 +5,9 @@ ghost use Rattle.adp_io.specs.Causes.{RisesWhere};
 ghost use Rattle.adp_io.specs.Streams.{SameTold};
 ghost use Rattle.verdicts.specs.Command.{ReadsJob};
 ghost use Rattle.verdicts.specs.SecondAlgebra.{IsAdmissibleWith};
-ghost use Rattle.adp_main.specs.CompiledWords.{IsKeptFor};
+ghost use Rattle.adp_main.specs.CompiledWords.{ServesItsLength};
 ghost use Rattle.adp_main.specs.Faults.{status_after};
+ghost use Rattle.adp_main.specs.KeptLengths.{HasKept, HaveKept};
 ghost use Rattle.adp_main.specs.Posed.{posed_word, posed_words};
 ghost use Rattle.adp_main.specs.Reporting.{AreReportsOf, AreShort, HasWritten};
 ghost use Rattle.adp_main.specs.RunNotes.{AreNoted, IsRunOf};
@@ -14,9 +15,10 @@ ghost use Rattle.adp_main.specs.Seconds.{AreJobRows, IsSecondOf};
 ghost use Rattle.adp_main.specs.Writing.{IsReportWritten, IsWordEnding};
 ghost use Rattle.adp_main.specs.declared.status.Status.TheVariants.{WriteFault};
 
+use crate::admitting::admitted;
 use crate::checking::CheckedJob;
-use crate::lex::Kept;
-use crate::limits::{JobRows, admitted};
+use crate::lex::Compiled;
+use crate::limits::Judged;
 use crate::{best, lex, replay, serial, wins};
 use adp_io::{Sink, write_whole};
 use adp_model::Text;
@@ -34,15 +36,17 @@ pub(crate) fn write_words<R: Threads + Sync, K: Sink, G: Gate>(
     alloc: Global,
     command: &Command<'_>,
     job: &CheckedJob,
-    rows: &JobRows,
+    judged: &Judged,
     out: &mut K,
     gate: &mut G,
 ) -> Result<(), Fault>
     requires reads { ReadsJob command.now.mode }
     requires few { length job.now.words ≤ 65536 }
     requires second { IsSecondOf command.now.second job.now.checked job.now.second }
-    requires rows { AreJobRows job.now.checked job.now.second rows.now }
-    requires known { AreShort rows.now.first.longest job.now.words }
+    requires rows { AreJobRows job.now.checked job.now.second judged.now.rows }
+    requires known { AreShort judged.now.rows.first.longest job.now.words }
+    requires bounds { HaveKept command.now.second job.now.checked.grammar job.now.checked.algebra
+        judged.now.compiled.items job.now.words }
     requires admissible { AllByRecursion (IsAdmissibleWith command.now.second)
         (posed_words job.now.checked.grammar job.now.checked.algebra job.now.words) }
     ensures told { SameTold (K.held out.old) (K.held out.new) }
@@ -60,10 +64,10 @@ pub(crate) fn write_words<R: Threads + Sync, K: Sink, G: Gate>(
     let words = job.words.as_slice();
     let mut kept = None;
     for (place, word) in words.iter().enumerate() {
-        is_admitted(command, job, rows, words, place, word);
+        is_admitted(command, job, judged, words, place, word);
         let number = place as u32 + 1;
         write_word(
-            rt, alloc, command, number, job, rows, word, &mut kept, out, gate,
+            rt, alloc, command, number, job, judged, word, &mut kept, out, gate,
         )?;
     }
     Ok(())
@@ -73,7 +77,7 @@ pub(crate) fn write_words<R: Threads + Sync, K: Sink, G: Gate>(
 fn is_admitted(
     command: &Command<'_>,
     job: &CheckedJob,
-    rows: &JobRows,
+    judged: &Judged,
     words: &[Text],
     place: usize,
     word: &Text,
@@ -81,16 +85,20 @@ fn is_admitted(
     requires words { words.now ≡ job.now.words }
     requires inside { place < length words.now }
     requires word { word.now ≡ get_or words.now place word.now }
-    requires known { AreShort rows.now.first.longest job.now.words }
+    requires known { AreShort judged.now.rows.first.longest job.now.words }
+    requires bounds { HaveKept command.now.second job.now.checked.grammar job.now.checked.algebra
+        judged.now.compiled.items job.now.words }
     requires admissible { AllByRecursion (IsAdmissibleWith command.now.second)
         (posed_words job.now.checked.grammar job.now.checked.algebra job.now.words) }
-    ensures known { length word.now ≤ rows.now.first.longest }
+    ensures known { length word.now ≤ judged.now.rows.first.longest }
+    ensures bound { HasKept command.now.second job.now.checked.grammar job.now.checked.algebra
+        judged.now.compiled.items (length word.now) }
     ensures admissible { IsAdmissibleWith command.now.second
         (posed_word job.now.checked.grammar job.now.checked.algebra word.now) }
 {
     let _ = &command.mode;
     let _ = &job.words;
-    let _ = &rows.first;
+    let _ = &judged.rows;
     let _ = (words.len(), place);
     let _ = word.bytes();
 }
@@ -102,36 +110,50 @@ fn write_word<R: Threads + Sync, K: Sink, G: Gate>(
     command: &Command<'_>,
     number: u32,
     job: &CheckedJob,
-    rows: &JobRows,
+    judged: &Judged,
     word: &Text,
-    kept: &mut Option<Kept>,
+    kept: &mut Option<Compiled>,
     out: &mut K,
     gate: &mut G,
 ) -> Result<(), Fault>
     requires reads { ReadsJob command.now.mode }
     requires second { IsSecondOf command.now.second job.now.checked job.now.second }
-    requires rows { AreJobRows job.now.checked job.now.second rows.now }
-    requires known { length word.now ≤ rows.now.first.longest }
+    requires rows { AreJobRows job.now.checked job.now.second judged.now.rows }
+    requires known { length word.now ≤ judged.now.rows.first.longest }
+    requires bound { HasKept command.now.second job.now.checked.grammar job.now.checked.algebra
+        judged.now.compiled.items (length word.now) }
     requires admissible { IsAdmissibleWith command.now.second
         (posed_word job.now.checked.grammar job.now.checked.algebra word.now) }
-    requires kept { IfSome kept.old
-        (IsKeptFor command.now.second job.now.checked.grammar job.now.checked.algebra) }
-    ensures kept { IfSome kept.new
-        (IsKeptFor command.now.second job.now.checked.grammar job.now.checked.algebra) }
+    requires kept { IfSome kept.old (ServesItsLength command.now.second job.now.checked) }
+    ensures kept { IfSome kept.new (ServesItsLength command.now.second job.now.checked) }
     ensures told { SameTold (K.held out.old) (K.held out.new) }
     ensures faults { RisesWhere (K.faults out.old) (K.faults out.new) (status_after result ≡ WriteFault) }
     ensures ending { IsWordEnding (IsRunOf command.now number
         (posed_word job.now.checked.grammar job.now.checked.algebra word.now)) result
         (G.runs gate.old) (G.runs gate.new) (K.held out.old) (K.held out.new) }
 {
-    let problem = admitted(&job.checked, &rows.first, word);
+    let rows = &judged.rows.first;
     match command.mode {
-        Mode::Best => best::report_word(rt, alloc, command, number, &problem, out, gate),
-        Mode::Serial => serial::report_word(alloc, number, &problem, out),
-        Mode::Wins => wins::report_word(rt, alloc, command, number, &problem, out, gate),
-        Mode::Replay => replay::report_word(alloc, command, number, &problem, out, gate),
+        Mode::Best => {
+            let problem = admitted(&job.checked, rows, word);
+            best::report_word(rt, alloc, command, number, &problem, out, gate)
+        },
+        Mode::Serial => {
+            let problem = admitted(&job.checked, rows, word);
+            serial::report_word(alloc, number, &problem, out)
+        },
+        Mode::Wins => {
+            let problem = admitted(&job.checked, rows, word);
+            wins::report_word(rt, alloc, command, number, &problem, out, gate)
+        },
+        Mode::Replay => {
+            let problem = admitted(&job.checked, rows, word);
+            replay::report_word(alloc, command, number, &problem, out, gate)
+        },
         Mode::Lex => {
-            lex::report_word(rt, alloc, command, number, job, rows, word, kept, out, gate)
+            lex::report_word(
+                rt, alloc, command, number, job, judged, word, kept, out, gate,
+            )
         },
         Mode::Big => unreachable!(),
     }

@@ -5,7 +5,8 @@ use Rattle.std.proofs.Math.Nat.{mul-le-mul_left}
 use Rattle.std.proofs.lemmas.Int.{ints, unsigned_abs-mul}
 use Rattle.adp_model.specs.declared.grammar.Arg.{Arg}
 use Rattle.adp_model.specs.declared.grammar.Arg.TheVariants.{Rule, Literal, Letter, Run}
-use Rattle.adp_model.specs.declared.grammar.Linear.{Linear}
+use Rattle.adp_model.specs.declared.grammar.Term.{Term}
+use Rattle.adp_model.specs.declared.grammar.Term.TheVariants.{Linear, Wide}
 use Rattle.adp_model.specs.declared.grammar.Grammar.{Grammar}
 use Rattle.adp_model.specs.declared.cell.Cell.{Cell}
 use Rattle.adp_model.specs.PosedProblem.{PosedProblem, IsSpan}
@@ -19,18 +20,13 @@ use Rattle.adp_model.specs.Lengths.{AdmitsLength}
 use Rattle.adp_model.specs.Checks.{IsChecked}
 use Rattle.adp_model.specs.ProblemFields.{most_letters}
 use Rattle.adp_model.specs.Bounds.{AreInRange, IsWay, greatest_weight, token_bound, argument_bounds, nodes_within, IsMagnitude, IsNodeNumber, IsGreatest, AreScoreBounds, AreNodeBounds, IsRuleBound, IsTokenBound, IsScoreBound}
+use Rattle.adp_model.proofs.WideTerms.{AreUpTo, wide_grows, wide_within}
 use Rattle.adp_model.proofs.Ways.{sum-first}
 use Rattle.adp_model.proofs.Derived.{IsSpan-derived}
 use Rattle.adp_model.proofs.Sized.{length-letters_between, AdmitsLength-matched, within_from_derived}
 use Rattle.adp_model.proofs.KnownRules.{rule_known}
 
 -- ---- facts of terms
-
--- each number is at most its counterpart
-abbrev pub AreUpTo : List ℕ → List ℕ → Type 0
-AreUpTo [] others = Unit {0}
-AreUpTo (number ∷ numbers) [] = ⊥
-AreUpTo (number ∷ numbers) (other ∷ others) = (number ≤ other) × AreUpTo numbers others
 
 total_grows : (factors : List ℤ) (numbers others : List ℕ) → AreUpTo numbers others → weighted_total factors numbers ≤ weighted_total factors others
 total_grows [] numbers others up_to = omega arith
@@ -42,8 +38,9 @@ total_grows (factor ∷ factors) (number ∷ numbers) (other ∷ others) up_to =
     omega (arith, first)
 
 -- greater numbers give no lesser magnitude
-pub magnitude_grows : (term : Linear) (numbers others : List ℕ) → AreUpTo numbers others → magnitude term numbers ≤ magnitude term others
-magnitude_grows term numbers others up_to = omega (arith, total_grows term.factors numbers others up_to)
+pub magnitude_grows : (term : Term) (numbers others : List ℕ) → AreUpTo numbers others → magnitude term numbers ≤ magnitude term others
+magnitude_grows (Linear term) numbers others up_to = omega (arith, total_grows term.factors numbers others up_to)
+magnitude_grows (Wide term) numbers others up_to = wide_grows term numbers others up_to
 
 nat_abs-sum : (a b : ℤ) → nat_abs (a +ℤ b) ≤ nat_abs a + nat_abs b
 nat_abs-sum a b = omega (arith, ints)
@@ -58,11 +55,12 @@ sum_within (factor ∷ factors) (value ∷ values) =
     omega (arith, both, first)
 
 -- a term's value is within its magnitude
-pub value_within : (term : Linear) (values : List ℤ) → nat_abs (term_value term values) ≤ magnitude term (map nat_abs values)
-value_within term values =
+pub value_within : (term : Term) (values : List ℤ) → nat_abs (term_value term values) ≤ magnitude term (map nat_abs values)
+value_within (Linear term) values =
     let both = nat_abs-sum term.constant (weighted_sum term.factors values) in
     let rest = sum_within term.factors values in
     omega (arith, both, rest)
+value_within (Wide term) values = wide_within term values
 
 -- ---- tokens
 
@@ -134,7 +132,7 @@ module _ (p : PosedProblem) (least : List ℕ) (greatest : List (Option ℕ)) (r
   children_fit [] from to (Cons first others) derived = absurd derived
   children_fit (argument ∷ arguments) from to Nil derived = absurd derived
   children_fit (Rule rule ∷ arguments) from to (Cons first others) derived =
-      (within_from_derived p least greatest ranks checked short (record { rule = rule; from = from; to = end_of first }) first derived.0, children_fit arguments (end_of first) to others derived.1)
+      (within_from_derived p least greatest ranks checked (record { rule = rule; from = from; to = end_of first }) first derived.0, children_fit arguments (end_of first) to others derived.1)
   children_fit (Literal text ∷ arguments) from to (Cons first others) derived =
       ((leaf_facts p (Literal text) from first derived.0).admits, children_fit arguments (end_of first) to others derived.1)
   children_fit (Letter class ∷ arguments) from to (Cons first others) derived =

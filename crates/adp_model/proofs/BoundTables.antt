@@ -1,6 +1,6 @@
 -- In a checked grammar there is exactly one table of score bounds, one of node bounds, and one score bound and one node
 -- bound of words of each length.
-use Rattle.std.proofs.Common.{◌≡◌, ℕ, suc, ◌+◌, ◌<◌, ◌≤◌, max, Option, List, [], ◌∷◌, length, slice_index_or, ◌⊎◌, inl, inr, refl, subst, sym, ap, ap₂, ◌∙◌, arith}
+use Rattle.std.proofs.Common.{None, ◌≡◌, ℕ, suc, ◌+◌, ◌<◌, ◌≤◌, max, Option, List, [], ◌∷◌, length, slice_index_or, ◌⊎◌, inl, inr, refl, subst, sym, ap, ap₂, ◌∙◌, arith}
 use Rattle.std.specs.List.{Contains}
 use Rattle.std.proofs.lemmas.List.{get_or_past, get_or_default}
 use Rattle.adp_model.specs.declared.grammar.Arg.{Arg}
@@ -120,7 +120,7 @@ argument_stands grammar rule alternative token h = (by_rule, by_alternative)
         by (inl below) = below
         by (inr past) =
             let far : length (alternatives_of grammar rule) ≤ alternative = (let wrong = past in grind arith) in
-            let none : length (arguments_of grammar rule alternative) ≡ 0 = ap (λ a. length a.args) (get_or_past (alternatives_of grammar rule) alternative (record { sign = 0; args = [] }) far) in
+            let none : length (arguments_of grammar rule alternative) ≡ 0 = ap (λ a. length a.args) (get_or_past (alternatives_of grammar rule) alternative (record { sign = 0; args = []; size = None }) far) in
             absurd (omega (arith, none, h.1))
 
     by_rule : rule < length grammar.rules

@@ -8,7 +8,7 @@ use Rattle.adp_model.specs.declared.grammar.Arg.TheVariants.{Rule, Literal, Lett
 use Rattle.adp_model.specs.declared.cell.Cell.{Cell}
 use Rattle.adp_model.specs.PosedProblem.{PosedProblem}
 use Rattle.adp_model.specs.Parts.{algebra_of, alternative_at, arguments_of, sign_at, term_of}
-use Rattle.adp_model.specs.Terms.{CanHaveAny}
+use Rattle.adp_model.specs.GrammarSigns.{CanHave}
 use Rattle.adp_model.specs.Splits.{Placed, AtRule, placed, FitsSpan}
 use Rattle.adp_model.specs.Demand.{IsBelow}
 use Rattle.adp_model.specs.Checks.{IsChecked}
@@ -19,6 +19,7 @@ use Rattle.adp_model.proofs.KnownRules.{rule_known-within}
 use Rattle.adp_model.proofs.Sized.{within_or_not, within_from_derived}
 use Rattle.adp_model.proofs.Falling.{below_split}
 use Rattle.adp_model.proofs.Monotone.{orderly-derived}
+use Rattle.adp_model.proofs.NotNegative.{score_can, token_can}
 use Rattle.adp_model.proofs.Premises.{IsSolvable}
 use Rattle.adp_model.proofs.Principle.{Bellman-solvable}
 
@@ -59,9 +60,9 @@ module _ (p : PosedProblem) (least : List ℕ) (greatest : List (Option ℕ)) (r
     some = some_arguments-formed p.grammar checked.well_formed;
     orderly = λ rule alternative from to ts us in_range h k good.
         let signed : IsSigned p.grammar (alternative_at p.grammar rule alternative) = IsSigned-at p.grammar checked.well_formed rule alternative in_range in
-        orderly-derived p CanHaveAny (λ cell tree d. tt) (λ token letters matches. tt) (term_of p rule alternative) (sign_at p.grammar (alternative_at p.grammar rule alternative).sign).kinds (arguments_of p.grammar rule alternative)
+        orderly-derived p (CanHave p.grammar p.algebra) (score_can p checked.well_formed checked.algebra_known) (token_can p) (term_of p rule alternative) (sign_at p.grammar (alternative_at p.grammar rule alternative).sign).kinds (arguments_of p.grammar rule alternative)
         (checked.orderly (alternative_at p.grammar rule alternative).sign signed.known) (record { count = signed.count; fit = signed.fit }) (algebra_of p).goal from to ts us h k good;
-    sound = within_from_derived p least greatest ranks checked short;
+    sound = within_from_derived p least greatest ranks checked;
     decided = within_or_not p.grammar p.algebra least greatest ranks checked;
     falls = λ cell alternative cuts span viable. falls_along cell (placed p cell alternative cuts) viable.fits (below_split p least greatest ranks checked cell alternative cuts viable);
   }

@@ -9,7 +9,7 @@ use Rattle.adp_model.specs.declared.cell.Choice.{Choice}
 use Rattle.adp_model.specs.PosedProblem.{PosedProblem, IsSpan}
 use Rattle.adp_model.specs.Parts.{letters_of, alternatives_of, alternative_at, arguments_of, term_of}
 use Rattle.adp_model.specs.Tokens.{letters_between, weight_of, IsIn, Matches, token_value}
-use Rattle.adp_model.specs.Lengths.{AllowsLength}
+use Rattle.adp_model.specs.Lengths.{low_of, high_of, AllowsLength}
 use Rattle.adp_model.specs.declared.grammar.Alt.{Alt}
 use Rattle.adp_model.specs.Terms.{term_value}
 use Rattle.adp_model.specs.Scores.{score_of}
@@ -53,7 +53,7 @@ fits_span : (p : PosedProblem) (measure : Cell → ℕ) → IsSolvable p measure
 fits_span p measure solvable placed = fits_at p measure solvable placed.argument placed.from placed.to
 
 allows : (alternative : Alt) (len : ℕ) → Decided (AllowsLength alternative len)
-allows alternative len = inl tt
+allows alternative len = both (at_most (low_of alternative.size) len) (within_high (high_of alternative.size) len)
 
 -- ---- splits
 

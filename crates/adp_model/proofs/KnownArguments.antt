@@ -1,5 +1,5 @@
 -- The arguments of a well-formed grammar name rules and classes that are there.
-use Rattle.std.proofs.Common.{◌≡◌, ℕ, true, ◌&&◌, nat_le, nat_lt, ◌==◌, IsTrue, List, [], ◌∷◌, length, arith, ltb-true, eqb-true}
+use Rattle.std.proofs.Common.{None, ◌≡◌, ℕ, true, ◌&&◌, nat_le, nat_lt, ◌==◌, IsTrue, List, [], ◌∷◌, length, arith, ltb-true, eqb-true}
 use Rattle.std.specs.List.{AllByRecursion, list_all, zip}
 use Rattle.adp_model.specs.declared.grammar.Kind.{Kind}
 use Rattle.adp_model.specs.declared.grammar.Kind.TheVariants.{Score, Token}
@@ -8,7 +8,7 @@ use Rattle.adp_model.specs.declared.grammar.Arg.TheVariants.{Rule, Literal, Lett
 use Rattle.adp_model.specs.declared.grammar.Alt.{Alt}
 use Rattle.adp_model.specs.declared.grammar.Grammar.{Grammar}
 use Rattle.adp_model.specs.Parts.{sign_at, alternatives_of, arguments_of}
-use Rattle.adp_model.specs.WellFormed.{IsKnown, is_argument, is_alternative, is_high_bound, is_well_formed}
+use Rattle.adp_model.specs.WellFormed.{IsKnown, is_argument, is_size, is_alternative, is_high_bound, is_well_formed}
 use Rattle.adp_model.proofs.WellFormedParts.{and_first, and_second, kept_at, alternatives-formed}
 
 known_argument : (grammar : Grammar) (kind : Kind) (argument : Arg) → is_argument grammar (kind, argument) ≡ true → IsKnown grammar argument
@@ -33,7 +33,7 @@ known_arguments grammar (kind ∷ kinds) (argument ∷ arguments) e h =
 known_alternative : (grammar : Grammar) (alternative : Alt) → is_alternative grammar alternative ≡ true → AllByRecursion (IsKnown grammar) alternative.args
 known_alternative grammar alternative k =
     let kinds = (sign_at grammar alternative.sign).kinds in
-    let in_signs = nat_lt alternative.sign (length grammar.signs) in
+    let in_signs = is_size alternative.size && nat_lt alternative.sign (length grammar.signs) in
     let counted = length alternative.args == length kinds in
     let fit = list_all (is_argument grammar) (zip kinds alternative.args) in
     known_arguments grammar kinds alternative.args (eqb-true _ _ (and_second in_signs counted (and_first (in_signs && counted) fit k))) (and_second (in_signs && counted) fit k)
@@ -41,4 +41,4 @@ known_alternative grammar alternative k =
 -- each argument of an alternative is known
 pub known_in_alternatives : (grammar : Grammar) → IsTrue (is_well_formed grammar) → (rule alternative : ℕ) → AllByRecursion (IsKnown grammar) (arguments_of grammar rule alternative)
 known_in_alternatives grammar h rule alternative =
-    kept_at (is_alternative grammar) (λ a. AllByRecursion (IsKnown grammar) a.args) (known_alternative grammar) (alternatives_of grammar rule) alternative (record { sign = 0; args = [] }) (alternatives-formed grammar h rule) tt
+    kept_at (is_alternative grammar) (λ a. AllByRecursion (IsKnown grammar) a.args) (known_alternative grammar) (alternatives_of grammar rule) alternative (record { sign = 0; args = []; size = None }) (alternatives-formed grammar h rule) tt

@@ -21,7 +21,7 @@ rule_known grammar rule alternative h = go (cases_lt rule (length grammar.rules)
         absurd (omega (arith, no_alternatives grammar rule past))
 
 pub rule_known-length : (grammar : Grammar) (rule len : ℕ) → HasLength grammar rule len → rule < length grammar.rules
-rule_known-length grammar rule len (ByAlternative _ alternative _ in_range have allowed) = rule_known grammar rule alternative in_range
+rule_known-length grammar rule len (ByAlternative _ alternative _ _ in_range have within is) = rule_known grammar rule alternative in_range
 
 pub rule_known-within : (grammar : Grammar) (rule len : ℕ) → IsWithinSizes grammar rule len → rule < length grammar.rules
 rule_known-within grammar rule len within = rule_known-length grammar rule within.2.0 within.2.1

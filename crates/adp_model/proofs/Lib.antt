@@ -25,6 +25,11 @@ pub mod Deciding
 pub mod Solving
 pub mod Principle
 pub mod Monotone
+pub mod WideTerms
+pub mod TermOrders
+pub mod TwiceValues
+pub mod StrictWide
+pub mod NotNegative
 pub mod Checked
 pub mod Demanded
 pub mod DemandDecided

@@ -9,11 +9,13 @@ use Rattle.adp_model.specs.declared.grammar.Goal.TheVariants.{Least, Greatest}
 use Rattle.adp_model.specs.declared.grammar.Grammar.{Grammar}
 use Rattle.adp_model.specs.declared.grammar.Kind.{Kind}
 use Rattle.adp_model.specs.declared.grammar.Kind.TheVariants.{Score, Token}
-use Rattle.adp_model.specs.declared.grammar.Linear.{Linear}
+use Rattle.adp_model.specs.declared.grammar.Linear as linear
+use Rattle.adp_model.specs.declared.grammar.Term.{Term}
 use Rattle.adp_model.specs.declared.cell.Cell.{Cell}
 use Rattle.adp_model.specs.PosedProblem.{PosedProblem}
 use Rattle.adp_model.specs.Tokens.{Matches, letters_between, token_value}
-use Rattle.adp_model.specs.Terms.{weighted_sum, term_value, ScoreFactorsFrom, IsMonotone, AreAtMost, AreValues, KeepsOrder}
+use Rattle.adp_model.specs.Terms.{weighted_sum, linear_value, term_value, AreAtMost, AreValues, KeepsOrder}
+use Rattle.adp_model.specs.TermSigns.{ScoreFactorsFrom}
 use Rattle.adp_model.specs.Tree.{Tree, Leaf, Node, Trees, Nil, Cons, start_of, end_of}
 use Rattle.adp_model.specs.Derivation.{Derives, DeriveArguments, IsMatchingLeaf}
 use Rattle.adp_model.specs.Scores.{score_of, values_of}
@@ -54,8 +56,8 @@ weighted_at_most (factor ∷ factors) (Token ∷ kinds) (value ∷ values) (valu
     plus_at_most _ _ _ _ (same_times factor value value' h.0) (weighted_at_most factors kinds values values' m h.1)
 
 -- where no score factor is negative
-pub KeepsOrder-factors : (CanHave : Kind → ℤ → Type 0) (term : Linear) (kinds : List Kind) → IsMonotone term kinds → KeepsOrder CanHave term kinds
-KeepsOrder-factors CanHave term kinds m values values' can can' h =
+pub linear_rises : (term : linear.Linear) (kinds : List Kind) (values values' : List ℤ) → ScoreFactorsFrom (pos 0) term.factors kinds → AreAtMost kinds values values' → linear_value term values ≤ℤ linear_value term values'
+linear_rises term kinds values values' m h =
     plus_at_most term.constant term.constant _ _ (at_most_refl term.constant) (weighted_at_most term.factors kinds values values' m h)
 
 -- ---- kinds and arguments
@@ -132,7 +134,7 @@ module _ (p : PosedProblem) (CanHave : Kind → ℤ → Type 0) (scores : (cell 
       (leaf_can (Run class low high) from first h.0, AreValues-derived kinds arguments (end_of first) to others (others_fit p.grammar Token kinds (Run class low high) arguments fit) h.1)
 
   -- children whose values are as good give a value that is as good
-  pub orderly-derived : (term : Linear) (kinds : List Kind) (arguments : List Arg) → KeepsOrder CanHave term kinds → AreFit p.grammar kinds arguments → (goal : Goal) (from to : ℕ) (ts us : Trees) → DeriveArguments p arguments from to ts → DeriveArguments p arguments from to us → AreAsGood goal arguments (values_of p arguments ts) (values_of p arguments us) → IsAsGood goal (term_value term (values_of p arguments ts)) (term_value term (values_of p arguments us))
+  pub orderly-derived : (term : Term) (kinds : List Kind) (arguments : List Arg) → KeepsOrder CanHave term kinds → AreFit p.grammar kinds arguments → (goal : Goal) (from to : ℕ) (ts us : Trees) → DeriveArguments p arguments from to ts → DeriveArguments p arguments from to us → AreAsGood goal arguments (values_of p arguments ts) (values_of p arguments us) → IsAsGood goal (term_value term (values_of p arguments ts)) (term_value term (values_of p arguments us))
   orderly-derived term kinds arguments keeps fit Least from to ts us h k good =
       keeps (values_of p arguments ts) (values_of p arguments us) (AreValues-derived kinds arguments from to ts fit h) (AreValues-derived kinds arguments from to us fit k)
       (at_most_least p.grammar kinds arguments (values_of p arguments ts) (values_of p arguments us) fit (length-values p arguments from to ts h) (length-values p arguments from to us k) good)

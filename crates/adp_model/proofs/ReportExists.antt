@@ -1,13 +1,11 @@
 -- An admitted word has a report.
-use Rattle.std.proofs.Common.{◌≡◌, ℕ, zero, suc, ◌+◌, ◌≤◌, inl, inr, List, [], ◌∷◌, ◌++◌, codes, length, sum, refl, sym, ap, subst, ◌∙◌, arith}
-use Rattle.std.proofs.lemmas.List.Sums.{sum_by-cons}
+use Rattle.std.proofs.Common.{ℕ, inl, inr, List, ◌++◌, codes, refl, arith}
 use Rattle.std.specs.Fmt.{decimal}
 use Rattle.adp_model.specs.declared.cell.Answer.{Answer}
 use Rattle.adp_model.specs.declared.cell.Answer.TheVariants.{NoCandidate, Best}
 use Rattle.adp_model.specs.PosedProblem.{PosedProblem, axiom_cell}
 use Rattle.adp_model.specs.Answers.{IsAnswer}
 use Rattle.adp_model.specs.ProblemFields.{IsAdmissible}
-use Rattle.adp_model.specs.Demand.{IsDemandedCount}
 use Rattle.adp_model.specs.Report.{line, tree_lines, IsAnswerText, IsReport}
 use Rattle.adp_model.proofs.Checked.{Bellman-admissible}
 use Rattle.adp_model.proofs.DemandDecided.{number_exists}

@@ -1,7 +1,7 @@
 -- A rule has one least and one greatest size, so to lie between its sizes is to lie between these numbers.
 use Rattle.std.proofs.Common.{◌≡◌, ℕ, ◌<◌, ◌≤◌, Option, Some, None, IfSome, List, length, slice_index, slice_index_or, min, refl, sym, ap, subst, arith, ◌∙◌, ◌↔◌}
 use Rattle.adp_model.specs.declared.grammar.Grammar.{Grammar}
-use Rattle.adp_model.specs.Sizes.{greatest_kept, IsLeastSize, IsGreatestSize, IsWithinSizes, IsBetween}
+use Rattle.adp_model.specs.Sizes.{greatest_kept, IsUpTo, IsLeastSize, IsGreatestSize, IsWithinSizes, IsBetween}
 use Rattle.adp_model.specs.Checks.{IsChecked}
 
 pub IsLeastSize_unique : (grammar : Grammar) (rule a b : ℕ) → IsLeastSize grammar rule a → IsLeastSize grammar rule b → a ≡ b
@@ -11,15 +11,15 @@ IsLeastSize_unique grammar rule a b h k =
     let e : h.0 ≡ k.0 = omega arith in
     h.3 ∙ ap (λ n. min n greatest_kept) e ∙ sym k.3
 
+up_to_each_other : (a b : Option ℕ) → IsUpTo a b → IsUpTo b a → a ≡ b
+up_to_each_other None None h k = refl
+up_to_each_other None (Some b) h k = absurd h
+up_to_each_other (Some a) None h k = absurd k
+up_to_each_other (Some a) (Some b) h k = let e : a ≡ b = omega arith in ap (λ n. Some n) e
+
 pub IsGreatestSize_unique : (grammar : Grammar) (rule : ℕ) (a b : Option ℕ) → IsGreatestSize grammar rule a → IsGreatestSize grammar rule b → a ≡ b
-IsGreatestSize_unique grammar rule None None h k = refl
-IsGreatestSize_unique grammar rule None (Some b) h k = absurd (k.0 h)
-IsGreatestSize_unique grammar rule (Some a) None h k = absurd (h.0 k)
-IsGreatestSize_unique grammar rule (Some a) (Some b) h k =
-    let low : h.1 ≤ k.1 = k.3 h.1 h.2 in
-    let high : k.1 ≤ h.1 = h.3 k.1 k.2 in
-    let e : h.1 ≡ k.1 = omega arith in
-    ap (λ n. Some n) (h.4 ∙ ap (λ n. min n greatest_kept) e ∙ sym k.4)
+IsGreatestSize_unique grammar rule a b h k =
+    h.3 ∙ up_to_each_other (slice_index_or h.0 rule None) (slice_index_or k.0 rule None) (h.1.least k.0 k.1.are rule h.2) (k.1.least h.0 h.1.are rule h.2) ∙ sym k.3
 
 -- what is known of the numbers that are one rule's sizes
 pub sizes_at_numbers : (grammar : Grammar) (least : List ℕ) (greatest : List (Option ℕ)) (rule len : ℕ) → IsLeastSize grammar rule (slice_index least rule) → IsGreatestSize grammar rule (slice_index_or greatest rule None) → IsWithinSizes grammar rule len ↔ IsBetween least greatest rule len

@@ -1,8 +1,7 @@
 -- Where every term keeps the order of scores strictly, the preferred tree is the first in grammar order among the
 -- derived trees of its score.
-use Rattle.std.proofs.Common.{◌≡◌, ℕ, zero, suc, ◌*◌, ◌<◌, ◌⊎◌, inl, inr, ℤ, pos, negsuc, ◌+ℤ◌, ◌*ℤ◌, ◌≤ℤ◌, IsTrue, List, [], ◌∷◌, length, refl, sym, ap, subst, ◌∙◌, arith}
+use Rattle.std.proofs.Common.{◌≡◌, ℕ, ◌⊎◌, inl, inr, ℤ, pos, ◌+ℤ◌, ◌≤ℤ◌, IsTrue, List, [], ◌∷◌, length, refl, sym, ap, subst, ◌∙◌, arith}
 use Rattle.std.specs.Prelude.{◌<ℤ◌}
-use Rattle.std.proofs.Math.Nat.{mul-lt-mul_of_pos_left}
 use Rattle.std.proofs.lemmas.Int.{ints}
 use Rattle.adp_model.specs.declared.grammar.Arg.{Arg}
 use Rattle.adp_model.specs.declared.grammar.Arg.TheVariants.{Rule, Literal, Letter, Run}
@@ -11,12 +10,15 @@ use Rattle.adp_model.specs.declared.grammar.Goal.TheVariants.{Least, Greatest}
 use Rattle.adp_model.specs.declared.grammar.Grammar.{Grammar}
 use Rattle.adp_model.specs.declared.grammar.Kind.{Kind}
 use Rattle.adp_model.specs.declared.grammar.Kind.TheVariants.{Score, Token}
-use Rattle.adp_model.specs.declared.grammar.Linear.{Linear}
+use Rattle.adp_model.specs.declared.grammar.Term.{Term}
+use Rattle.adp_model.specs.declared.grammar.Term.TheVariants.{Linear, Wide}
 use Rattle.adp_model.specs.declared.cell.Cell.{Cell}
 use Rattle.adp_model.specs.PosedProblem.{PosedProblem}
 use Rattle.adp_model.specs.Parts.{algebra_of, alternative_at, arguments_of, sign_at, term_of}
 use Rattle.adp_model.specs.Tokens.{letters_between, token_value}
-use Rattle.adp_model.specs.Terms.{weighted_sum, term_value, ScoreFactorsFrom, IsStrict, AreAtMost, SomeScoreIsLess, CanHaveAny, KeepsStrictOrder}
+use Rattle.adp_model.specs.Terms.{weighted_sum, term_value, AreAtMost, SomeScoreIsLess, CanHaveAny, KeepsStrictOrder}
+use Rattle.adp_model.specs.TermSigns.{ScoreFactorsFrom, IsStrict}
+use Rattle.adp_model.specs.TermForms.{IsTermFor}
 use Rattle.adp_model.specs.Checks.{KeepsStrictOrders}
 use Rattle.adp_model.specs.Tree.{Tree, Leaf, Node, Trees, Nil, Cons, start_of, end_of, ends_of}
 use Rattle.adp_model.specs.Derivation.{Derives, DeriveArguments, IsMatchingLeaf}
@@ -27,18 +29,12 @@ use Rattle.adp_model.specs.WellFormed.{is_well_formed}
 use Rattle.adp_model.proofs.Derived.{HasFewArguments, ends-derived_unique, leaf_unique}
 use Rattle.adp_model.proofs.WellFormedParts.{HasFewArguments-formed, IsSigned, IsSigned-at}
 use Rattle.adp_model.proofs.Order.{Trichotomy, IsBetter_irrefl, IsBetter_total, IsPreferred-best}
+use Rattle.adp_model.proofs.StrictWide.{times_less, wide_less}
 use Rattle.adp_model.proofs.Premises.{AreAsGood}
 use Rattle.adp_model.proofs.Replacement.{preferred_at_least, IsAsGood-at_least}
 use Rattle.adp_model.proofs.Monotone.{times_at_most, same_times, weighted_at_most, AreFit, others_fit, at_most_least, turned, length-values, AreValues-derived}
 
 -- ---- factors
-
-times_less : (factor a b : ℤ) → pos 1 ≤ℤ factor → a <ℤ b → (factor *ℤ a) <ℤ (factor *ℤ b)
-times_less (pos n) (pos a) (pos b) h k = let m : n * a < n * b = mul-lt-mul_of_pos_left {m = a} {n = b} {k = n} (omega (arith, ints)) (omega (arith, ints)) in omega (arith, ints)
-times_less (pos n) (pos a) (negsuc b) h k = absurd (omega (arith, ints))
-times_less (pos n) (negsuc a) (pos b) h k = let m : n * zero < n * suc a = mul-lt-mul_of_pos_left {m = zero} {n = suc a} {k = n} (omega arith) (omega (arith, ints)) in omega (arith, ints)
-times_less (pos n) (negsuc a) (negsuc b) h k = let m : n * suc b < n * suc a = mul-lt-mul_of_pos_left {m = suc b} {n = suc a} {k = n} (omega (arith, ints)) (omega (arith, ints)) in omega (arith, ints)
-times_less (negsuc n) a b h k = absurd (omega (arith, ints))
 
 plus_less_left : (a b c d : ℤ) → a <ℤ b → c ≤ℤ d → (a +ℤ c) <ℤ (b +ℤ d)
 plus_less_left a b c d h k = omega (arith, ints)
@@ -69,10 +65,11 @@ weighted_less (factor ∷ factors) (Score ∷ kinds) (value ∷ values) (value' 
 weighted_less (factor ∷ factors) (Token ∷ kinds) (value ∷ values) (value' ∷ values') count m h some =
     plus_less_right _ _ _ _ (same_times factor value value' h.0) (weighted_less factors kinds values values' (omega arith) m h.1 some)
 
--- where each score factor is at least 1
-pub KeepsStrictOrder-factors : (CanHave : Kind → ℤ → Type 0) (term : Linear) (kinds : List Kind) → length term.factors ≡ length kinds → IsStrict term kinds → KeepsStrictOrder CanHave term kinds
-KeepsStrictOrder-factors CanHave term kinds count m values values' can can' h some =
-    plus_less_right term.constant term.constant _ _ (omega (arith, ints)) (weighted_less term.factors kinds values values' count m h some)
+-- where each score factor is at least 1, or the term rises with each score
+pub KeepsStrictOrder-strict : (CanHave : Kind → ℤ → Type 0) (term : Term) (kinds : List Kind) → IsTermFor (length kinds) term → IsStrict term kinds → KeepsStrictOrder CanHave term kinds
+KeepsStrictOrder-strict CanHave (Linear term) kinds fits m values values' can can' h some =
+    plus_less_right term.constant term.constant _ _ (omega (arith, ints)) (weighted_less term.factors kinds values values' fits.factors m h some)
+KeepsStrictOrder-strict CanHave (Wide term) kinds fits m values values' can can' h some = wide_less term kinds values values' fits.once m h some
 
 -- ---- values of which one is better
 
@@ -124,7 +121,7 @@ some_turned (Letter class ∷ arguments) (value ∷ values) (value' ∷ values')
 some_turned (Run class low high ∷ arguments) (value ∷ values) (value' ∷ values') some = some_turned arguments values values' some
 
 -- children that are as good, one of them better, give a better value
-better_value : (p : PosedProblem) (term : Linear) (kinds : List Kind) (arguments : List Arg) → KeepsStrictOrder CanHaveAny term kinds → AreFit p.grammar kinds arguments → (goal : Goal) (from to : ℕ) (ts us : Trees) → DeriveArguments p arguments from to ts → DeriveArguments p arguments from to us → AreAsGood goal arguments (values_of p arguments ts) (values_of p arguments us) → SomeIsBetter goal arguments (values_of p arguments ts) (values_of p arguments us) → IsBetter goal (term_value term (values_of p arguments ts)) (term_value term (values_of p arguments us))
+better_value : (p : PosedProblem) (term : Term) (kinds : List Kind) (arguments : List Arg) → KeepsStrictOrder CanHaveAny term kinds → AreFit p.grammar kinds arguments → (goal : Goal) (from to : ℕ) (ts us : Trees) → DeriveArguments p arguments from to ts → DeriveArguments p arguments from to us → AreAsGood goal arguments (values_of p arguments ts) (values_of p arguments us) → SomeIsBetter goal arguments (values_of p arguments ts) (values_of p arguments us) → IsBetter goal (term_value term (values_of p arguments ts)) (term_value term (values_of p arguments us))
 better_value p term kinds arguments keeps fit Least from to ts us h k good some =
     keeps (values_of p arguments ts) (values_of p arguments us)
     (AreValues-derived p CanHaveAny (λ cell tree d. tt) (λ token letters matches. tt) kinds arguments from to ts fit h) (AreValues-derived p CanHaveAny (λ cell tree d. tt) (λ token letters matches. tt) kinds arguments from to us fit k)

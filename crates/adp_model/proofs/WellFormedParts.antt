@@ -1,5 +1,5 @@
 -- What a well-formed grammar keeps of its parts.
-use Rattle.std.proofs.Common.{◌≡◌, ℕ, zero, suc, ◌<◌, ◌≤◌, Bool, true, false, ◌&&◌, nat_le, nat_lt, ◌==◌, IsTrue, Some, List, [], ◌∷◌, length, slice_index_or, refl, subst, arith, ltb-true, leb-true, eqb-true}
+use Rattle.std.proofs.Common.{Option, None, IfSome, ◌≡◌, ℕ, zero, suc, ◌<◌, ◌≤◌, Bool, true, false, ◌&&◌, nat_le, nat_lt, ◌==◌, IsTrue, Some, List, [], ◌∷◌, length, slice_index_or, refl, sym, subst, arith, ltb-true, leb-true, eqb-true}
 use Rattle.std.specs.List.{list_all, zip, Contains}
 use Rattle.adp_model.specs.declared.grammar.Kind.{Kind}
 use Rattle.adp_model.specs.declared.grammar.Kind.TheVariants.{Score, Token}
@@ -7,10 +7,12 @@ use Rattle.adp_model.specs.declared.grammar.Arg.{Arg}
 use Rattle.adp_model.specs.declared.grammar.Arg.TheVariants.{Rule, Run}
 use Rattle.adp_model.specs.declared.grammar.Sign.{Sign}
 use Rattle.adp_model.specs.declared.grammar.Alt.{Alt}
+use Rattle.adp_model.specs.declared.grammar.Size.{Size}
 use Rattle.adp_model.specs.declared.grammar.Rule as rules
 use Rattle.adp_model.specs.declared.grammar.Grammar.{Grammar}
+use Rattle.adp_model.specs.Lengths.{low_of, high_of}
 use Rattle.adp_model.specs.Parts.{sign_at, rule_at, alternatives_of, alternative_at, arguments_of}
-use Rattle.adp_model.specs.WellFormed.{is_name, is_class, is_sign, is_algebra, is_high_bound, is_argument, is_alternative, is_rule, counts_fit, names_differ, parts_fit, is_well_formed}
+use Rattle.adp_model.specs.WellFormed.{is_name, is_class, is_sign, is_algebra, HasFittingBounds, is_high_bound, is_argument, is_size, is_alternative, is_rule, counts_fit, names_differ, parts_fit, is_well_formed}
 use Rattle.adp_model.proofs.Derived.{HasFewArguments}
 
 pub and_first : (a b : Bool) → (a && b) ≡ true → a ≡ true
@@ -55,7 +57,7 @@ alternatives-formed grammar h rule =
 
 arguments-formed : (grammar : Grammar) → IsTrue (is_well_formed grammar) → (alternative : Alt) → is_alternative grammar alternative ≡ true → length alternative.args ≤ 4
 arguments-formed grammar h alternative k =
-    let in_signs = nat_lt alternative.sign (length grammar.signs) in
+    let in_signs = is_size alternative.size && nat_lt alternative.sign (length grammar.signs) in
     let counted = length alternative.args == length (sign_at grammar alternative.sign).kinds in
     let same = eqb-true _ _ (and_second in_signs counted (and_first (in_signs && counted) (list_all (is_argument grammar) (zip (sign_at grammar alternative.sign).kinds alternative.args)) k)) in
     omega (arith, kinds-few grammar h alternative.sign)
@@ -63,7 +65,7 @@ arguments-formed grammar h alternative k =
 -- a well-formed grammar's alternatives have at most four arguments
 pub HasFewArguments-formed : (grammar : Grammar) → IsTrue (is_well_formed grammar) → HasFewArguments grammar
 HasFewArguments-formed grammar h rule alternative =
-    kept_at (is_alternative grammar) (λ a. length a.args ≤ 4) (arguments-formed grammar h) (alternatives_of grammar rule) alternative (record { sign = 0; args = [] }) (alternatives-formed grammar h rule) (omega arith)
+    kept_at (is_alternative grammar) (λ a. length a.args ≤ 4) (arguments-formed grammar h) (alternatives_of grammar rule) alternative (record { sign = 0; args = []; size = None }) (alternatives-formed grammar h rule) (omega arith)
 
 -- ---- numbers
 
@@ -89,7 +91,7 @@ fitting grammar (kind ∷ kinds) (argument ∷ arguments) (suc k) default e h l 
 -- an argument of an alternative of a well-formed grammar fits a kind
 fitting_argument : (grammar : Grammar) (alternative : Alt) (argument : Arg) → is_alternative grammar alternative ≡ true → Contains alternative.args argument → (kind : Kind) × (is_argument grammar (kind, argument) ≡ true)
 fitting_argument grammar alternative argument k contained =
-    let in_signs = nat_lt alternative.sign (length grammar.signs) in
+    let in_signs = is_size alternative.size && nat_lt alternative.sign (length grammar.signs) in
     let counted = length alternative.args == length (sign_at grammar alternative.sign).kinds in
     let fit = list_all (is_argument grammar) (zip (sign_at grammar alternative.sign).kinds alternative.args) in
     let same = eqb-true _ _ (and_second in_signs counted (and_first (in_signs && counted) fit k)) in
@@ -111,14 +113,36 @@ pub named-formed : (grammar : Grammar) → IsTrue (is_well_formed grammar) → (
 named-formed grammar h rule alternative other =
     kept_at (is_alternative grammar) (λ a. Contains a.args (Rule other) → other < length grammar.rules)
     (λ (a : Alt) k contained. let it = fitting_argument grammar a (Rule other) k contained in rule_in_range grammar it.0 other it.1)
-    (alternatives_of grammar rule) alternative (record { sign = 0; args = [] }) (alternatives-formed grammar h rule) (λ contained. absurd (omega (arith, contained.1)))
+    (alternatives_of grammar rule) alternative (record { sign = 0; args = []; size = None }) (alternatives-formed grammar h rule) (λ contained. absurd (omega (arith, contained.1)))
 
 -- a run's low bound is at most its high bound
 pub runs-formed : (grammar : Grammar) → IsTrue (is_well_formed grammar) → (rule alternative class low high : ℕ) → Contains (arguments_of grammar rule alternative) (Run class low (Some high)) → low ≤ high
 runs-formed grammar h rule alternative class low high =
     kept_at (is_alternative grammar) (λ a. Contains a.args (Run class low (Some high)) → low ≤ high)
     (λ (a : Alt) k contained. let it = fitting_argument grammar a (Run class low (Some high)) k contained in run_in_order grammar it.0 class low high it.1)
-    (alternatives_of grammar rule) alternative (record { sign = 0; args = [] }) (alternatives-formed grammar h rule) (λ contained. absurd (omega (arith, contained.1)))
+    (alternatives_of grammar rule) alternative (record { sign = 0; args = []; size = None }) (alternatives-formed grammar h rule) (λ contained. absurd (omega (arith, contained.1)))
+
+bounds-fit : (alternative : Alt) (size : Option Size) → alternative.size ≡ size → is_size size ≡ true → HasFittingBounds alternative
+bounds-fit alternative None is h = subst (λ (s : Option Size). (low_of s ≤ 1000000) × IfSome (high_of s) (λ high. (low_of s ≤ high) × (high ≤ 1000000))) (sym is) (omega arith, tt)
+bounds-fit alternative (Some size) is h =
+    let low = leb-true size.low 1000000 (and_first (nat_le size.low 1000000) (is_high_bound size.low size.high) h) in
+    let high = high_fits size.low size.high (and_second (nat_le size.low 1000000) (is_high_bound size.low size.high) h) in
+    subst (λ (s : Option Size). (low_of s ≤ 1000000) × IfSome (high_of s) (λ high. (low_of s ≤ high) × (high ≤ 1000000))) (sym is) (low, high)
+  where
+    high_fits : (low : ℕ) (high : Option ℕ) → is_high_bound low high ≡ true → IfSome high (λ most. (low ≤ most) × (most ≤ 1000000))
+    high_fits low None h = tt
+    high_fits low (Some most) h = (leb-true _ _ (and_first (nat_le low most) (nat_le most 1000000) h), leb-true _ _ (and_second (nat_le low most) (nat_le most 1000000) h))
+
+-- the bounds of an alternative's size are in order
+pub bounds-formed : (grammar : Grammar) → IsTrue (is_well_formed grammar) → (rule alternative : ℕ) → HasFittingBounds (alternative_at grammar rule alternative)
+bounds-formed grammar h rule alternative =
+    kept_at (is_alternative grammar) HasFittingBounds
+    (λ (a : Alt) k.
+    let in_signs = is_size a.size && nat_lt a.sign (length grammar.signs) in
+    let counted = length a.args == length (sign_at grammar a.sign).kinds in
+    let fit = list_all (is_argument grammar) (zip (sign_at grammar a.sign).kinds a.args) in
+    bounds-fit a a.size refl (and_first (is_size a.size) (nat_lt a.sign (length grammar.signs)) (and_first in_signs counted (and_first (in_signs && counted) fit k))))
+    (alternatives_of grammar rule) alternative (record { sign = 0; args = []; size = None }) (alternatives-formed grammar h rule) (omega arith, tt)
 
 -- ---- signs of alternatives
 
@@ -136,18 +160,18 @@ pub record IsSigned (grammar : Grammar) (alternative : Alt) : Type 0 where
 
 IsSigned-formed : (grammar : Grammar) (alternative : Alt) → is_alternative grammar alternative ≡ true → IsSigned grammar alternative
 IsSigned-formed grammar alternative h =
-    let in_signs = nat_lt alternative.sign (length grammar.signs) in
+    let in_signs = is_size alternative.size && nat_lt alternative.sign (length grammar.signs) in
     let counted = length alternative.args == length (sign_at grammar alternative.sign).kinds in
     let fit = list_all (is_argument grammar) (zip (sign_at grammar alternative.sign).kinds alternative.args) in
     record {
-      known = ltb-true _ _ (and_first in_signs counted (and_first (in_signs && counted) fit h));
+      known = ltb-true _ _ (and_second (is_size alternative.size) (nat_lt alternative.sign (length grammar.signs)) (and_first in_signs counted (and_first (in_signs && counted) fit h)));
       count = eqb-true _ _ (and_second in_signs counted (and_first (in_signs && counted) fit h));
       fit = and_second (in_signs && counted) fit h;
     }
 
 pub IsSigned-at : (grammar : Grammar) → IsTrue (is_well_formed grammar) → (rule alternative : ℕ) → alternative < length (alternatives_of grammar rule) → IsSigned grammar (alternative_at grammar rule alternative)
 IsSigned-at grammar h rule alternative in_range =
-    IsSigned-formed grammar (alternative_at grammar rule alternative) (kept_in (is_alternative grammar) (alternatives_of grammar rule) alternative (record { sign = 0; args = [] }) (alternatives-formed grammar h rule) in_range)
+    IsSigned-formed grammar (alternative_at grammar rule alternative) (kept_in (is_alternative grammar) (alternatives_of grammar rule) alternative (record { sign = 0; args = []; size = None }) (alternatives-formed grammar h rule) in_range)
 
 -- a well-formed grammar's alternatives have at least one argument
 pub some_arguments-formed : (grammar : Grammar) → IsTrue (is_well_formed grammar) → (rule alternative : ℕ) → alternative < length (alternatives_of grammar rule) → 1 ≤ length (arguments_of grammar rule alternative)

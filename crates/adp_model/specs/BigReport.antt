@@ -1,11 +1,12 @@
 -- The word that is made from a seed and a size, the grammar that it is asked under, and what is reported of it.
-use Rattle.std.specs.Prelude.{◌≡◌, ℕ, zero, suc, ◌+◌, ◌*◌, ◌/◌, ◌%◌, ◌^◌, ℤ, pos, List, [], ◌∷◌, ◌++◌, codes, get_or}
+use Rattle.std.specs.Prelude.{None, ◌≡◌, ℕ, zero, suc, ◌+◌, ◌*◌, ◌/◌, ◌%◌, ◌^◌, ℤ, pos, List, [], ◌∷◌, ◌++◌, codes, get_or}
 use Rattle.std.specs.Fmt.{decimal, signed_decimal}
 use Rattle.adp_model.specs.declared.grammar.Alt.{Alt}
 use Rattle.adp_model.specs.declared.grammar.Arg.TheVariants.{Rule, Literal, Letter}
 use Rattle.adp_model.specs.declared.grammar.Goal.TheVariants.{Greatest}
 use Rattle.adp_model.specs.declared.grammar.Grammar.{Grammar}
 use Rattle.adp_model.specs.declared.grammar.Kind.TheVariants.{Score, Token}
+use Rattle.adp_model.specs.declared.grammar.Term.TheVariants.{Linear}
 use Rattle.adp_model.specs.PosedProblem.{PosedProblem, axiom_cell}
 use Rattle.adp_model.specs.Tree.{Tree}
 use Rattle.adp_model.specs.Scores.{score_of}
@@ -28,7 +29,7 @@ made_word state (suc size) = letter_of (next_state state) ∷ made_word (next_st
 
 -- an alternative with a pair: a letter, the rule, another letter, the rule
 abbrev pub paired : List ℕ → List ℕ → Alt
-paired first last = record { sign = 2; args = Literal first ∷ Rule 0 ∷ Literal last ∷ Rule 0 ∷ [] }
+paired first last = record { sign = 2; args = Literal first ∷ Rule 0 ∷ Literal last ∷ Rule 0 ∷ []; size = None }
 
 -- the grammar of pairs along a line, p with q and r with s, as many as there can be:
 --     class any = "pqrs" 0
@@ -53,14 +54,14 @@ pairs_grammar = record {
   algebras = record {
     name = codes "pairs";
     goal = Greatest;
-    terms = record { constant = pos 0; factors = pos 0 ∷ [] }
-        ∷ record { constant = pos 0; factors = pos 0 ∷ pos 1 ∷ [] }
-        ∷ record { constant = pos 1; factors = pos 0 ∷ pos 1 ∷ pos 0 ∷ pos 1 ∷ [] } ∷ [];
+    terms = Linear (record { constant = pos 0; factors = pos 0 ∷ [] })
+        ∷ Linear (record { constant = pos 0; factors = pos 0 ∷ pos 1 ∷ [] })
+        ∷ Linear (record { constant = pos 1; factors = pos 0 ∷ pos 1 ∷ pos 0 ∷ pos 1 ∷ [] }) ∷ [];
   } ∷ [];
   rules = record {
     name = codes "s";
-    alts = record { sign = 0; args = Literal [] ∷ [] }
-        ∷ record { sign = 1; args = Letter 0 ∷ Rule 0 ∷ [] }
+    alts = record { sign = 0; args = Literal [] ∷ []; size = None }
+        ∷ record { sign = 1; args = Letter 0 ∷ Rule 0 ∷ []; size = None }
         ∷ paired (codes "p") (codes "q")
         ∷ paired (codes "r") (codes "s") ∷ [];
   } ∷ [];

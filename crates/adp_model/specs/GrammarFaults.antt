@@ -1,11 +1,12 @@
 -- Faults of a grammar under the algebra of a name: what the checks refuse, the first kind that there is and its first
 -- rule or sign.
-use Rattle.std.specs.Prelude.{◌≡◌, ℕ, ◌<◌, List, length}
+use Rattle.std.specs.Prelude.{◌≡◌, ℕ, ◌<◌, Option, List, length}
 use Rattle.adp_model.specs.declared.fault.GrammarFault.{GrammarFault}
 use Rattle.adp_model.specs.declared.grammar.Grammar.{Grammar}
-use Rattle.adp_model.specs.Parts.{rule_at, algebra_at, sign_at, term_for}
-use Rattle.adp_model.specs.Terms.{IsMonotone}
+use Rattle.adp_model.specs.Parts.{rule_at, alternatives_of, alternative_at, algebra_at, sign_at}
+use Rattle.adp_model.specs.GrammarSigns.{HasMonotoneTerm}
 use Rattle.adp_model.specs.Lengths.{IsProductive}
+use Rattle.adp_model.specs.Sizes.{AreSizesOf, IsPossible}
 use Rattle.adp_model.specs.Loops.{IsOnLoop}
 
 -- the name of a rule
@@ -31,13 +32,20 @@ IsUnproductive grammar rule = IsProductive grammar rule → ⊥
 abbrev pub IsOffLoops : Grammar → ℕ → Type 0
 IsOffLoops grammar rule = IsOnLoop grammar rule → ⊥
 
--- the algebra's term for the sign is monotone
-abbrev pub HasMonotoneTerm : Grammar → ℕ → ℕ → Type 0
-HasMonotoneTerm grammar algebra sign = IsMonotone (term_for grammar algebra sign) (sign_at grammar sign).kinds
-
--- it is not
+-- the algebra's term for the sign is not monotone
 abbrev pub HasOtherTerm : Grammar → ℕ → ℕ → Type 0
 HasOtherTerm grammar algebra sign = HasMonotoneTerm grammar algebra sign → ⊥
+
+-- all alternatives of the rule are possible
+abbrev pub HasPossibleAlternatives : Grammar → ℕ → Type 0
+HasPossibleAlternatives grammar rule =
+    (least : List ℕ) (greatest : List (Option ℕ)) → AreSizesOf grammar least greatest → (alternative : ℕ)
+    → alternative < length (alternatives_of grammar rule)
+    → IsPossible least greatest (alternative_at grammar rule alternative)
+
+-- one of them is not
+abbrev pub HasImpossibleAlternative : Grammar → ℕ → Type 0
+HasImpossibleAlternative grammar rule = HasPossibleAlternatives grammar rule → ⊥
 
 -- the grammar has no fault under this algebra, which has the name
 pub record IsFaultless (grammar : Grammar) (name : List ℕ) (algebra : ℕ) : Type 0 where
@@ -45,6 +53,7 @@ pub record IsFaultless (grammar : Grammar) (name : List ℕ) (algebra : ℕ) : T
   pub productive : (rule : ℕ) → rule < length grammar.rules → IsProductive grammar rule
   pub no_loop : (rule : ℕ) → rule < length grammar.rules → IsOffLoops grammar rule
   pub monotone : (sign : ℕ) → sign < length grammar.signs → HasMonotoneTerm grammar algebra sign
+  pub possible : (rule : ℕ) → rule < length grammar.rules → HasPossibleAlternatives grammar rule
 
 -- the fault of the grammar under the algebra of this name
 pub data IsGrammarFault (grammar : Grammar) (name : List ℕ) : GrammarFault → Type 0 where
@@ -62,3 +71,9 @@ pub data IsGrammarFault (grammar : Grammar) (name : List ℕ) : GrammarFault →
       → ((rule : ℕ) → rule < length grammar.rules → IsOffLoops grammar rule)
       → IsFirstFaulty (HasOtherTerm grammar algebra) (HasMonotoneTerm grammar algebra) (length grammar.signs) sign
       → IsGrammarFault grammar name (record { kind = 4; name = (sign_at grammar sign).name })
+  Impossible : (algebra rule : ℕ) → IsNamed grammar name algebra
+      → ((other : ℕ) → other < length grammar.rules → IsProductive grammar other)
+      → ((other : ℕ) → other < length grammar.rules → IsOffLoops grammar other)
+      → ((sign : ℕ) → sign < length grammar.signs → HasMonotoneTerm grammar algebra sign)
+      → IsFirstFaulty (HasImpossibleAlternative grammar) (HasPossibleAlternatives grammar) (length grammar.rules) rule
+      → IsGrammarFault grammar name (record { kind = 5; name = rule_name grammar rule })

@@ -4,6 +4,8 @@ pub mod PosedProblem
 pub mod Parts
 pub mod Tokens
 pub mod Terms
+pub mod TermSigns
+pub mod GrammarSigns
 pub mod Tree
 pub mod Derivation
 pub mod Scores
@@ -27,6 +29,9 @@ pub mod WellFormed
 pub mod Checks
 pub mod Heights
 pub mod ProblemFields
+pub mod TermForms
 pub mod GrammarFaults
 pub mod LimitFaults
 pub mod SplitArguments
+pub mod WideForm
+pub mod WideTerms

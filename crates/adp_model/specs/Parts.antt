@@ -1,8 +1,9 @@
 -- The parts of a grammar by their numbers. Past the end of a list stands a part that has nothing.
-use Rattle.std.specs.Prelude.{ℕ, List, [], pos, ℤ, slice_index_or}
+use Rattle.std.specs.Prelude.{None, ℕ, List, [], pos, ℤ, slice_index_or}
 use Rattle.adp_model.specs.declared.grammar.Class.{Class}
 use Rattle.adp_model.specs.declared.grammar.Sign.{Sign}
-use Rattle.adp_model.specs.declared.grammar.Linear.{Linear}
+use Rattle.adp_model.specs.declared.grammar.Term.{Term}
+use Rattle.adp_model.specs.declared.grammar.Term.TheVariants.{Linear}
 use Rattle.adp_model.specs.declared.grammar.Goal.TheVariants.{Least}
 use Rattle.adp_model.specs.declared.grammar.Algebra.{Algebra}
 use Rattle.adp_model.specs.declared.grammar.Arg.{Arg}
@@ -34,7 +35,7 @@ alternatives_of grammar rule = (rule_at grammar rule).alts
 -- an alternative of a rule
 abbrev pub alternative_at : Grammar → ℕ → ℕ → Alt
 alternative_at grammar rule alternative =
-    slice_index_or (alternatives_of grammar rule) alternative (record { sign = 0; args = [] })
+    slice_index_or (alternatives_of grammar rule) alternative (record { sign = 0; args = []; size = None })
 
 -- the arguments of an alternative
 abbrev pub arguments_of : Grammar → ℕ → ℕ → List Arg
@@ -45,12 +46,12 @@ abbrev pub algebra_at : Grammar → ℕ → Algebra
 algebra_at grammar algebra = slice_index_or grammar.algebras algebra (record { name = []; goal = Least; terms = [] })
 
 -- an algebra's term for a sign
-abbrev pub term_for : Grammar → ℕ → ℕ → Linear
+abbrev pub term_for : Grammar → ℕ → ℕ → Term
 term_for grammar algebra sign =
-    slice_index_or (algebra_at grammar algebra).terms sign (record { constant = pos 0; factors = [] })
+    slice_index_or (algebra_at grammar algebra).terms sign (Linear (record { constant = pos 0; factors = [] }))
 
 -- an algebra's term for the sign of an alternative
-abbrev pub term_at : Grammar → ℕ → ℕ → ℕ → Linear
+abbrev pub term_at : Grammar → ℕ → ℕ → ℕ → Term
 term_at grammar algebra rule alternative = term_for grammar algebra (alternative_at grammar rule alternative).sign
 
 -- the algebra of a problem
@@ -58,5 +59,5 @@ abbrev pub algebra_of : PosedProblem → Algebra
 algebra_of p = algebra_at p.grammar p.algebra
 
 -- the algebra's term for the sign of an alternative
-abbrev pub term_of : PosedProblem → ℕ → ℕ → Linear
+abbrev pub term_of : PosedProblem → ℕ → ℕ → Term
 term_of p rule alternative = term_at p.grammar p.algebra rule alternative

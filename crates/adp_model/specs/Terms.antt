@@ -1,8 +1,14 @@
--- Terms of an algebra: their value at the values of a sign's arguments, their magnitude, and their signs.
-use Rattle.std.specs.Prelude.{ℕ, ◌+◌, ◌*◌, ◌≡◌, ℤ, pos, ◌+ℤ◌, ◌*ℤ◌, ◌≤ℤ◌, ◌<ℤ◌, ◌⊎◌, nat_abs, List, [], ◌∷◌}
+-- Terms of an algebra: their value at the values of a sign's arguments, their magnitude, and what it means that they keep
+-- the order of scores.
+use Rattle.std.specs.Prelude.{ℕ, ◌+◌, ◌*◌, ◌≡◌, max, ℤ, pos, ◌+ℤ◌, ◌-ℤ◌, ◌*ℤ◌, ◌≤ℤ◌, ◌<ℤ◌, ◌⊎◌, nat_abs, List, [], ◌∷◌, ◌++◌, slice_index, slice_index_or}
+use Rattle.std.specs.Int.{int_max, int_min}
 use Rattle.adp_model.specs.declared.grammar.Kind.{Kind}
 use Rattle.adp_model.specs.declared.grammar.Kind.TheVariants.{Score, Token}
-use Rattle.adp_model.specs.declared.grammar.Linear.{Linear}
+use Rattle.adp_model.specs.declared.grammar.Linear as linear
+use Rattle.adp_model.specs.WideForm as wide
+use Rattle.adp_model.specs.WideForm.{Number, Value, Sum, Difference, Product, Greater, Lesser}
+use Rattle.adp_model.specs.declared.grammar.Term.{Term}
+use Rattle.adp_model.specs.declared.grammar.Term.TheVariants.{Linear, Wide}
 
 -- each factor times its value, added up
 abbrev pub weighted_sum : List ℤ → List ℤ → ℤ
@@ -10,9 +16,24 @@ weighted_sum [] values = pos 0
 weighted_sum (factor ∷ factors) [] = pos 0
 weighted_sum (factor ∷ factors) (value ∷ values) = (factor *ℤ value) +ℤ weighted_sum factors values
 
+-- the value of a linear term, where its arguments have these values
+abbrev pub linear_value : linear.Linear → List ℤ → ℤ
+linear_value term values = term.constant +ℤ weighted_sum term.factors values
+
+-- the value of a wide term, by its form
+abbrev pub wide_value : wide.WideForm → List ℤ → ℤ
+wide_value (Number number) values = number
+wide_value (Value place) values = slice_index_or values place (pos 0)
+wide_value (Sum left right) values = wide_value left values +ℤ wide_value right values
+wide_value (Difference left right) values = wide_value left values -ℤ wide_value right values
+wide_value (Product left right) values = wide_value left values *ℤ wide_value right values
+wide_value (Greater left right) values = int_max (wide_value left values) (wide_value right values)
+wide_value (Lesser left right) values = int_min (wide_value left values) (wide_value right values)
+
 -- the value of a term, where its arguments have these values
-abbrev pub term_value : Linear → List ℤ → ℤ
-term_value term values = term.constant +ℤ weighted_sum term.factors values
+abbrev pub term_value : Term → List ℤ → ℤ
+term_value (Linear term) values = linear_value term values
+term_value (Wide term) values = wide_value term values
 
 -- each factor's absolute value times its number, added up
 abbrev pub weighted_total : List ℤ → List ℕ → ℕ
@@ -20,24 +41,36 @@ weighted_total [] numbers = 0
 weighted_total (factor ∷ factors) [] = 0
 weighted_total (factor ∷ factors) (number ∷ numbers) = nat_abs factor * number + weighted_total factors numbers
 
+-- how great a linear term can become in absolute value, where its arguments are at most these numbers
+abbrev pub linear_magnitude : linear.Linear → List ℕ → ℕ
+linear_magnitude term numbers = nat_abs term.constant + weighted_total term.factors numbers
+
+-- how great a wide term can become, by its form; each side of a product counts as 1 at least, so that no part can become
+-- greater than the whole
+abbrev pub wide_magnitude : wide.WideForm → List ℕ → ℕ
+wide_magnitude (Number number) numbers = nat_abs number
+wide_magnitude (Value place) numbers = slice_index numbers place
+wide_magnitude (Sum left right) numbers = wide_magnitude left numbers + wide_magnitude right numbers
+wide_magnitude (Difference left right) numbers = wide_magnitude left numbers + wide_magnitude right numbers
+wide_magnitude (Product left right) numbers =
+    max 1 (wide_magnitude left numbers) * max 1 (wide_magnitude right numbers)
+wide_magnitude (Greater left right) numbers = max (wide_magnitude left numbers) (wide_magnitude right numbers)
+wide_magnitude (Lesser left right) numbers = max (wide_magnitude left numbers) (wide_magnitude right numbers)
+
 -- how great a term can become in absolute value, where its arguments are at most these numbers
-abbrev pub magnitude : Linear → List ℕ → ℕ
-magnitude term numbers = nat_abs term.constant + weighted_total term.factors numbers
+abbrev pub magnitude : Term → List ℕ → ℕ
+magnitude (Linear term) numbers = linear_magnitude term numbers
+magnitude (Wide term) numbers = wide_magnitude term numbers
 
--- each score argument has at least this factor; token arguments may have any
-abbrev pub ScoreFactorsFrom : ℤ → List ℤ → List Kind → Type 0
-ScoreFactorsFrom least [] kinds = Unit {0}
-ScoreFactorsFrom least (factor ∷ factors) [] = Unit {0}
-ScoreFactorsFrom least (factor ∷ factors) (Score ∷ kinds) = (least ≤ℤ factor) × ScoreFactorsFrom least factors kinds
-ScoreFactorsFrom least (factor ∷ factors) (Token ∷ kinds) = ScoreFactorsFrom least factors kinds
-
--- no score argument has a negative factor
-abbrev pub IsMonotone : Linear → List Kind → Type 0
-IsMonotone term kinds = ScoreFactorsFrom (pos 0) term.factors kinds
-
--- each score argument has at least the factor 1
-abbrev pub IsStrict : Linear → List Kind → Type 0
-IsStrict term kinds = ScoreFactorsFrom (pos 1) term.factors kinds
+-- the leaves of a wide term, its numbers and its values of arguments, from left to right
+abbrev pub leaves : wide.WideForm → List wide.WideForm
+leaves (Number number) = Number number ∷ []
+leaves (Value place) = Value place ∷ []
+leaves (Sum left right) = leaves left ++ leaves right
+leaves (Difference left right) = leaves left ++ leaves right
+leaves (Product left right) = leaves left ++ leaves right
+leaves (Greater left right) = leaves left ++ leaves right
+leaves (Lesser left right) = leaves left ++ leaves right
 
 -- of the values of a sign's arguments, each score is at most its counterpart, and each token's value is its counterpart
 abbrev pub AreAtMost : List Kind → List ℤ → List ℤ → Type 0
@@ -59,7 +92,7 @@ CanHaveAny kind value = Unit {0}
 
 -- greater scores give no lesser value, and so no worse scores give no worse value, whatever the goal; this is asked of
 -- the values that arguments can have
-abbrev pub KeepsOrder : (Kind → ℤ → Type 0) → Linear → List Kind → Type 0
+abbrev pub KeepsOrder : (Kind → ℤ → Type 0) → Term → List Kind → Type 0
 KeepsOrder CanHave term kinds =
     (values values' : List ℤ) → AreValues CanHave kinds values → AreValues CanHave kinds values'
     → AreAtMost kinds values values' → term_value term values ≤ℤ term_value term values'
@@ -72,7 +105,7 @@ SomeScoreIsLess (Token ∷ kinds) (value ∷ values) (value' ∷ values') = Some
 SomeScoreIsLess kinds values values' = ⊥
 
 -- greater scores, one of them greater in truth, give a greater value
-abbrev pub KeepsStrictOrder : (Kind → ℤ → Type 0) → Linear → List Kind → Type 0
+abbrev pub KeepsStrictOrder : (Kind → ℤ → Type 0) → Term → List Kind → Type 0
 KeepsStrictOrder CanHave term kinds =
     (values values' : List ℤ) → AreValues CanHave kinds values → AreValues CanHave kinds values'
     → AreAtMost kinds values values' → SomeScoreIsLess kinds values values'

@@ -5,6 +5,7 @@
 mod answers;
 mod cell;
 mod fault;
+mod formed_terms;
 mod grammar;
 mod job;
 pub mod laws;
@@ -17,7 +18,9 @@ mod well_formed;
 pub use answers::{Answers, axiom_answer};
 pub use cell::{Answer, Cell, Choice};
 pub use fault::{GrammarFault, LimitFault, TextFault};
-pub use grammar::{Algebra, Alt, Arg, Class, Goal, Grammar, Kind, Linear, Rule, Sign};
+pub use grammar::{
+    Algebra, Alt, Arg, Class, Goal, Grammar, Kind, Linear, Rule, Sign, Size, Term, Wide, WideTerm,
+};
 pub use job::Job;
 pub use output::{push_decimal, push_escaped, push_quoted, push_signed};
 pub use problem::{MOST_LETTERS, Problem};

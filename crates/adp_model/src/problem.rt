@@ -31,6 +31,10 @@ impl<'a> Model for Problem<'a> {
     ghost Value = { PosedProblem };
 
     ghost use Rattle.adp_model.specs.ProblemFields.{posed_problem, IsAdmitted};
+    ghost use Rattle.adp_model.specs.WideForm.{form_code};
+    ghost use Rattle.std.specs.Coded.{codes};
+
+    ghost coded = { Prim.hlevel (codes, form_code) };
 
     ghost view = { posed_problem };
 

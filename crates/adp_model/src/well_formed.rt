@@ -2,10 +2,11 @@ ghost use Rattle.std.specs.Prelude.{◌≡◌, ◌==◌, List, ℕ, map, nat_eq}
 ghost use Rattle.std.specs.List.{list_all, list_any, zip};
 ghost use lib.Pointwise.{pointwise};
 ghost use Rattle.adp_model.specs.Printable.{is_printable_byte};
-ghost use Rattle.adp_model.specs.WellFormed.{is_alternative, is_argument, is_class, is_entry, is_high_bound, is_in_range, is_name, is_rule, is_sign, is_term, is_word_byte};
+ghost use Rattle.adp_model.specs.WellFormed.{is_alternative, is_argument, is_class, is_entry, is_high_bound, is_in_range, is_name, is_rule, is_sign, is_size, is_term, is_word_byte};
 ghost use Rattle.adp_model.specs.WellFormed.{are_distinct, counts_fit, is_algebra, is_well_formed, letters_are_distinct, names_differ, parts_fit};
 
-use crate::grammar::{Algebra, Alt, Arg, Class, Grammar, Kind, Linear, Rule, Sign};
+use crate::formed_terms::{is_in_range, is_term};
+use crate::grammar::{Algebra, Alt, Arg, Class, Grammar, Kind, Rule, Sign, Size, Term};
 use crate::sequence::Sequence;
 use crate::text::{Text, is_printable, is_printable_byte};
 
@@ -115,18 +116,6 @@ fn is_letter_among(letter: u8, entries: &[(u8, i64)]) -> bool
     entries.iter().any(|entry| letter == entry.0)
 }
 
-fn is_in_range(number: i64) -> bool
-    ensures { result ≡ is_in_range number }
-{
-    number.unsigned_abs() < 1 << 62
-}
-
-fn are_in_range(numbers: &[i64]) -> bool
-    ensures { result ≡ list_all is_in_range numbers.now }
-{
-    numbers.iter().all(|number| is_in_range(*number))
-}
-
 fn is_entry(entry: (u8, i64)) -> bool
     ensures { result ≡ is_entry entry }
 {
@@ -156,16 +145,7 @@ fn is_sign(sign: &Sign) -> bool
     is_name(sign.name.bytes()) && 1 <= kinds && kinds <= 4
 }
 
-fn is_term(sign: &Sign, term: &Linear) -> bool
-    ensures { result ≡ is_term (sign.now, term.now) }
-{
-    let factors = term.factors.as_slice();
-    is_in_range(term.constant)
-        && are_in_range(factors)
-        && factors.len() == sign.kinds.as_slice().len()
-}
-
-fn are_terms(signs: &[Sign], terms: &[Linear]) -> bool
+fn are_terms(signs: &[Sign], terms: &[Term]) -> bool
     ensures { result ≡ list_all is_term (zip signs.now terms.now) }
 {
     signs
@@ -221,6 +201,15 @@ fn are_arguments(grammar: &Grammar, kinds: &[Kind], arguments: &[Arg]) -> bool
         .all(|(kind, argument)| is_argument(grammar, *kind, argument))
 }
 
+fn is_size(size: Option<Size>) -> bool
+    ensures { result ≡ is_size size }
+{
+    match size {
+        None => true,
+        Some(size) => size.low <= GREATEST_BOUND && is_high_bound(size.low, size.high),
+    }
+}
+
 fn is_alternative(grammar: &Grammar, alternative: &Alt) -> bool
     ensures { result ≡ is_alternative grammar.now alternative.now }
 {
@@ -229,7 +218,9 @@ fn is_alternative(grammar: &Grammar, alternative: &Alt) -> bool
     };
     let kinds = sign.kinds.as_slice();
     let arguments = alternative.args.as_slice();
-    arguments.len() == kinds.len() && are_arguments(grammar, kinds, arguments)
+    is_size(alternative.size)
+        && arguments.len() == kinds.len()
+        && are_arguments(grammar, kinds, arguments)
 }
 
 fn are_alternatives(grammar: &Grammar, alternatives: &[Alt]) -> bool

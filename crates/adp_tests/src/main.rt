@@ -11,7 +11,7 @@ use anyhow::{Context, Result};
 use std::fs;
 
 // The files of cases, in order.
-const FILES: [&str; 9] = [
+const FILES: [&str; 11] = [
     "first.cases",
     "commands.cases",
     "texts.cases",
@@ -21,6 +21,8 @@ const FILES: [&str; 9] = [
     "workers.cases",
     "replay.cases",
     "lex.cases",
+    "wide.cases",
+    "sizes.cases",
 ];
 
 fn main(rt: HostRuntime) -> Result<()> {

@@ -1,5 +1,3 @@
-pub mod Values
-pub mod ScoreFactors
 pub mod Numbers
 pub mod Parts
 pub mod PartLists
@@ -11,3 +9,7 @@ pub mod QuotedTexts
 pub mod LineTokens
 pub mod Declared
 pub mod Readings
+pub mod WideGrammar
+pub mod Firsts
+pub mod WideTrees
+pub mod SpelledWide

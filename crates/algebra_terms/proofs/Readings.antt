@@ -29,7 +29,7 @@ module _ (parts : List Part) (declared : List (List ℕ)) where
       → total None parts ≡ term.constant → factors_after [] declared parts ≡ term.factors → term_of_parts declared parts ≡ Ok term
   made term names numbers fit known constant factors = rw (names, numbers, fit, known, constant, factors) refl
 
-said_of_placed : (line : List ℕ) (tokens : List spans.Token)
+pub said_of_placed : (line : List ℕ) (tokens : List spans.Token)
     → map (λ (placed : PlacedToken). placed.token) (map (placed line) tokens) ≡ map (said line) tokens
 said_of_placed line [] = refl
 said_of_placed line (token ∷ tokens) = ap (λ (others : List Token). said line token ∷ others) (said_of_placed line tokens)

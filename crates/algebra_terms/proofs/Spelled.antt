@@ -8,7 +8,7 @@ use Rattle.std.specs.Str.Parse.{AllDigits}
 use Rattle.std.proofs.lemmas.Fmt.{decimal_is_IsNumeral}
 use Rattle.std.proofs.lemmas.Str.Parse.{digit_from_value}
 use Rattle.adp_model.specs.WellFormed.{is_word_byte, is_in_range}
-use Rattle.job_texts.specs.Spelling.{factors_text, term_text}
+use Rattle.job_texts.specs.Spelling.{factors_text, linear_text}
 use Rattle.adp_model.specs.declared.grammar.Linear.{Linear}
 use Rattle.job_texts.specs.LineTokens.{Token, Word, Plus, Minus, Times, before_tokens, begins_word, is_one_of, mark_of, tokens_of}
 use Rattle.job_texts.specs.TermText.{Part, begins_number, number_of, signed}
@@ -60,7 +60,7 @@ number_of_decimal number small =
 abbrev pub variable_word : ℕ → List ℕ
 variable_word number = 120 ∷ decimal number
 
-variable_is_word : (number : ℕ) → number < 2 ^ 64 → (list_all is_word_byte (variable_word number) ≡ true) × (begins_number (variable_word number) ≡ false)
+pub variable_is_word : (number : ℕ) → number < 2 ^ 64 → (list_all is_word_byte (variable_word number) ≡ true) × (begins_number (variable_word number) ≡ false)
 variable_is_word number small = ((decimal_is_word number small).in_word, refl)
 
 -- a factor's text is a space, its sign, a space, its number, `*` and its variable
@@ -130,7 +130,7 @@ module _
     (marks : (byte : ℕ) (mark : Token) (text : List ℕ) → mark_of byte ≡ Some mark → tokens_of (byte ∷ text) ≡ before_tokens mark (tokens_of text))
     (spaces : (byte : ℕ) (text : List ℕ) → is_one_of (codes " ") byte ≡ true → tokens_of (byte ∷ text) ≡ tokens_of text)
   where
-    word_then : (word rest : List ℕ) → 0 < length word → list_all is_word_byte word ≡ true → begins_word rest ≡ false
+    pub word_then : (word rest : List ℕ) → 0 < length word → list_all is_word_byte word ≡ true → begins_word rest ≡ false
         → tokens_of (word ++ rest) ≡ before_tokens (Word word) (tokens_of rest)
     word_then [] rest nonempty all ends = absurd (omega arith)
     word_then (first ∷ others) rest nonempty all ends = words first others rest all ends
@@ -177,7 +177,7 @@ module _
         (ends_factors (number + 1) factors) (tokens_of_factors (number + 1) factors range.1 (omega arith))
 
     pub parts_of_term : (term : Linear) → is_in_range term.constant ≡ true → list_all is_in_range term.factors ≡ true → length term.factors < 2 ^ 62
-        → term_parts (term_text term) ≡ Some (constant_part term.constant ∷ factor_parts 1 term.factors)
+        → term_parts (linear_text term) ≡ Some (constant_part term.constant ∷ factor_parts 1 term.factors)
     parts_of_term term fits factors_fit few = step term.constant refl fits
       where
         step : (constant : ℤ) → term.constant ≡ constant → is_in_range constant ≡ true
@@ -194,6 +194,7 @@ module _
             let word = decimal_is_word (suc n) (omega arith) in
             let found : tokens_of (45 ∷ (decimal (suc n) ++ factors_text 1 term.factors)) ≡ Ok (Minus ∷ Word (decimal (suc n)) ∷ factor_tokens 1 term.factors) =
             marks 45 Minus (decimal (suc n) ++ factors_text 1 term.factors) refl
-            ∙ ap (before_tokens Minus) {y = Ok (Word (decimal (suc n)) ∷ factor_tokens 1 term.factors)} (word_then (decimal (suc n)) (factors_text 1 term.factors) word.nonempty word.in_word (ends_factors 1 term.factors)
+            ∙ ap (before_tokens Minus) {y = Ok (Word (decimal (suc n)) ∷ factor_tokens 1 term.factors)}
+            (word_then (decimal (suc n)) (factors_text 1 term.factors) word.nonempty word.in_word (ends_factors 1 term.factors)
             ∙ rw (tokens_of_factors 1 term.factors factors_fit (omega arith)) refl) in
             rw found (plain_parts true (suc n) (factor_tokens 1 term.factors) (factor_parts 1 term.factors) below (no_times 1 term.factors) (parts_of_factors 1 term.factors factors_fit))

@@ -9,8 +9,8 @@ use lib.Pointwise.{pointwise}
 use Rattle.adp_model.specs.declared.grammar.Kind.{Kind}
 use Rattle.adp_model.specs.declared.grammar.Sign.{Sign}
 use Rattle.adp_model.specs.declared.grammar.Linear.{Linear}
-use Rattle.adp_model.specs.WellFormed.{is_word_byte, is_name, is_in_range, is_sign, is_term}
-use Rattle.job_texts.specs.Spelling.{variables, term_text}
+use Rattle.adp_model.specs.WellFormed.{is_word_byte, is_name, is_in_range, is_sign, is_linear}
+use Rattle.job_texts.specs.Spelling.{variables, linear_text}
 use Rattle.job_texts.specs.LineTokens.{Token, Word, before_tokens, begins_word, is_one_of, mark_of, tokens_of}
 use Rattle.job_texts.specs.TermText.{Part, total, are_names, are_numbers, totals_fit, is_among, are_declared, factor_after, factors_after}
 use Rattle.job_texts.specs.TermParts.{term_reading}
@@ -23,14 +23,14 @@ list_refl [] = refl
 list_refl (byte ∷ text) = let same : nat_eq byte byte ≡ true = grind arith in rw (same, list_refl text) refl
 
 -- two variables of different numbers differ
-other_variable : (number other : ℕ) → number < 2 ^ 64 → other < 2 ^ 64 → number ≢ other → pointwise nat_eq (variable_word number) (variable_word other) ≡ false
+pub other_variable : (number other : ℕ) → number < 2 ^ 64 → other < 2 ^ 64 → number ≢ other → pointwise nat_eq (variable_word number) (variable_word other) ≡ false
 other_variable number other small small' differ = step (pointwise nat_eq (decimal number) (decimal other)) refl
   where
     step : (b : Bool) → pointwise nat_eq (decimal number) (decimal other) ≡ b → pointwise nat_eq (decimal number) (decimal other) ≡ false
     step true same = absurd (differ (decimal_injective number other small small' (same_text (decimal number) (decimal other) (sym same))))
     step false h = h
 
-variable_is_name : (number : ℕ) → number < 2 ^ 64 → is_name (variable_word number) ≡ true
+pub variable_is_name : (number : ℕ) → number < 2 ^ 64 → is_name (variable_word number) ≡ true
 variable_is_name number small =
     let short : length (decimal number) ≤ 31 = omega (arith, length-decimal-le 20 number (lit< tt) (omega arith) small) in
     let short_test : nat_le (length (decimal number)) 31 ≡ true = grind (arith, short) in
@@ -116,7 +116,7 @@ among_others first text texts h = step (pointwise nat_eq first text) refl
     step true e = rw e refl
     step false e = rw (e, h) refl
 
-among_variables : (number : ℕ) (kinds : List Kind) (variable : ℕ) → number ≤ variable → variable < number + length kinds → is_among (variables number kinds) (variable_word variable) ≡ true
+pub among_variables : (number : ℕ) (kinds : List Kind) (variable : ℕ) → number ≤ variable → variable < number + length kinds → is_among (variables number kinds) (variable_word variable) ≡ true
 among_variables number [] variable from to = absurd (omega arith)
 among_variables number (kind ∷ kinds) variable from to =
     step (nat_eq number variable) refl (λ after. among_variables (number + 1) kinds variable after (omega arith))
@@ -162,7 +162,8 @@ factors_are number (factor ∷ factors) (kind ∷ kinds) earlier parts same smal
     rw (new number (omega arith) (omega arith)) (add_up number (omega arith) (omega arith) ∙ adds_first number factor factors small) in
     let others = factors_are (number + 1) factors kinds (earlier ++ variable_word number ∷ []) parts (omega (arith, same)) (omega arith)
     (add_up_others number factor factors parts small add_up)
-    (λ variable from to. among_none_more earlier (variable_word number) (variable_word variable) (new variable (omega arith) to) (other_variable number variable (omega arith) to (λ e. omega (arith, e)))) in
+    (λ variable from to. among_none_more earlier (variable_word number) (variable_word variable) (new variable (omega arith) to)
+    (other_variable number variable (omega arith) to (λ e. omega (arith, e)))) in
     ap (λ (first : ℤ). first ∷ factors_after (earlier ++ variable_word number ∷ []) (variables (number + 1) kinds) parts) first ∙ ap (λ (others : List ℤ). factor ∷ others) others
 
 -- words, marks and spaces before a text
@@ -174,7 +175,7 @@ module _
   where
     -- a term is read from its spelling
     pub term_is_read : (term : Linear) (kinds : List Kind) → is_in_range term.constant ≡ true → list_all is_in_range term.factors ≡ true → length kinds ≡ length term.factors → length kinds < 2 ^ 62
-        → term_reading (term_text term) (variables 1 kinds) ≡ Ok term
+        → term_reading (linear_text term) (variables 1 kinds) ≡ Ok term
     term_is_read term kinds fits factors_fit same few =
         let parts : List Part = constant_part term.constant ∷ factor_parts 1 term.factors in
         let add_up : AddUpFrom 1 term.factors parts = λ variable from to. +ℤ_idl (total (Some (variable_word variable)) (factor_parts 1 term.factors)) in
@@ -182,16 +183,16 @@ module _
         let names : are_names parts ≡ true = spelled_names 1 term.factors (omega (arith, same)) in
         let numbers : are_numbers parts ≡ true = spelled_numbers 1 term.factors in
         let fit : totals_fit parts ≡ true = rw (constant_is, fits) (all_fit 1 term.factors parts factors_fit (omega (arith, same)) add_up) in
-        let declared : are_declared (variables 1 kinds) parts ≡ true = all_declared 1 term.factors (variables 1 kinds) (λ variable from to. among_variables 1 kinds variable from (omega (arith, same))) in
+        let declared : are_declared (variables 1 kinds) parts ≡ true =
+        all_declared 1 term.factors (variables 1 kinds) (λ variable from to. among_variables 1 kinds variable from (omega (arith, same))) in
         let factors : factors_after [] (variables 1 kinds) parts ≡ term.factors = factors_are 1 term.factors kinds [] parts same (omega (arith, same)) add_up (λ variable from to. refl) in
         rw (parts_of_term words marks spaces term fits factors_fit (omega (arith, same)))
         (made parts (variables 1 kinds) term names numbers fit declared constant_is factors)
 
-    pub sign_term_is_read : (entry : Sign × Linear) → IsTrue (is_sign entry.0) → IsTrue (is_term entry) → term_reading (term_text entry.1) (variables 1 entry.0.kinds) ≡ Ok entry.1
-    sign_term_is_read entry sign_fits term_fits =
-        let kinds = entry.0.kinds in
-        let term = entry.1 in
-        let sign = both (is_name entry.0.name && nat_le 1 (length kinds)) (nat_le (length kinds) 4) sign_fits in
+    pub sign_term_is_read : (sign : Sign) (term : Linear) → IsTrue (is_sign sign) → IsTrue (is_linear (length sign.kinds) term) → term_reading (linear_text term) (variables 1 sign.kinds) ≡ Ok term
+    sign_term_is_read given term sign_fits term_fits =
+        let kinds = given.kinds in
+        let sign = both (is_name given.name && nat_le 1 (length kinds)) (nat_le (length kinds) 4) sign_fits in
         let parts = both (is_in_range term.constant && list_all is_in_range term.factors) (nat_eq (length term.factors) (length kinds)) term_fits in
         let numbers = both (is_in_range term.constant) (list_all is_in_range term.factors) parts.0 in
         let same : length kinds ≡ length term.factors = grind (arith, parts.1) in

@@ -1,7 +1,6 @@
 -- What parts add up to, one part after the other.
 use Rattle.std.proofs.Common.{◌≡◌, ℕ, ◌+◌, ◌*◌, ◌^◌, ◌<◌, ◌≤◌, ℤ, pos, ◌+ℤ◌, nat_abs, FitsSigned, to_z, of_z, Bool, true, false, ◌||◌, cond, Option, Some, None, unwrap_or, List, [], ◌∷◌, ◌++◌, length, take, drop, get_or, nat_eq, refl, sym, ◌∙◌, ap, arith}
 use Rattle.std.proofs.lemmas.Int.{ints, fits_signed_from_abs, to_z-of_z}
-use Rattle.algebra_terms.proofs.Values.{nat_abs-sum}
 use Rattle.std.proofs.lemmas.List.{take_more, drop_more, map_push}
 use Rattle.std.proofs.Math.IntN.{+ℤ_assoc, +ℤ_idr, +ℤ_idl}
 use Rattle.std.proofs.lemmas.List.Folds.{list_any-append}
@@ -102,7 +101,7 @@ small_more i variable old new value amount so_far changed value_is small name = 
 
 -- the sum fits 128 bits, since there are fewer than 2 ^ 64 parts
 pub sum_fits : (before amount : ℤ) (i : ℕ) → nat_abs before ≤ 2 ^ 63 * i → nat_abs amount ≤ 2 ^ 63 → i + 1 < 2 ^ 64 → FitsSigned w128 (before +ℤ amount)
-sum_fits before amount i small_before small_amount inside = fits_signed_from_abs w128 (before +ℤ amount) (omega (arith, nat_abs-sum before amount))
+sum_fits before amount i small_before small_amount inside = fits_signed_from_abs w128 (before +ℤ amount) (omega (arith, ints))
 
 -- the code's sum, which wraps nowhere
 pub sum_is : (before amount : ℤ) → FitsSigned w128 before → FitsSigned w128 amount → FitsSigned w128 (before +ℤ amount)

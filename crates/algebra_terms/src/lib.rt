@@ -2,21 +2,24 @@
 #![tactic(auto)]
 
 mod error;
-mod judge;
 pub mod laws;
 mod lexer;
 mod number;
 mod part;
+mod pile;
 mod read;
 mod symbols;
 mod total;
-mod value;
+mod wide_error;
+mod wide_reading;
+mod wide_steps;
 
 pub use error::{TermError, TokenError};
-pub use judge::{monotone, strict};
 pub use lexer::{Token, TokenKind, line_tokens, tokens};
 pub use number::number_of;
 pub use part::is_term;
 pub use read::read_term;
 pub use symbols::{Symbol, split_symbol, symbol_at};
-pub use value::eval;
+pub use term_values::{eval, monotone, not_negative, strict};
+pub use wide_error::WideError;
+pub use wide_reading::{is_wide_term, read_wide};

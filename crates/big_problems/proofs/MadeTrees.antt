@@ -1,5 +1,5 @@
 -- A tree for each word that is made: each letter is skipped.
-use Rattle.std.proofs.Common.{◌≡◌, ℕ, zero, suc, ◌+◌, ◌-◌, ◌<◌, List, [], ◌∷◌, length, get_or, take, drop, refl, subst, sym, ap, ◌∙◌, arith}
+use Rattle.std.proofs.Common.{◌≡◌, ℕ, zero, suc, ◌+◌, ◌-◌, ◌<◌, List, [], ◌∷◌, length, get_or, take, drop, refl, subst, sym, ap, ◌∙◌, arith, zero-le}
 use Rattle.std.proofs.lemmas.List.{drop_more}
 use Rattle.adp_model.specs.declared.cell.Cell.{Cell}
 use Rattle.adp_model.specs.declared.grammar.Arg.TheVariants.{Literal, Letter}
@@ -53,7 +53,7 @@ module _ (seed size : ℕ) where
       record {
         tree = Node 0 0 size size (Cons (Leaf size size) Nil);
         ends = refl;
-        derived = (refl, refl, refl, span, omega arith, (leaf, refl), tt);
+        derived = (refl, refl, refl, span, omega arith, (leaf, refl), (zero-le, tt));
       }
 
   skip_tree : (from : ℕ) → from < size → HasTree (suc from) → HasTree from
@@ -69,7 +69,7 @@ module _ (seed size : ℕ) where
       record {
         tree = Node 0 1 from size (Cons (Leaf from (suc from)) (Cons rest.tree Nil));
         ends = refl;
-        derived = (refl, refl, refl, span, omega arith, (leaf, (child, rest.ends)), tt);
+        derived = (refl, refl, refl, span, omega arith, (leaf, (child, rest.ends)), (zero-le, tt));
       }
 
   rest_tree : (left from : ℕ) → from + left ≡ size → HasTree from

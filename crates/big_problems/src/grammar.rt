@@ -1,9 +1,10 @@
-ghost use Rattle.std.specs.Prelude.{◌≡◌, IfOk, List};
+ghost use Rattle.std.specs.Prelude.{◌≡◌, IfOk, List, None};
+ghost use Rattle.adp_model.specs.declared.grammar.Term.TheVariants as terms;
 ghost use Rattle.adp_model.specs.BigReport.{pairs_grammar, paired};
 ghost use Rattle.adp_model.specs.Printable.{IsPrintable};
 
 use adp_model::{
-    Algebra, Alt, Arg, Class, Goal, Grammar, Kind, Linear, Rule, Sequence, Sign, Text,
+    Algebra, Alt, Arg, Class, Goal, Grammar, Kind, Linear, Rule, Sequence, Sign, Term, Text,
 };
 use std::alloc::{AllocError, Global};
 
@@ -93,23 +94,24 @@ fn sign(alloc: Global, name: &[u8], kinds: Vec<Kind>) -> Result<Sign, AllocError
     })
 }
 
-fn term(constant: i64, factors: Vec<i64>) -> Linear
-    ensures constant { result.constant ≡ constant }
-    ensures factors { result.factors ≡ factors.items }
+fn term(constant: i64, factors: Vec<i64>) -> Term
+    ensures { result ≡ terms.Linear (record { constant = constant; factors = factors.items }) }
 {
-    Linear {
+    Term::Linear(Linear {
         constant,
         factors: Sequence::new(factors),
-    }
+    })
 }
 
 fn alternative(sign: u32, args: Vec<Arg>) -> Alt
     ensures sign { result.sign ≡ sign }
     ensures args { result.args ≡ args.items }
+    ensures size { result.size ≡ None }
 {
     Alt {
         sign,
         args: Sequence::new(args),
+        size: None,
     }
 }
 

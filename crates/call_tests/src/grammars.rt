@@ -8,6 +8,7 @@ use crate::lines::{first_word, numbers, push_field, push_flag, push_no_call, pus
 use crate::pairs::push_pair;
 use adp_model::{Grammar, Job, Text, is_printable, is_well_formed};
 use cell_layouts::cell_bound;
+use grammar_check::laws::checked_sizes_are_the_sizes;
 use grammar_check::{AdmitError, Checked, admit, check, node_bound, score_bound};
 use grammar_text::{TextError, read_text, write_text};
 use std::alloc::{AllocError, Global};
@@ -52,7 +53,7 @@ pub(crate) fn push_grammar_call(
     rest: &str,
     out: &mut Vec<u8>,
 ) -> Result<(), AllocError> {
-    let Some(Job { grammar, words }) = job_of(alloc, text)? else {
+    let Some(Job { grammar, words, .. }) = job_of(alloc, text)? else {
         return push_text(out, " no job");
     };
     match checked_grammar(alloc, grammar)? {
@@ -141,6 +142,7 @@ fn push_cell_bounds(
     lengths: &[u64],
     out: &mut Vec<u8>,
 ) -> Result<(), AllocError> {
+    checked_sizes_are_the_sizes();
     for letters in lengths {
         match *letters {
             letters @ 0..=MOST_LETTERS => {

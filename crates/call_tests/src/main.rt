@@ -24,7 +24,7 @@ use calls::{JobText, push_line};
 use std::fs;
 
 // The jobs that calls name.
-const JOBS: [&str; 16] = [
+const JOBS: [&str; 17] = [
     "pairs.adp",
     "pq.adp",
     "empty.adp",
@@ -41,6 +41,7 @@ const JOBS: [&str; 16] = [
     "runs.adp",
     "readings.adp",
     "lengths.adp",
+    "wide.adp",
 ];
 
 fn main(rt: HostRuntime) -> Result<()> {

@@ -1,11 +1,12 @@
 -- The arguments of an alternative on a cell, as they are summed up.
-use Rattle.std.proofs.Common.{◌≡◌, ℕ, ◌<◌, ◌≤◌, ℤ, ◌+ℤ◌, nat_abs, Option, List, length, ap, arith}
+use Rattle.std.proofs.Common.{◌≡◌, ℕ, ◌-◌, ◌<◌, ◌≤◌, ℤ, ◌+ℤ◌, nat_abs, Option, List, length, ap, arith}
 use Rattle.std.specs.List.{AllByRecursion, Contains}
 use Rattle.adp_model.specs.declared.grammar.Arg.{Arg}
 use Rattle.adp_model.specs.declared.grammar.Arg.TheVariants.{Rule, Literal, Letter, Run}
 use Rattle.adp_model.specs.declared.cell.Cell.{Cell}
 use Rattle.adp_model.specs.PosedProblem.{PosedProblem, IsSpan}
-use Rattle.adp_model.specs.Parts.{algebra_of, alternatives_of, arguments_of, term_of}
+use Rattle.adp_model.specs.Lengths.{AllowsLength}
+use Rattle.adp_model.specs.Parts.{algebra_of, alternative_at, alternatives_of, arguments_of, term_of}
 use Rattle.adp_model.specs.Tokens.{letters_between, Matches, token_value}
 use Rattle.adp_model.specs.Terms.{weighted_sum, term_value}
 use Rattle.adp_model.specs.WellFormed.{IsKnown}
@@ -22,7 +23,7 @@ use Rattle.cell_answers.specs.Entries.{HasEntry}
 use Rattle.cell_answers.specs.Totals.{HasTotal, IsWithinBound, AreWeighted}
 use Rattle.cell_answers.proofs.Splitting.{child_of_demands}
 use Rattle.cell_answers.proofs.Totalling.{nat_abs-sum, values_kept, sum_low}
-use Rattle.cell_answers.proofs.Bounding.{value_low, scored_low, alternative_low}
+use Rattle.cell_answers.proofs.Bounding.{AreTermLaws, value_low, scored_low, alternative_low}
 use Rattle.cell_answers.proofs.Scoring.{turned_low, HasScoreBefore}
 use Rattle.cell_answers.proofs.FirstEnds.{AreLaid, AreSound}
 
@@ -58,18 +59,18 @@ module _ (p : PosedProblem) (admissible : IsAdmissible p) (bounded : TokensKeepB
       → length factors ≡ length (arguments_of p.grammar rule alternative) → AreWeighted p (arguments_of p.grammar rule alternative) factors
   weighted factors known few each = record { known = known; few = few; factors_each = each; tokens_low = tokens_low }
 
-module _ (p : PosedProblem) (admissible : IsAdmissible p) (cell : Cell) (alternative : ℕ) (constant : ℤ) (factors : List ℤ) (is : IsScoredBy p cell.rule alternative constant factors)
+module _ (laws : AreTermLaws) (p : PosedProblem) (admissible : IsAdmissible p) (cell : Cell) (alternative : ℕ) (constant : ℤ) (factors : List ℤ) (is : IsScoredBy p cell.rule alternative constant factors)
     (span : IsSpan p.word cell.from cell.to) (in_rules : cell.rule < length p.grammar.rules) (in_range : alternative < length (alternatives_of p.grammar cell.rule)) where
   -- the arguments of an alternative on a cell whose demanded children have entries
   pub alternative_laid : TokensKeepBound p → (table : Table ℤ) → AllByRecursion (IsKnown p.grammar) (arguments_of p.grammar cell.rule alternative)
-      → length (arguments_of p.grammar cell.rule alternative) ≤ 4
+      → length (arguments_of p.grammar cell.rule alternative) ≤ 4 → AllowsLength (alternative_at p.grammar cell.rule alternative) (cell.to - cell.from)
       → ((child : Cell) → IsDemandedChild p cell child → HasEntry table child)
       → AreLaid p table (arguments_of p.grammar cell.rule alternative) factors cell.from cell.to
-  alternative_laid bounded table known few scored = record {
+  alternative_laid bounded table known few allowed scored = record {
     weighted = weighted p admissible bounded cell.rule alternative factors known few is.each;
     span = span;
-    scored = λ child demands. scored child (child_of_demands p cell alternative child in_range few demands);
-    low = alternative_low p admissible cell alternative constant factors is span in_rules in_range;
+    scored = λ child demands. scored child (child_of_demands p cell alternative child in_range allowed few demands);
+    low = alternative_low laws p admissible cell alternative constant factors is span in_rules in_range;
   }
 
   -- the constant and a total are no greater than the greatest score, alone and together
@@ -77,17 +78,17 @@ module _ (p : PosedProblem) (admissible : IsAdmissible p) (cell : Cell) (alterna
       → nat_abs (constant +ℤ total) ≤ greatest_score
   with_constant_low sound total (values, have, sum_is) =
       let within = values_kept p (HasBestScore p) (IsWithinBound p) sound.within (arguments_of p.grammar cell.rule alternative) cell.from cell.to values have in
-      let low = scored_low p admissible cell alternative constant factors is span in_rules in_range values within in
+      let low = scored_low laws p admissible cell alternative constant factors is span in_rules in_range values within in
       let sum = sum_low factors values in
       let e : nat_abs total ≡ nat_abs (weighted_sum factors values) = ap nat_abs sum_is in
       let both = nat_abs-sum constant total in
       omega arith
 
 -- the score of a split keeps the greatest score
-pub score_low : (p : PosedProblem) → IsAdmissible p → AreWithin p → (cell : Cell) (count : ℕ) (number : ℤ) → IsSpan p.word cell.from cell.to → cell.rule < length p.grammar.rules → count ≤ length (alternatives_of p.grammar cell.rule)
+pub score_low : AreTermLaws → (p : PosedProblem) → IsAdmissible p → AreWithin p → (cell : Cell) (count : ℕ) (number : ℤ) → IsSpan p.word cell.from cell.to → cell.rule < length p.grammar.rules → count ≤ length (alternatives_of p.grammar cell.rule)
     → HasScoreBefore p cell count number → nat_abs number ≤ greatest_score
-score_low p admissible within cell count number span in_rules l (alternative, before, (values, have, is)) =
-    let low = value_low p admissible cell alternative values span in_rules (omega (arith, before, l))
+score_low laws p admissible within cell count number span in_rules l (alternative, before, (allowed, (values, have, is))) =
+    let low = value_low laws p admissible cell alternative values span in_rules (omega (arith, before, l))
     (values_kept p (HasBestScore p) (IsWithinBound p) within (arguments_of p.grammar cell.rule alternative) cell.from cell.to values have) in
     let same = ap nat_abs is in
     let value = turned_low (algebra_of p).goal (term_value (term_of p cell.rule alternative) values) in

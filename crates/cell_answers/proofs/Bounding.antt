@@ -1,19 +1,18 @@
 -- How great the values of laid arguments and their totals become.
-use Rattle.std.proofs.Common.{◌≡◌, ℕ, ◌+◌, ◌-◌, ◌*◌, ◌<◌, ◌≤◌, ◌⊎◌, ℤ, ◌+ℤ◌, nat_abs, Option, Some, None, List, [], ◌∷◌, length, map, sum, refl, sym, ap, subst, ◌∙◌, inl, inr, arith}
+use Rattle.std.proofs.Common.{◌≡◌, ℕ, zero, suc, ◌+◌, ◌-◌, ◌*◌, ◌<◌, ◌≤◌, ◌⊎◌, ℤ, ◌+ℤ◌, nat_abs, Option, Some, None, List, [], ◌∷◌, length, map, sum, slice_index, refl, sym, ap, subst, ◌∙◌, inl, inr, arith}
 use Rattle.std.specs.Prelude.{◌==◌}
 use Rattle.std.proofs.lemmas.Bool.{cases_Bool}
 use Rattle.std.proofs.lemmas.Int.{ints}
 use Rattle.std.proofs.lemmas.List.{length-map, length-take, length-drop}
 use Rattle.std.proofs.lemmas.List.Sums.{sum_by-cons}
-use Rattle.std.proofs.Math.Nat.{mul-le-mul_left}
 use Rattle.adp_model.specs.declared.grammar.Arg.{Arg}
 use Rattle.adp_model.specs.declared.grammar.Arg.TheVariants.{Rule, Literal, Letter, Run}
-use Rattle.adp_model.specs.declared.grammar.Linear.{Linear}
+use Rattle.adp_model.specs.declared.grammar.Term.{Term}
 use Rattle.adp_model.specs.declared.cell.Cell.{Cell}
 use Rattle.adp_model.specs.PosedProblem.{PosedProblem, IsSpan}
 use Rattle.adp_model.specs.Parts.{letters_of, alternatives_of, arguments_of, term_of}
 use Rattle.adp_model.specs.Tokens.{letters_between, weight_of, total_weight}
-use Rattle.adp_model.specs.Terms.{weighted_sum, weighted_total, magnitude, term_value}
+use Rattle.adp_model.specs.Terms.{weighted_total, magnitude, term_value}
 use Rattle.adp_model.specs.Lengths.{AdmitsLength}
 use Rattle.adp_model.specs.Splits.{FitsSpan}
 use Rattle.adp_model.specs.FirstSplit.{IsValue}
@@ -23,11 +22,11 @@ use Rattle.adp_model.specs.Scores.{score_of}
 use Rattle.adp_model.specs.Bellman.{HasBestScore}
 use Rattle.adp_model.specs.Checks.{IsChecked}
 use Rattle.adp_model.specs.ProblemFields.{most_letters, greatest_score, IsAdmissible}
-use Rattle.adp_model.specs.Bounds.{IsInRange, AreInRange, greatest_weight, argument_bounds, IsGreatest, IsMagnitude, AreScoreBounds, IsRuleBound, IsTokenBound}
+use Rattle.adp_model.specs.Bounds.{IsInRange, AreInRange, greatest_weight, argument_bounds, IsGreatest, IsMagnitude, AreScoreBounds, IsRuleBound, IsTokenBound, IsScoreBound}
 use Rattle.viable_splits.specs.Placing.{on_span}
 use Rattle.split_lines.specs.Kept.{IsScoredBy}
 use Rattle.cell_answers.specs.Totals.{HaveValues, IsWithinBound, AreLow}
-use Rattle.cell_answers.proofs.Totalling.{nat_abs-sum, sum_low, values_length}
+use Rattle.cell_answers.proofs.Totalling.{nat_abs-sum, values_length}
 
 -- ---- the weights of letters
 
@@ -111,19 +110,15 @@ module _ (p : PosedProblem) (bound : ℕ → ℕ → ℕ) (are : AreScoreBounds 
     in_order : from ≤ to
     fit : AreInRange p.grammar arguments lengths
     sum_is : sum lengths ≡ to - from
-    low : (factors : List ℤ) → weighted_total factors (map nat_abs values) ≤ weighted_total factors (argument_bounds p.grammar bound arguments lengths)
+    each : length (map nat_abs values) ≡ length (argument_bounds p.grammar bound arguments lengths)
+    low : (place : ℕ) → slice_index (map nat_abs values) place ≤ slice_index (argument_bounds p.grammar bound arguments lengths) place
 
-  nothing_low : (factors : List ℤ) → weighted_total factors [] ≤ 0
-  nothing_low [] = omega arith
-  nothing_low (factor ∷ factors) = omega arith
-
-  more_low : (number more : ℕ) (values bounds : List ℕ) → number ≤ more → ((factors : List ℤ) → weighted_total factors values ≤ weighted_total factors bounds) → (factors : List ℤ) → weighted_total factors (number ∷ values) ≤ weighted_total factors (more ∷ bounds)
-  more_low number more values bounds first others [] = omega arith
-  more_low number more values bounds first others (factor ∷ factors) =
-      omega (arith, mul-le-mul_left (nat_abs factor) first, others factors)
+  more_low : (number more : ℕ) (values bounds : List ℕ) → number ≤ more → ((place : ℕ) → slice_index values place ≤ slice_index bounds place) → (place : ℕ) → slice_index (number ∷ values) place ≤ slice_index (more ∷ bounds) place
+  more_low number more values bounds first others zero = first
+  more_low number more values bounds first others (suc place) = others place
 
   lengths_of : (arguments : List Arg) (from to : ℕ) (values : List ℤ) → HaveValues p (IsWithinBound p) arguments from to values → HasLengths arguments from to values
-  lengths_of [] from to [] have = record { lengths = []; in_order = omega arith; fit = tt; sum_is = omega arith; low = λ factors. omega (arith, nothing_low factors) }
+  lengths_of [] from to [] have = record { lengths = []; in_order = omega arith; fit = tt; sum_is = omega arith; each = refl; low = λ place. omega arith }
   lengths_of [] from to (value ∷ values) have = absurd have
   lengths_of (argument ∷ arguments) from to [] have = absurd have
   lengths_of (argument ∷ arguments) from to (value ∷ values) have =
@@ -135,52 +130,63 @@ module _ (p : PosedProblem) (bound : ℕ → ℕ → ℕ) (are : AreScoreBounds 
         in_order = omega (arith, have.1.0.in_order, others.in_order);
         fit = (first.in_range, others.fit);
         sum_is = omega (arith, have.1.0.in_order, others.in_order, others.sum_is, sum_by-cons (λ (n : ℕ). n) (end - from) others.lengths);
-        low = λ factors. subst (λ bounds. weighted_total factors (map nat_abs (value ∷ values)) ≤ weighted_total factors bounds) (sym (first.first arguments others.lengths))
-            (more_low (nat_abs value) first.number (map nat_abs values) (argument_bounds p.grammar bound arguments others.lengths) first.low others.low factors);
+        each = omega (arith, others.each, ap length (first.first arguments others.lengths));
+        low = subst (λ bounds. (place : ℕ) → slice_index (map nat_abs (value ∷ values)) place ≤ slice_index bounds place) (sym (first.first arguments others.lengths))
+            (more_low (nat_abs value) first.number (map nat_abs values) (argument_bounds p.grammar bound arguments others.lengths) first.low others.low);
       }
 
 within_greatest : (Holds : ℕ → Type 0) (number other : ℕ) → IsGreatest Holds number → Holds other → other ≤ number
 within_greatest Holds number other (inl (holds, greatest)) it = greatest other it
-within_greatest Holds number other (inr (zero, none)) it = absurd (none other it)
+within_greatest Holds number other (inr (nothing, none)) it = absurd (none other it)
 
--- the term of an alternative is low at all values of its arguments on a cell
-magnitude_low : (p : PosedProblem) → IsAdmissible p → (cell : Cell) (alternative : ℕ) (values : List ℤ) → IsSpan p.word cell.from cell.to → cell.rule < length p.grammar.rules
+-- what is so of all terms
+pub record AreTermLaws : Type 0 where
+  pub rises : (term : Term) (numbers others : List ℕ) → length numbers ≡ length others → ((place : ℕ) → slice_index numbers place ≤ slice_index others place) → magnitude term numbers ≤ magnitude term others
+  pub within : (term : Term) (values : List ℤ) → nat_abs (term_value term values) ≤ magnitude term (map nat_abs values)
+
+-- at all values of its arguments on a cell the term of an alternative is within the word's score bound
+pub magnitude_within : AreTermLaws → (p : PosedProblem) → (cell : Cell) (alternative : ℕ) (values : List ℤ) (number : ℕ) → IsScoreBound p.grammar p.algebra (length p.word) number → IsSpan p.word cell.from cell.to → cell.rule < length p.grammar.rules
     → alternative < length (alternatives_of p.grammar cell.rule)
-    → HaveValues p (IsWithinBound p) (arguments_of p.grammar cell.rule alternative) cell.from cell.to values → magnitude (term_of p cell.rule alternative) (map nat_abs values) ≤ greatest_score
-magnitude_low p admissible cell alternative values span known in_range have =
-    let scores = admissible.limits.scores in
-    let number = scores.0 in
-    let bound = scores.1.0 in
-    let are = scores.1.1 in
+    → HaveValues p (IsWithinBound p) (arguments_of p.grammar cell.rule alternative) cell.from cell.to values → magnitude (term_of p cell.rule alternative) (map nat_abs values) ≤ number
+magnitude_within laws p cell alternative values number scores span known in_range have =
+    let bound = scores.0 in
+    let are = scores.1 in
     let arguments : List Arg = arguments_of p.grammar cell.rule alternative in
-    let term : Linear = term_of p cell.rule alternative in
+    let term : Term = term_of p cell.rule alternative in
     let it = lengths_of p bound are arguments cell.from cell.to values have in
     let bounds = argument_bounds p.grammar bound arguments it.lengths in
     let len = cell.to - cell.from in
-    let low = it.low term.factors in
+    let low = laws.rises term (map nat_abs values) bounds it.each it.low in
     let of_rule = within_greatest (IsMagnitude p.grammar p.algebra bound cell.rule len) (bound cell.rule len) (magnitude term bounds) (are cell.rule len)
     (alternative, it.lengths, record { in_range = in_range; fit = it.fit; sum_is = it.sum_is }, refl) in
-    let of_word = within_greatest (λ other. IsRuleBound p.grammar bound (length p.word) other ⊎ IsTokenBound p.grammar (length p.word) other) number (bound cell.rule len) scores.1.2
+    let of_word = within_greatest (λ other. IsRuleBound p.grammar bound (length p.word) other ⊎ IsTokenBound p.grammar (length p.word) other) number (bound cell.rule len) scores.2
     (inl (cell.rule, len, known, omega (arith, span.in_word), refl)) in
-    omega (arith, low, of_rule, of_word, scores.2)
+    omega (arith, low, of_rule, of_word)
 
-pub value_low : (p : PosedProblem) → IsAdmissible p → (cell : Cell) (alternative : ℕ) (values : List ℤ) → IsSpan p.word cell.from cell.to → cell.rule < length p.grammar.rules
+-- and so it is low
+pub magnitude_low : AreTermLaws → (p : PosedProblem) → IsAdmissible p → (cell : Cell) (alternative : ℕ) (values : List ℤ) → IsSpan p.word cell.from cell.to → cell.rule < length p.grammar.rules
+    → alternative < length (alternatives_of p.grammar cell.rule)
+    → HaveValues p (IsWithinBound p) (arguments_of p.grammar cell.rule alternative) cell.from cell.to values → magnitude (term_of p cell.rule alternative) (map nat_abs values) ≤ greatest_score
+magnitude_low laws p admissible cell alternative values span known in_range have =
+    let scores = admissible.limits.scores in
+    let low = magnitude_within laws p cell alternative values scores.0 scores.1 span known in_range have in
+    omega (arith, low, scores.2)
+
+pub value_low : AreTermLaws → (p : PosedProblem) → IsAdmissible p → (cell : Cell) (alternative : ℕ) (values : List ℤ) → IsSpan p.word cell.from cell.to → cell.rule < length p.grammar.rules
     → alternative < length (alternatives_of p.grammar cell.rule)
     → HaveValues p (IsWithinBound p) (arguments_of p.grammar cell.rule alternative) cell.from cell.to values → nat_abs (term_value (term_of p cell.rule alternative) values) ≤ greatest_score
-value_low p admissible cell alternative values span known in_range have =
-    let term : Linear = term_of p cell.rule alternative in
-    let low = magnitude_low p admissible cell alternative values span known in_range have in
-    let sum = sum_low term.factors values in
-    let both = nat_abs-sum term.constant (weighted_sum term.factors values) in
-    omega arith
+value_low laws p admissible cell alternative values span known in_range have =
+    let low = magnitude_low laws p admissible cell alternative values span known in_range have in
+    let within = laws.within (term_of p cell.rule alternative) values in
+    omega (arith, low, within)
 
 -- so is what scores it
-module _ (p : PosedProblem) (admissible : IsAdmissible p) (cell : Cell) (alternative : ℕ) (constant : ℤ) (factors : List ℤ) (scored : IsScoredBy p cell.rule alternative constant factors)
+module _ (laws : AreTermLaws) (p : PosedProblem) (admissible : IsAdmissible p) (cell : Cell) (alternative : ℕ) (constant : ℤ) (factors : List ℤ) (scored : IsScoredBy p cell.rule alternative constant factors)
     (span : IsSpan p.word cell.from cell.to) (known : cell.rule < length p.grammar.rules) (in_range : alternative < length (alternatives_of p.grammar cell.rule)) where
   pub scored_low : (values : List ℤ) → HaveValues p (IsWithinBound p) (arguments_of p.grammar cell.rule alternative) cell.from cell.to values
       → nat_abs constant + weighted_total factors (map nat_abs values) ≤ greatest_score
   scored_low values have =
-      let low = magnitude_low p admissible cell alternative values span known in_range have in
+      let low = magnitude_low laws p admissible cell alternative values span known in_range have in
       let long = values_length p (IsWithinBound p) (arguments_of p.grammar cell.rule alternative) cell.from cell.to values have in
       let parts = scored.low (map nat_abs values) (length-map values nat_abs ∙ long) in
       omega (arith, low, parts)

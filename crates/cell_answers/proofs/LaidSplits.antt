@@ -1,21 +1,18 @@
 -- Splits of a cell by an alternative, as arguments laid by ends: the first ends with the greatest total are the cuts of
 -- the cell's answer.
-use Rattle.std.proofs.Common.{◌≡◌, ℕ, ◌+◌, ◌-◌, ◌<◌, ◌≤◌, ◌⊎◌, ℤ, ◌+ℤ◌, ◌*ℤ◌, ◌≤ℤ◌, ◌<ℤ◌, Some, List, [], ◌∷◌, ◌++◌, length, drop, refl, sym, ap, subst, ◌∙◌, inl, inr, arith}
+use Rattle.std.proofs.Common.{◌≡◌, ℕ, ◌+◌, ◌-◌, ◌<◌, ◌≤◌, ℤ, ◌+ℤ◌, ◌*ℤ◌, ◌≤ℤ◌, Some, List, [], ◌∷◌, ◌++◌, length, drop, refl, sym, ap, subst, ◌∙◌, inl, inr, arith}
 use Rattle.std.specs.List.{AllByRecursion}
 use Rattle.std.proofs.lemmas.Int.{ints}
 use Rattle.adp_model.specs.declared.grammar.Arg.{Arg}
 use Rattle.adp_model.specs.declared.grammar.Goal.{Goal}
-use Rattle.adp_model.specs.declared.grammar.Goal.TheVariants.{Least, Greatest}
 use Rattle.adp_model.specs.declared.cell.Answer.TheVariants.{Best}
 use Rattle.adp_model.specs.declared.cell.Cell.{Cell}
-use Rattle.adp_model.specs.declared.cell.Choice.{Choice}
 use Rattle.adp_model.specs.PosedProblem.{PosedProblem, IsSpan}
 use Rattle.adp_model.specs.Parts.{algebra_of, alternatives_of, arguments_of, term_of}
 use Rattle.adp_model.specs.Preference.{LexicographicallyLess}
-use Rattle.adp_model.specs.Scores.{IsBetter}
 use Rattle.adp_model.specs.Terms.{weighted_sum, term_value}
 use Rattle.adp_model.specs.Splits.{FitsSpan, IsViable, place, placed}
-use Rattle.adp_model.specs.FirstSplit.{AreArgumentValues, IsScoredSplit, SplitPrecedes}
+use Rattle.adp_model.specs.FirstSplit.{AreArgumentValues, IsScoredSplit}
 use Rattle.adp_model.specs.Answers.{IsAnswer}
 use Rattle.adp_model.specs.Bellman.{HasBestScore, Bellman}
 use Rattle.score_numbers.specs.Greatest.{IsGreatestOf}
@@ -24,12 +21,13 @@ use Rattle.cell_answers.specs.LaidBy.{HasTotalBy, AreFirstEnds}
 use Rattle.cell_answers.specs.CellBest.{IsCellBest}
 use Rattle.split_lines.specs.Kept.{IsScoredBy}
 use Rattle.cell_answers.specs.Totals.{HasTotal, HasTurnedScore, HaveValues}
+use Rattle.cell_answers.proofs.BestSplits.{answer_by_cuts, best_allowed, first_split, not_greater}
 use Rattle.cell_answers.proofs.LaidEnds.{weighted_none}
 use Rattle.cell_answers.proofs.Scoring.{turned_twice, scored_in, turned_in}
 use Rattle.cell_answers.proofs.Splitting.{length_ends, values_of_split}
 use Rattle.cell_answers.proofs.Totalling.{values_length}
 
-lex_more : (xs ys zs ws : List ℕ) → LexicographicallyLess xs ys → LexicographicallyLess (xs ++ zs) (ys ++ ws)
+pub lex_more : (xs ys zs ws : List ℕ) → LexicographicallyLess xs ys → LexicographicallyLess (xs ++ zs) (ys ++ ws)
 lex_more [] ys zs ws less = absurd less
 lex_more (x ∷ xs) [] zs ws less = absurd less
 lex_more (x ∷ xs) (y ∷ ys) zs ws (inl less) = inl less
@@ -80,11 +78,11 @@ module _ (p : PosedProblem) where
 
 -- ---- the last end
 
-abbrev last_of : ℕ → List ℕ → ℕ
+abbrev pub last_of : ℕ → List ℕ → ℕ
 last_of x [] = x
 last_of x (y ∷ ys) = last_of y ys
 
-last_all : (to x : ℕ) (xs : List ℕ) → AllByRecursion (λ end. end ≡ to) (x ∷ xs) → last_of x xs ≡ to
+pub last_all : (to x : ℕ) (xs : List ℕ) → AllByRecursion (λ end. end ≡ to) (x ∷ xs) → last_of x xs ≡ to
 last_all to x [] all = all.0
 last_all to x (y ∷ ys) all = last_all to y ys all.1
 
@@ -114,11 +112,6 @@ module _ (p : PosedProblem) (bellman : Bellman p) (cell : Cell) (span : IsSpan p
   abbrev Laid : ℤ → List ℕ → Type 0
   Laid total ends = HasTotalBy p (HasBestScore p) (arguments_of p.grammar cell.rule alternative) factors cell.from cell.to total ends
 
-  first_split : Scored best given.0 × ((score : ℤ) (other : Choice) → IsScoredSplit p (HasBestScore p) cell score other → SplitPrecedes goal score other best (record { alt = alternative; cuts = given.0 }) → ⊥)
-  first_split =
-      let it = bellman.only cell (Best best (record { alt = alternative; cuts = given.0 })) span given.1 in
-      (it.1, λ score other scored precedes. it.2 score other tt scored precedes)
-
   turned_value : (values : List ℤ) → HaveValues p (HasBestScore p) (arguments_of p.grammar cell.rule alternative) cell.from cell.to values
       → turned goal (term_value (term_of p cell.rule alternative) values) ≡ (constant +ℤ weighted_sum factors values)
   turned_value values have = is_scored.value values (values_length p (HasBestScore p) (arguments_of p.grammar cell.rule alternative) cell.from cell.to values have)
@@ -140,7 +133,7 @@ module _ (p : PosedProblem) (bellman : Bellman p) (cell : Cell) (span : IsSpan p
           let ends = cuts ++ cell.to ∷ [] in
           let viable : IsViable p cell alternative cuts = record {
             in_range = in_range;
-            allowed = tt;
+            allowed = best_allowed p bellman cell span some few alternative in_range best given;
             three = three;
             last = subst (λ n. AllByRecursion (λ boundary. boundary ≡ cell.to) (drop n ends)) fewer it.closed;
             fits = subst (λ them. AllByRecursion (FitsSpan p) (place them cell.from ends)) (sym e) it.fits;
@@ -174,52 +167,31 @@ module _ (p : PosedProblem) (bellman : Bellman p) (cell : Cell) (span : IsSpan p
           let total_is : weighted_sum factors scored.values ≡ total = omega (arith, ints) in
           subst (λ them. HasTotalBy p (HasBestScore p) them factors cell.from cell.to total ends) (sym e) (subst (λ t. HasTotalBy p (HasBestScore p) (argument ∷ arguments) factors cell.from cell.to t ends) total_is laid)
 
-  not_greater : (number : ℤ) → (IsBetter goal (turned goal number) best → ⊥) → number ≤ℤ turned goal best
-  not_greater number none = by goal number best none
-    where
-      order : (x y : ℤ) → (x <ℤ y) ⊎ (y ≤ℤ x)
-      order x y = grind (arith, ints)
-
-      by : (goal : Goal) (number best : ℤ) → (IsBetter goal (turned goal number) best → ⊥) → number ≤ℤ turned goal best
-      by Least number best none = elim (order (turned Least number) best) [ inl l ↦ absurd (none l) | inr m ↦ omega (arith, ints) ]
-      by Greatest number best none = elim (order best number) [ inl l ↦ absurd (none l) | inr m ↦ m ]
-
   -- what the best score leaves for the arguments is their greatest total
   pub total_greatest : (total : ℤ) → turned goal best ≡ (constant +ℤ total) → IsGreatestOf (HasTotal p (HasBestScore p) (arguments_of p.grammar cell.rule alternative) factors cell.from cell.to) (Some total)
   total_greatest total told =
-      let has = scored_in p bellman cell span some few best (record { alt = alternative; cuts = given.0 }) first_split.0 in
+      let scored = scored_in p bellman cell span some few best (record { alt = alternative; cuts = given.0 }) (first_split p bellman cell span some few alternative in_range best given).0 in
+      let has = scored.1 in
       let same : (constant +ℤ weighted_sum factors has.0) ≡ (constant +ℤ total) = sym (turned_value has.0 has.1) ∙ sym has.2 ∙ told in
       ((has.0, has.1, omega (arith, ints)), λ number it. below number it)
     where
       below : (number : ℤ) → HasTotal p (HasBestScore p) (arguments_of p.grammar cell.rule alternative) factors cell.from cell.to number → number ≤ℤ total
       below number (values, have, is) =
-          let score : HasTurnedScore p cell alternative (constant +ℤ number) = (values, have, ap (λ (t : ℤ). constant +ℤ t) is ∙ sym (turned_value values have)) in
+          let score : HasTurnedScore p cell alternative (constant +ℤ number) =
+          (best_allowed p bellman cell span some few alternative in_range best given, (values, have, ap (λ (t : ℤ). constant +ℤ t) is ∙ sym (turned_value values have))) in
           let split = turned_in p bellman cell span some few (constant +ℤ number) alternative in_range score in
-          let l = not_greater (constant +ℤ number) (λ better. first_split.1 (turned goal (constant +ℤ number)) (record { alt = alternative; cuts = split.0 }) split.1 (inl better)) in
+          let l = not_greater p bellman cell span some few alternative in_range best given (constant +ℤ number) (λ better. (first_split p bellman cell span some few alternative in_range best given).1 (turned goal (constant +ℤ number)) (record { alt = alternative; cuts = split.0 }) split.1 (inl better)) in
           omega (arith, ints)
 
   -- the first ends are the cuts of the answer
   pub answer_by : (total : ℤ) → turned goal best ≡ (constant +ℤ total) → (cuts : List ℕ) → length cuts ≡ 3 → AreFirstEnds p (arguments_of p.grammar cell.rule alternative) factors cell.from cell.to total (cuts ++ cell.to ∷ [])
       → IsAnswer p cell (Best best (record { alt = alternative; cuts = cuts }))
   answer_by total told cuts three first =
-      bellman.first cell (Best best (record { alt = alternative; cuts = cuts })) span (tt, scored, λ score other counts has precedes. none score other has precedes)
+      answer_by_cuts p bellman cell span some few alternative in_range best given cuts (subst (λ score. Scored score cuts) score_is (scored_by total cuts three first.have))
+      (λ others has less. first.first (others ++ cell.to ∷ []) (by_scored total best others told has) (lex_more others cuts (cell.to ∷ []) (cell.to ∷ []) less))
     where
       score_is : turned goal (constant +ℤ total) ≡ best
       score_is = ap (turned goal) (sym told) ∙ turned_twice goal best
-
-      scored : Scored best cuts
-      scored = subst (λ score. Scored score cuts) score_is (scored_by total cuts three first.have)
-
-      none : (score : ℤ) (other : Choice) → IsScoredSplit p (HasBestScore p) cell score other → SplitPrecedes goal score other best (record { alt = alternative; cuts = cuts }) → ⊥
-      none score other has (inl better) = first_split.1 score other has (inl better)
-      none score other has (inr (same, inl earlier)) = first_split.1 score other has (inr (same, inl earlier))
-      none score other has (inr (same, inr (alt_is, less))) =
-          let S : ℤ → ℕ → Type 0 = λ score alt. IsScoredSplit p (HasBestScore p) cell score (record { alt = alt; cuts = other.cuts }) in
-          let here : S best alternative = subst (λ alt. S best alt) alt_is (subst (λ score. S score other.alt) same has) in
-          first.first (other.cuts ++ cell.to ∷ []) (by_scored total best other.cuts told here) (lex_more other.cuts cuts (cell.to ∷ []) (cell.to ∷ []) less)
-
-  pub best_gives : HasTurnedScore p cell alternative (turned goal best)
-  best_gives = scored_in p bellman cell span some few best (record { alt = alternative; cuts = given.0 }) first_split.0
 
   -- the same of four ends, the last of which is that of the cell
   pub answer_by_ends : (total : ℤ) → turned goal best ≡ (constant +ℤ total) → (a b c d : ℕ) → AreFirstEnds p (arguments_of p.grammar cell.rule alternative) factors cell.from cell.to total (a ∷ b ∷ c ∷ d ∷ [])

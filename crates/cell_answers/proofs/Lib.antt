@@ -1,4 +1,5 @@
 pub mod Alternatives
+pub mod BestSplits
 pub mod Bounding
 pub mod Dividing
 pub mod FirstEnds
@@ -13,6 +14,7 @@ pub mod KeptScores
 pub mod LaidEnds
 pub mod LaidSplits
 pub mod LineTotals
+pub mod LineValues
 pub mod Lists
 pub mod OneEnds
 pub mod OpenedLines
@@ -24,6 +26,10 @@ pub mod Soundness
 pub mod Spaced
 pub mod Splitting
 pub mod Tokens
+pub mod TermAlternatives
+pub mod TermEnds
+pub mod TermScores
+pub mod TermSplits
 pub mod Told
 pub mod Totalling
 pub mod WholeLines

@@ -126,24 +126,32 @@ module _ (p : PosedProblem) (one : OneScore (HasBestScore p)) (width : Width) (s
       not_mark e (inl mark) = apart mark
       not_mark e (inr l) = let same = ap nat_abs e in let size = turned_low goal number in absurd (omega arith)
 
+  pub value_told : (number : ℤ) → slice_get numbers (position - first) ≡ Some number → (number ≡ width.mark → ⊥) → IsValue p (HasBestScore p) (on_span argument from to) (turned goal number)
+  value_told number there apart = value_is (turned goal number) (best_told number there apart)
+
   pub value_of : (number : ℤ) → slice_get numbers (position - first) ≡ Some number → (number ≡ width.mark → ⊥) → (value : ℤ) × IsValue p (HasBestScore p) (on_span argument from to) value × ((factor *ℤ value) ≡ (scale *ℤ number))
   value_of number there apart =
-      (turned goal number, value_is (turned goal number) (best_told number there apart), product_is number (turned goal number) refl)
+      (turned goal number, value_told number there apart, product_is number (turned goal number) refl)
 
-  pub number_of : (value : ℤ) → IsValue p (HasBestScore p) (on_span argument from to) value → (number : ℤ) × (slice_get numbers (position - first) ≡ Some number) × (number ≡ width.mark → ⊥) × ((factor *ℤ value) ≡ (scale *ℤ number))
-  number_of value is = go (proper (position - first) number_there.0 number_there.1)
+  pub number_told : (value : ℤ) → IsValue p (HasBestScore p) (on_span argument from to) value → (number : ℤ) × (slice_get numbers (position - first) ≡ Some number) × (number ≡ width.mark → ⊥) × (value ≡ turned goal number)
+  number_told value is = go (proper (position - first) number_there.0 number_there.1)
     where
       best : HasBestScore p (record { rule = scaled.rule; from = from; to = to }) value
       best = is_best value is
 
-      go : IsProper width number_there.0 → (number : ℤ) × (slice_get numbers (position - first) ≡ Some number) × (number ≡ width.mark → ⊥) × ((factor *ℤ value) ≡ (scale *ℤ number))
+      go : IsProper width number_there.0 → (number : ℤ) × (slice_get numbers (position - first) ≡ Some number) × (number ≡ width.mark → ⊥) × (value ≡ turned goal number)
       go (inl mark) =
           let none = entry_missing p (record { rule = scaled.rule; from = from; to = to }) entry_at.entry entry_at.is_entry (number_there.2 ∙ told_mark width goal number_there.0 mark) in
           absurd (none best.1.0 best.1.1.derived)
       go (inr l) =
           let apart = score_apart width spaced number_there.0 l in
           let same : value ≡ turned goal number_there.0 = one (record { rule = scaled.rule; from = from; to = to }) value (turned goal number_there.0) best (best_told number_there.0 number_there.1 apart) in
-          (number_there.0, number_there.1, apart, product_is number_there.0 value same)
+          (number_there.0, number_there.1, apart, same)
+
+  pub number_of : (value : ℤ) → IsValue p (HasBestScore p) (on_span argument from to) value → (number : ℤ) × (slice_get numbers (position - first) ≡ Some number) × (number ≡ width.mark → ⊥) × ((factor *ℤ value) ≡ (scale *ℤ number))
+  number_of value is =
+      let it = number_told value is in
+      (it.0, it.1, it.2, product_is it.0 value it.3)
 
 -- ---- both
 
@@ -183,13 +191,13 @@ module _ (p : PosedProblem) (one : OneScore (HasBestScore p)) (width : Width) (s
   abbrev at : Positions
   at = record { at = line.boundary.positions; first = line.row.first }
 
-  row : (position : ℕ) → Contains at.at.now position → AtRule (HasEntryAt p (told_list width line.row.goal firsts) at.first position) (on_span first from position)
+  pub row : (position : ℕ) → Contains at.at.now position → AtRule (HasEntryAt p (told_list width line.row.goal firsts) at.first position) (on_span first from position)
   row position stands = subst (λ entries. AtRule (HasEntryAt p entries at.first position) (on_span first from position)) are.firsts_told (opened.row position stands)
 
-  column : (position : ℕ) → Contains at.at.now position → AtRule (HasEntryAt p (told_list width line.column.goal seconds) begin (position + letters)) (on_span second (position + letters) last)
+  pub column : (position : ℕ) → Contains at.at.now position → AtRule (HasEntryAt p (told_list width line.column.goal seconds) begin (position + letters)) (on_span second (position + letters) last)
   column position stands = subst (λ entries. AtRule (HasEntryAt p entries begin (position + letters)) (on_span second (position + letters) last)) are.seconds_told (opened.column position stands)
 
-  same_position : (position : ℕ) → position + letters - begin ≡ number_at at position
+  pub same_position : (position : ℕ) → position + letters - begin ≡ number_at at position
   same_position position = omega (arith, opened.common)
 
   pub have_numbers : HaveNumbers at firsts seconds

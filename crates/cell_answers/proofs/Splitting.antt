@@ -6,7 +6,8 @@ use Rattle.adp_model.specs.declared.grammar.Arg.{Arg}
 use Rattle.adp_model.specs.declared.grammar.Arg.TheVariants.{Rule}
 use Rattle.adp_model.specs.declared.cell.Cell.{Cell}
 use Rattle.adp_model.specs.PosedProblem.{PosedProblem}
-use Rattle.adp_model.specs.Parts.{alternatives_of, arguments_of}
+use Rattle.adp_model.specs.Lengths.{AllowsLength}
+use Rattle.adp_model.specs.Parts.{alternative_at, alternatives_of, arguments_of}
 use Rattle.adp_model.specs.Splits.{Placed, place, placed, FitsSpan, IsViable}
 use Rattle.adp_model.specs.Demand.{IsDemandedChild}
 use Rattle.adp_model.specs.FirstSplit.{IsValue, AreArgumentValues}
@@ -98,27 +99,30 @@ module _ (p : PosedProblem) where
       lay argument next arguments from end to room (Stands cell) (Stands cell) fits (stands_later (on_span argument from end) cell) (cuts_of_demand next arguments end to room cell (omega arith) later)
 
   -- what cuts lay of a whole alternative is a viable split
-  pub split_of_cuts : (cell : Cell) (alternative : ℕ) (Holds : List Placed → Type 0) → alternative < length (alternatives_of p.grammar cell.rule) → HasCuts p (arguments_of p.grammar cell.rule alternative) cell.from cell.to 3 Holds
+  pub split_of_cuts : (cell : Cell) (alternative : ℕ) (Holds : List Placed → Type 0) → alternative < length (alternatives_of p.grammar cell.rule)
+      → AllowsLength (alternative_at p.grammar cell.rule alternative) (cell.to - cell.from) → HasCuts p (arguments_of p.grammar cell.rule alternative) cell.from cell.to 3 Holds
       → (cuts : List ℕ) × IsViable p cell alternative cuts × Holds (placed p cell alternative cuts)
-  split_of_cuts cell alternative Holds in_range has =
-      (has.cuts, record { in_range = in_range; allowed = tt; three = has.counted; last = has.closed; fits = has.fits }, has.holds)
+  split_of_cuts cell alternative Holds in_range allowed has =
+      (has.cuts, record { in_range = in_range; allowed = allowed; three = has.counted; last = has.closed; fits = has.fits }, has.holds)
 
   pub split_of_values : (HasScore : Cell → ℤ → Type 0) (cell : Cell) (alternative : ℕ) (values : List ℤ) → alternative < length (alternatives_of p.grammar cell.rule)
+      → AllowsLength (alternative_at p.grammar cell.rule alternative) (cell.to - cell.from)
       → 1 ≤ length (arguments_of p.grammar cell.rule alternative) → length (arguments_of p.grammar cell.rule alternative) ≤ 4
       → HaveValues p HasScore (arguments_of p.grammar cell.rule alternative) cell.from cell.to values
       → (cuts : List ℕ) × IsViable p cell alternative cuts × AreArgumentValues p HasScore (placed p cell alternative cuts) values
-  split_of_values HasScore cell alternative values in_range some few have =
-      split_of_cuts cell alternative (λ placed. AreArgumentValues p HasScore placed values) in_range (by (arguments_of p.grammar cell.rule alternative) some few have)
+  split_of_values HasScore cell alternative values in_range allowed some few have =
+      split_of_cuts cell alternative (λ placed. AreArgumentValues p HasScore placed values) in_range allowed (by (arguments_of p.grammar cell.rule alternative) some few have)
     where
       by : (arguments : List Arg) → 1 ≤ length arguments → length arguments ≤ 4 → HaveValues p HasScore arguments cell.from cell.to values → HasCuts p arguments cell.from cell.to 3 (λ placed. AreArgumentValues p HasScore placed values)
       by [] some few have = absurd (omega arith)
       by (argument ∷ arguments) some few have = cuts_of_values HasScore argument arguments cell.from cell.to 3 values (omega arith) have
 
   -- the cells that an alternative's arguments demand on the cell's span are its demanded children
-  pub child_of_demands : (cell : Cell) (alternative : ℕ) (child : Cell) → alternative < length (alternatives_of p.grammar cell.rule) → length (arguments_of p.grammar cell.rule alternative) ≤ 4
+  pub child_of_demands : (cell : Cell) (alternative : ℕ) (child : Cell) → alternative < length (alternatives_of p.grammar cell.rule)
+      → AllowsLength (alternative_at p.grammar cell.rule alternative) (cell.to - cell.from) → length (arguments_of p.grammar cell.rule alternative) ≤ 4
       → Demands p (arguments_of p.grammar cell.rule alternative) cell.from cell.to child → IsDemandedChild p cell child
-  child_of_demands cell alternative child in_range few demands =
-      let it = split_of_cuts cell alternative (Stands child) in_range (by (arguments_of p.grammar cell.rule alternative) few demands) in
+  child_of_demands cell alternative child in_range allowed few demands =
+      let it = split_of_cuts cell alternative (Stands child) in_range allowed (by (arguments_of p.grammar cell.rule alternative) few demands) in
       (alternative, it.0, it.1, it.2)
     where
       by : (arguments : List Arg) → length arguments ≤ 4 → Demands p arguments cell.from cell.to child → HasCuts p arguments cell.from cell.to 3 (Stands child)

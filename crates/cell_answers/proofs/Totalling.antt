@@ -21,7 +21,7 @@ abbrev pub OneScore : (Cell → ℤ → Type 0) → Type 0
 OneScore HasScore = (cell : Cell) (a b : ℤ) → HasScore cell a → HasScore cell b → a ≡ b
 
 module _ (p : PosedProblem) where
-  value_kept : (A B : Cell → ℤ → Type 0) → ((cell : Cell) (score : ℤ) → A cell score → B cell score) → (argument : Arg) (from to : ℕ) (value : ℤ) → IsValue p A (on_span argument from to) value → IsValue p B (on_span argument from to) value
+  pub value_kept : (A B : Cell → ℤ → Type 0) → ((cell : Cell) (score : ℤ) → A cell score → B cell score) → (argument : Arg) (from to : ℕ) (value : ℤ) → IsValue p A (on_span argument from to) value → IsValue p B (on_span argument from to) value
   value_kept A B kept (Rule rule) from to value is = kept _ value is
   value_kept A B kept (Literal text) from to value is = is
   value_kept A B kept (Letter class) from to value is = is

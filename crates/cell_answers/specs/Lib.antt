@@ -4,8 +4,10 @@ pub mod Entries
 pub mod LaidBy
 pub mod Opened
 pub mod PackedTables
+pub mod PlainLines
 pub mod Rows
 pub mod ScaledLines
 pub mod ScoresFields
+pub mod TermScores
 pub mod Through
 pub mod Totals

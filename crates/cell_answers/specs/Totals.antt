@@ -4,7 +4,8 @@ use Rattle.std.specs.List.{AllByRecursion, Contains}
 use Rattle.adp_model.specs.declared.grammar.Arg.{Arg}
 use Rattle.adp_model.specs.declared.cell.Cell.{Cell}
 use Rattle.adp_model.specs.PosedProblem.{PosedProblem}
-use Rattle.adp_model.specs.Parts.{algebra_of, arguments_of, term_of}
+use Rattle.adp_model.specs.Lengths.{AllowsLength}
+use Rattle.adp_model.specs.Parts.{algebra_of, alternative_at, arguments_of, term_of}
 use Rattle.adp_model.specs.Tokens.{letters_between, token_value}
 use Rattle.adp_model.specs.WellFormed.{IsKnown}
 use Rattle.adp_model.specs.Terms.{weighted_sum, weighted_total, term_value}
@@ -42,12 +43,20 @@ AreLow p arguments factors from to =
     (values : List ℤ) → HaveValues p (IsWithinBound p) arguments from to values
     → weighted_total factors (map nat_abs values) ≤ greatest_score
 
--- the score of a split of the cell by the alternative, at the best scores of its arguments' cells, turned
-abbrev pub HasTurnedScore : PosedProblem → Cell → ℕ → ℤ → Type 0
-HasTurnedScore p cell alternative number =
+-- the number is what the alternative's term comes to, turned, where its arguments are laid along the cell and their
+-- cells have their best scores
+abbrev pub HasLaidScore : PosedProblem → Cell → ℕ → ℤ → Type 0
+HasLaidScore p cell alternative number =
     (values : List ℤ)
     × HaveValues p (HasBestScore p) (arguments_of p.grammar cell.rule alternative) cell.from cell.to values
     × (number ≡ turned (algebra_of p).goal (term_value (term_of p cell.rule alternative) values))
+
+-- the score of a split of the cell by the alternative, which allows the cell's length, at the best scores of its
+-- arguments' cells, turned
+abbrev pub HasTurnedScore : PosedProblem → Cell → ℕ → ℤ → Type 0
+HasTurnedScore p cell alternative number =
+    AllowsLength (alternative_at p.grammar cell.rule alternative) (cell.to - cell.from)
+    × HasLaidScore p cell alternative number
 
 -- arguments of an alternative, each with the factor of its value; what tokens are worth keeps the greatest score
 pub record AreWeighted (p : PosedProblem) (arguments : List Arg) (factors : List ℤ) : Type 0 where

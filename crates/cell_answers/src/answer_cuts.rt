@@ -12,6 +12,7 @@ ghost use Rattle.adp_model.specs.Bellman.{HasBestScore};
 ghost use Rattle.adp_model.specs.Demand.{IsDemandedChild};
 ghost use Rattle.score_numbers.specs.FirstPositions.{IsFirstOf};
 ghost use Rattle.score_numbers.specs.Greatest.{IsGreatestOf};
+ghost use Rattle.split_lines.specs.Kept.{IsAlternative, IsSummed};
 ghost use Rattle.split_lines.specs.Laid.{Demands};
 ghost use Rattle.split_lines.specs.Lines.{IsLine};
 ghost use Rattle.cell_answers.specs.CellBest.{IsCellBest};
@@ -23,6 +24,7 @@ ghost use Rattle.cell_answers.specs.Totals.{AreLow, AreWeighted, HasTotal};
 
 use crate::along::{fixed_total, scales_of, total_through};
 use crate::argument_values::{Numbers, argument_value};
+use crate::by_term::cuts_by_term;
 use crate::filling::{Best, Known, cell_best, greatest_total};
 use crate::only_ends::only_end;
 use crate::opened::{OpenedLine, open_line};
@@ -30,13 +32,14 @@ use crate::scores::Scores;
 use adp_model::laws::bellman::bellman;
 use adp_model::laws::bounds::{bounds_are_sound, words_keep_their_score_bound};
 use adp_model::laws::order::answer_is_unique;
+use adp_model::laws::terms::{magnitudes_rise, values_are_within_magnitudes};
 use adp_model::laws::well_formed::{alternatives_fit, arguments_are_few_and_known};
 use adp_model::{Answer, Arg, Cell, Choice};
 use score_numbers::{
     Positions, are_worthless, first_long, first_medium, first_short, lesser_positions_stand_before,
     turned,
 };
-use split_lines::{Line, Lines, Way, line_here};
+use split_lines::{KeptAlternative, Line, Lines, Scoring, Way, WeightedSum, line_here};
 
 /// The first position of the boundary at which the arguments of a line up to its second one of open length have this
 /// total, position by position.
@@ -184,7 +187,7 @@ fn end_among(
 
 /// The line of the arguments behind the first one, if that is not its first one, and how many of these come before it.
 #[inline(always)]
-fn line_left(line: Option<Line<'_>>, ahead: u8) -> (Option<Line<'_>>, u8)
+pub(crate) fn line_left(line: Option<Line<'_>>, ahead: u8) -> (Option<Line<'_>>, u8)
     ensures { (p : PosedProblem) (arguments : List Argument)
         → IfSome line.entry (λ it. IsLine p (drop ahead arguments) it)
         → IfSome result.0 (λ it. IsLine p (drop result.1 (drop 1 arguments)) it) }
@@ -286,12 +289,20 @@ fn first_ends(
     [end, second, third, fourth]
 }
 
-/// The cuts of a cell's answer, which complete its best score and the first alternative that gives it. Takes no memory,
-/// and about the time of that alternative's score once for each of its arguments.
-pub fn first_cuts(lines: &Lines<'_>, scores: &Scores<'_>, cell: Cell, best: Best) -> [u16; 3]
+/// The cuts of a cell's answer, where the splits of the alternative that gives its best score are scored by a sum.
+fn cuts_by_sum<'s>(
+    lines: &'s Lines<'_>,
+    scores: &Scores<'_>,
+    cell: Cell,
+    alternative: &KeptAlternative<'s>,
+    sum: &WeightedSum,
+    best: Best,
+) -> [u16; 3]
     requires same_problem { scores.now.problem ≡ lines.now }
     requires rule { cell.rule < length lines.now.grammar.rules }
     requires in_word { IsSpan lines.now.word cell.from cell.to }
+    requires alternative { IsAlternative lines.now cell.rule best.alt alternative.now }
+    requires sum { IsSummed lines.now cell.rule best.alt alternative.now sum.now }
     requires scored { (child : Cell) → IsDemandedChild lines.now cell child → HasEntry scores.now child }
     requires best { IsCellBest lines.now cell best.score best.alt }
     ensures { IsAnswer lines.now cell (BestAnswer best.score (record { alt = best.alt; cuts = result })) }
@@ -302,11 +313,12 @@ pub fn first_cuts(lines: &Lines<'_>, scores: &Scores<'_>, cell: Cell, best: Best
     bounds_are_sound();
     words_keep_their_score_bound();
     answer_is_unique();
+    magnitudes_rise();
+    values_are_within_magnitudes();
     arguments_are_few_and_known();
     alternatives_fit();
     let arguments = problem.arguments(cell.rule, best.alt);
-    let alternative = &lines.alternatives(cell.rule)[best.alt as usize];
-    let total = turned(problem.goal(), best.score) - alternative.constant;
+    let total = turned(problem.goal(), best.score) - sum.constant;
     let (line, ahead) = match lines.way(alternative, cell.rule, best.alt) {
         Way::Several(Some(line)) => (Some(line), alternative.front.len() as u8 + line.first),
         Way::Front | Way::Last(_) | Way::Several(None) => (None, 0),
@@ -320,12 +332,31 @@ pub fn first_cuts(lines: &Lines<'_>, scores: &Scores<'_>, cell: Cell, best: Best
         &known,
         ahead,
         arguments,
-        &alternative.factors[..arguments.len()],
+        &sum.factors[..arguments.len()],
         cell.from,
         cell.to,
         total,
     );
     [first, second, third]
+}
+
+/// The cuts of a cell's answer, which complete its best score and the first alternative that gives it. Takes no memory,
+/// and about the time of that alternative's score once for each of its arguments.
+pub fn first_cuts(lines: &Lines<'_>, scores: &Scores<'_>, cell: Cell, best: Best) -> [u16; 3]
+    requires same_problem { scores.now.problem ≡ lines.now }
+    requires rule { cell.rule < length lines.now.grammar.rules }
+    requires in_word { IsSpan lines.now.word cell.from cell.to }
+    requires scored { (child : Cell) → IsDemandedChild lines.now cell child → HasEntry scores.now child }
+    requires best { IsCellBest lines.now cell best.score best.alt }
+    ensures { IsAnswer lines.now cell (BestAnswer best.score (record { alt = best.alt; cuts = result })) }
+{
+    lines.problem().admissible();
+    bellman();
+    let alternative = &lines.alternatives(cell.rule)[best.alt as usize];
+    match &alternative.scoring {
+        Scoring::Sum(sum) => cuts_by_sum(lines, scores, cell, alternative, sum, best),
+        Scoring::Term(term) => cuts_by_term(lines, scores, cell, term, best),
+    }
 }
 
 /// The answer of a cell, by the scores of its demanded children. Takes no memory.

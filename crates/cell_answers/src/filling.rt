@@ -8,26 +8,29 @@ ghost use Rattle.adp_model.specs.Parts.{alternatives_of};
 ghost use Rattle.adp_model.specs.Answers.{IsAnswer};
 ghost use Rattle.adp_model.specs.Bellman.{HasBestScore};
 ghost use Rattle.adp_model.specs.Demand.{IsDemandedChild};
-ghost use Rattle.split_lines.specs.Kept.{IsAlternative};
+ghost use Rattle.split_lines.specs.Kept.{IsAlternative, IsSummed};
 ghost use Rattle.split_lines.specs.Laid.{Demands};
 ghost use Rattle.split_lines.specs.Lines.{IsLine};
 ghost use Rattle.split_lines.specs.Ways.{IsOpening};
 ghost use Rattle.cell_answers.specs.CellBest.{IsBestOfFirst, IsCellBest};
 ghost use Rattle.cell_answers.specs.Entries.{HasEntry};
-ghost use Rattle.cell_answers.specs.Totals.{AreLow, AreWeighted, HasTotal, HasTurnedScore};
+ghost use Rattle.cell_answers.specs.Totals.{AreLow, AreWeighted, HasLaidScore, HasTotal, HasTurnedScore};
 ghost use Rattle.score_numbers.specs.Greatest.{IsGreatestOf};
 
 use crate::along::{between_total, greatest_along};
 use crate::argument_values::{argument_value, token_value};
+use crate::by_term::score_by_term;
 use crate::scores::Scores;
 use adp_model::laws::bellman::bellman;
 use adp_model::laws::bounds::{bounds_are_sound, words_keep_their_score_bound};
 use adp_model::laws::order::answer_is_unique;
+use adp_model::laws::terms::{magnitudes_rise, values_are_within_magnitudes};
 use adp_model::laws::well_formed::{alternatives_fit, arguments_are_few_and_known};
 use adp_model::{Arg, Cell};
 use score_numbers::{greater, turned};
 use split_lines::{
-    KeptAlternative, Line, Lines, Way, is_fixed, line_begins_here, line_begins_later, line_here,
+    KeptAlternative, Line, Lines, Scoring, Way, WeightedSum, is_fixed, line_begins_here,
+    line_begins_later, line_here,
 };
 
 /// The best score of a cell and the first alternative that gives it.
@@ -160,8 +163,59 @@ fn total_of_several(
 }
 
 /// The best score that an alternative gives a cell whose first letters its tokens in front have up to `from`, turned;
-/// `None` where it gives none. All ways are scored by the total of the arguments, to which the constant is added.
+/// `None` where it gives none. All ways are scored by a sum: the total of the arguments, to which the constant is added.
 #[inline(never)]
+fn score_by_sum<'s>(
+    lines: &'s Lines<'_>,
+    scores: &Scores<'_>,
+    cell: Cell,
+    alternative: &KeptAlternative<'s>,
+    sum: &WeightedSum,
+    alt: u8,
+    from: u16,
+) -> Option<i64>
+    requires same_problem { scores.now.problem ≡ lines.now }
+    requires rule { cell.rule < length lines.now.grammar.rules }
+    requires in_word { IsSpan lines.now.word cell.from cell.to }
+    requires in_range { alt < length (alternatives_of lines.now.grammar cell.rule) }
+    requires alternative { IsAlternative lines.now cell.rule alt alternative.now }
+    requires sum { IsSummed lines.now cell.rule alt alternative.now sum.now }
+    requires scored { (child : Cell) → IsDemandedChild lines.now cell child → HasEntry scores.now child }
+    requires opening { IsOpening lines.now alternative.now cell from }
+    ensures { IsGreatestOf (HasLaidScore lines.now cell alt) result }
+{
+    lines.problem().admissible();
+    bounds_are_sound();
+    words_keep_their_score_bound();
+    answer_is_unique();
+    magnitudes_rise();
+    values_are_within_magnitudes();
+    arguments_are_few_and_known();
+    let (others, factors) = (alternative.others, sum.other_factors(alternative));
+    let rest = match lines.way(alternative, cell.rule, alt) {
+        Way::Front => Some(0),
+        Way::Last(argument) => last_total(lines, scores, argument, factors[0], from, cell.to),
+        Way::Several(line) => {
+            total_of_several(lines, scores, line, others, factors, from, cell.to)
+        }
+    };
+    let Some(rest) = rest else {
+        return None;
+    };
+    let front = between_total(
+        lines,
+        alternative.front,
+        sum.front_factors(alternative),
+        sum.weighs,
+        cell.from,
+        from,
+    );
+    Some(sum.constant + (front + rest))
+}
+
+/// The best score that an alternative gives a cell whose first letters its tokens in front have up to `from`, turned;
+/// `None` where it gives none. This is the one place that asks how its splits are scored.
+#[inline(always)]
 fn score_behind<'s>(
     lines: &'s Lines<'_>,
     scores: &Scores<'_>,
@@ -179,31 +233,10 @@ fn score_behind<'s>(
     requires opening { IsOpening lines.now alternative.now cell from }
     ensures { IsGreatestOf (HasTurnedScore lines.now cell alt) result }
 {
-    lines.problem().admissible();
-    bounds_are_sound();
-    words_keep_their_score_bound();
-    answer_is_unique();
-    arguments_are_few_and_known();
-    let (others, factors) = (alternative.others, alternative.other_factors());
-    let rest = match lines.way(alternative, cell.rule, alt) {
-        Way::Front => Some(0),
-        Way::Last(argument) => last_total(lines, scores, argument, factors[0], from, cell.to),
-        Way::Several(line) => {
-            total_of_several(lines, scores, line, others, factors, from, cell.to)
-        }
-    };
-    let Some(rest) = rest else {
-        return None;
-    };
-    let front = between_total(
-        lines,
-        alternative.front,
-        alternative.front_factors(),
-        alternative.weighs,
-        cell.from,
-        from,
-    );
-    Some(alternative.constant + (front + rest))
+    match &alternative.scoring {
+        Scoring::Sum(sum) => score_by_sum(lines, scores, cell, alternative, sum, alt, from),
+        Scoring::Term(term) => score_by_term(lines, scores, cell, term, alt),
+    }
 }
 
 /// The best score that an alternative gives a cell, turned; `None` where it gives none.
@@ -263,6 +296,8 @@ pub fn cell_best(lines: &Lines<'_>, scores: &Scores<'_>, cell: Cell) -> Option<B
     problem.admissible();
     bellman();
     bounds_are_sound();
+    magnitudes_rise();
+    values_are_within_magnitudes();
     arguments_are_few_and_known();
     alternatives_fit();
     let goal = problem.goal();

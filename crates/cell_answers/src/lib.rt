@@ -5,10 +5,12 @@
 mod along;
 mod answer_cuts;
 mod argument_values;
+mod by_term;
 mod filling;
 mod only_ends;
 mod opened;
 mod scores;
+mod term_along;
 
 pub use answer_cuts::{cell_answer, first_cuts};
 pub use argument_values::argument_value;

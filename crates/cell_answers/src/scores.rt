@@ -49,6 +49,11 @@ impl<'a> Model for Scores<'a> {
 
     ghost Value = { EntryTable ℤ };
 
+    ghost use Rattle.adp_model.specs.WideForm.{form_code};
+    ghost use Rattle.std.specs.Coded.{codes};
+
+    ghost coded = { Prim.hlevel (codes, form_code) };
+
     ghost use Rattle.cell_answers.specs.ScoresFields.{AreScores, scores_table};
 
     ghost view = { scores_table };

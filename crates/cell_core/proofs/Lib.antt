@@ -14,3 +14,5 @@ pub mod PlainRecords
 pub mod FreshMachines
 pub mod PassingNone
 pub mod Stepped
+pub mod SharedGrammars
+pub mod SharedParts

@@ -55,6 +55,11 @@ impl<'a> Model for CellNotes<'a> {
 
     ghost Value = { NoteBits };
 
+    ghost use Rattle.adp_model.specs.WideForm.{form_code};
+    ghost use Rattle.std.specs.Coded.{codes};
+
+    ghost coded = { Prim.hlevel (codes, form_code) };
+
     ghost view = { λ notes. notes.noted };
 
     ghost invariant = { λ notes. (shared notes.prepared ≡ notes.noted.problem)

@@ -41,6 +41,11 @@ impl<'a, M: Memo> Model for Machine<'a, M> {
 
     ghost Value = { MachineView M.Probe };
 
+    ghost use Rattle.adp_model.specs.WideForm.{form_code};
+    ghost use Rattle.std.specs.Coded.{codes};
+
+    ghost coded = { Prim.hlevel (codes, form_code) };
+
     ghost view = { λ machine.
         record { machine = state_of machine.problem.now machine.notes machine.work; orders = machine.orders } };
 

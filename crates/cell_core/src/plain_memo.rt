@@ -40,6 +40,11 @@ impl<'a> Model for PlainMemo<'a> {
 
     ghost Value = { PosedProblem };
 
+    ghost use Rattle.adp_model.specs.WideForm.{form_code};
+    ghost use Rattle.std.specs.Coded.{codes};
+
+    ghost coded = { Prim.hlevel (codes, form_code) };
+
     ghost view = { λ memo. memo.problem.now };
 
     ghost invariant = { λ memo. memo.places ≡ memo.problem.now };
@@ -58,6 +63,11 @@ impl<'a> Model for PlainPass<'a> {
     ghost use Rattle.cell_core.specs.PlainMemos.{PlainState, AreRecords};
 
     ghost Value = { PlainState };
+
+    ghost use Rattle.adp_model.specs.WideForm.{form_code};
+    ghost use Rattle.std.specs.Coded.{codes};
+
+    ghost coded = { Prim.hlevel (codes, form_code) };
 
     ghost view = { λ pass.
         record { problem = pass.problem.now; records = pass.records.items; last = pass.last } };

@@ -13,7 +13,7 @@ use Rattle.adp_model.specs.Parts.{alternatives_of, arguments_of}
 use Rattle.adp_model.specs.Splits.{Placed, FitsSpan, place, ends_by}
 use Rattle.adp_model.specs.Demand.{IsDemandedChild}
 use Rattle.viable_splits.specs.Placing.{on_span, Cover, ArePositions}
-use Rattle.split_lines.specs.Laid.{IsCellOf, Demands, IsFixed, LineParts, AreBoundaries}
+use Rattle.split_lines.specs.Laid.{IsCellOf, Demands, DemandsBy, IsFixed, LineParts, AreBoundaries}
 use Rattle.split_lines.specs.Lines.{HasLine, parts_by}
 use Rattle.cell_tables.specs.Marks.{CellMarks, AreMarkedFrom}
 use Rattle.cell_demands.proofs.Splitting.{child_of_demands, demands_of_child}
@@ -244,26 +244,26 @@ module _ (p : PosedProblem) (argument : Arg) (others : List Arg) (from to : ℕ)
 -- one of the first alternatives of the cell's rule demands the child
 abbrev pub DemandsByFirst : PosedProblem → Cell → ℕ → Cell → Type 0
 DemandsByFirst p cell count child =
-    (alternative : ℕ) × (alternative < count) × Demands p (arguments_of p.grammar cell.rule alternative) cell.from cell.to child
+    (alternative : ℕ) × (alternative < count) × DemandsBy p cell alternative child
 
 module _ (p : PosedProblem) (cell : Cell) where
-  pub one_more_alternative : (begin count : ℕ) (first second third : CellMarks) → AreMarkedFrom begin first second (DemandsByFirst p cell count) → AreMarkedFrom begin second third (Demands p (arguments_of p.grammar cell.rule count) cell.from cell.to)
+  pub one_more_alternative : (begin count : ℕ) (first second third : CellMarks) → AreMarkedFrom begin first second (DemandsByFirst p cell count) → AreMarkedFrom begin second third (DemandsBy p cell count)
       → AreMarkedFrom begin first third (DemandsByFirst p cell (count + 1))
   one_more_alternative begin count first second third before here =
-      marked_like begin first third (λ child. DemandsByFirst p cell count child ⊎ Demands p (arguments_of p.grammar cell.rule count) cell.from cell.to child) (DemandsByFirst p cell (count + 1))
+      marked_like begin first third (λ child. DemandsByFirst p cell count child ⊎ DemandsBy p cell count child) (DemandsByFirst p cell (count + 1))
       (λ child some. ⊎_elim (λ (alternative, l, demands). (alternative, omega arith, demands)) (λ demands. (count, omega arith, demands)) some)
       (λ child (alternative, l, demands).
       ⊎_elim (λ early. inl (alternative, early, demands))
-      (λ same. let e : alternative ≡ count = omega arith in inr (subst (λ n. Demands p (arguments_of p.grammar cell.rule n) cell.from cell.to child) e demands))
+      (λ same. let e : alternative ≡ count = omega arith in inr (subst (λ n. DemandsBy p cell n child) e demands))
       (cases_lt alternative count))
-      (marked_more begin first second third (DemandsByFirst p cell count) (Demands p (arguments_of p.grammar cell.rule count) cell.from cell.to) before here)
+      (marked_more begin first second third (DemandsByFirst p cell count) (DemandsBy p cell count) before here)
 
   pub all_alternatives : (few : (alternative : ℕ) → length (arguments_of p.grammar cell.rule alternative) ≤ 4) (begin : ℕ) (first second : CellMarks) → AreMarkedFrom begin first second (DemandsByFirst p cell (length (alternatives_of p.grammar cell.rule)))
       → AreMarkedFrom begin first second (IsDemandedChild p cell)
   all_alternatives few begin first second marked =
       marked_like begin first second (DemandsByFirst p cell (length (alternatives_of p.grammar cell.rule))) (IsDemandedChild p cell)
       (λ child (alternative, l, demands). child_of_demands p cell alternative child l (few alternative) demands)
-      (λ child (alternative, cuts, viable, stands). (alternative, viable.in_range, demands_of_child p cell alternative cuts child (some_arguments (arguments_of p.grammar cell.rule alternative) cell.from (ends_by cell cuts) stands) (few alternative) viable stands))
+      (λ child (alternative, cuts, viable, stands). (alternative, viable.in_range, (viable.allowed, demands_of_child p cell alternative cuts child (some_arguments (arguments_of p.grammar cell.rule alternative) cell.from (ends_by cell cuts) stands) (few alternative) viable stands)))
       marked
     where
       some_arguments : {it : Placed} (arguments : List Arg) (from : ℕ) (ends : List ℕ) → Contains (place arguments from ends) it → 1 ≤ length arguments

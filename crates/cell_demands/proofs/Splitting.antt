@@ -6,11 +6,12 @@ use Rattle.adp_model.specs.declared.grammar.Arg.{Arg}
 use Rattle.adp_model.specs.declared.grammar.Arg.TheVariants.{Rule}
 use Rattle.adp_model.specs.declared.cell.Cell.{Cell}
 use Rattle.adp_model.specs.PosedProblem.{PosedProblem}
-use Rattle.adp_model.specs.Parts.{alternatives_of, arguments_of}
+use Rattle.adp_model.specs.Lengths.{AllowsLength}
+use Rattle.adp_model.specs.Parts.{alternatives_of, alternative_at, arguments_of}
 use Rattle.adp_model.specs.Splits.{Placed, place, placed, FitsSpan, IsViable}
 use Rattle.adp_model.specs.Demand.{IsDemandedChild}
 use Rattle.viable_splits.specs.Placing.{on_span, Cover}
-use Rattle.split_lines.specs.Laid.{IsCellOf, Demands}
+use Rattle.split_lines.specs.Laid.{IsCellOf, Demands, DemandsBy}
 
 -- cuts lay the arguments from `from` to `to`, so that it holds of what is laid
 pub record HasCuts (p : PosedProblem) (arguments : List Arg) (from to room : ℕ) (Holds : List Placed → Type 0) : Type 0 where
@@ -83,16 +84,16 @@ module _ (p : PosedProblem) where
       lay argument next arguments from end to room (Stands cell) (Stands cell) fits (stands_later (on_span argument from end) cell) (cuts_of_demand next arguments end to room cell (omega arith) later)
 
   -- what cuts lay of a whole alternative is a viable split
-  pub split_of_cuts : (cell : Cell) (alternative : ℕ) (Holds : List Placed → Type 0) → alternative < length (alternatives_of p.grammar cell.rule) → HasCuts p (arguments_of p.grammar cell.rule alternative) cell.from cell.to 3 Holds
+  pub split_of_cuts : (cell : Cell) (alternative : ℕ) (Holds : List Placed → Type 0) → alternative < length (alternatives_of p.grammar cell.rule) → AllowsLength (alternative_at p.grammar cell.rule alternative) (cell.to - cell.from) → HasCuts p (arguments_of p.grammar cell.rule alternative) cell.from cell.to 3 Holds
       → (cuts : List ℕ) × IsViable p cell alternative cuts × Holds (placed p cell alternative cuts)
-  split_of_cuts cell alternative Holds in_range has =
-      (has.cuts, record { in_range = in_range; allowed = tt; three = has.counted; last = has.closed; fits = has.fits }, has.holds)
+  split_of_cuts cell alternative Holds in_range allowed has =
+      (has.cuts, record { in_range = in_range; allowed = allowed; three = has.counted; last = has.closed; fits = has.fits }, has.holds)
 
   -- where an alternative's arguments demand a cell on the cell's span, a viable split has it
   pub split_of_demands : (cell : Cell) (alternative : ℕ) (child : Cell) → alternative < length (alternatives_of p.grammar cell.rule) → length (arguments_of p.grammar cell.rule alternative) ≤ 4
-      → Demands p (arguments_of p.grammar cell.rule alternative) cell.from cell.to child → (cuts : List ℕ) × IsViable p cell alternative cuts × Stands child (placed p cell alternative cuts)
+      → DemandsBy p cell alternative child → (cuts : List ℕ) × IsViable p cell alternative cuts × Stands child (placed p cell alternative cuts)
   split_of_demands cell alternative child in_range few demands =
-      split_of_cuts cell alternative (Stands child) in_range (by (arguments_of p.grammar cell.rule alternative) few demands)
+      split_of_cuts cell alternative (Stands child) in_range demands.0 (by (arguments_of p.grammar cell.rule alternative) few demands.1)
     where
       by : (arguments : List Arg) → length arguments ≤ 4 → Demands p arguments cell.from cell.to child → HasCuts p arguments cell.from cell.to 3 (Stands child)
       by [] few demands = absurd demands
@@ -100,7 +101,7 @@ module _ (p : PosedProblem) where
 
   -- so it is a demanded child
   pub child_of_demands : (cell : Cell) (alternative : ℕ) (child : Cell) → alternative < length (alternatives_of p.grammar cell.rule) → length (arguments_of p.grammar cell.rule alternative) ≤ 4
-      → Demands p (arguments_of p.grammar cell.rule alternative) cell.from cell.to child → IsDemandedChild p cell child
+      → DemandsBy p cell alternative child → IsDemandedChild p cell child
   child_of_demands cell alternative child in_range few demands =
       let it = split_of_demands cell alternative child in_range few demands in
       (alternative, it.0, it.1, it.2)

@@ -5,14 +5,14 @@ ghost use Rattle.std.specs.List.{AllAdjacentBelow, AllByRecursion, Contains};
 ghost use Rattle.std.specs.Option.{option_copied};
 ghost use Rattle.adp_model.specs.declared.cell.Cell.{Cell};
 ghost use Rattle.adp_model.specs.PosedProblem.{IsSpan};
-ghost use Rattle.adp_model.specs.Parts.{alternatives_of, arguments_of};
+ghost use Rattle.adp_model.specs.Parts.{alternatives_of};
 ghost use Rattle.adp_model.specs.Cells.{IsCounted};
 ghost use Rattle.adp_model.specs.Demand.{IsDemandedChild};
 ghost use Rattle.adp_model.specs.WellFormed.{IsKnown};
 ghost use Rattle.viable_splits.specs.Placing.{Cover};
 ghost use Rattle.split_lines.specs.Flags.{AreBitsAmong};
 ghost use Rattle.split_lines.specs.Kept.{IsAlternative};
-ghost use Rattle.split_lines.specs.Laid.{Demands, IsCellOf};
+ghost use Rattle.split_lines.specs.Laid.{Demands, DemandsBy, IsCellOf};
 ghost use Rattle.split_lines.specs.Lines.{IsLine};
 ghost use Rattle.cell_tables.specs.Marks.{AreInRows, AreMarkedFrom, AreMarkedToo};
 
@@ -268,11 +268,9 @@ fn mark_alternative(
     requires alternative { IsAlternative lines.now cell.rule alt alternative.now }
     requires span { IsSpan lines.now.word cell.from cell.to }
     requires same_problem { marks.old.problem ≡ lines.now }
-    requires counted { (child : Cell)
-        → Demands lines.now (arguments_of lines.now.grammar cell.rule alt) cell.from cell.to child
+    requires counted { (child : Cell) → DemandsBy lines.now cell alt child
         → IsCounted lines.now.grammar (length lines.now.word) child }
-    ensures { AreMarkedFrom cell.from marks.old marks.new
-        (Demands lines.now (arguments_of lines.now.grammar cell.rule alt) cell.from cell.to) }
+    ensures { AreMarkedFrom cell.from marks.old marks.new (DemandsBy lines.now cell alt) }
 {
     if let Some(end) = lines.opening(alternative, cell) {
         mark_others(lines, cell, alternative, alt, end, marks);

@@ -29,6 +29,10 @@ impl<'a> Model for Places<'a> {
     ghost Value = { PosedProblem };
 
     ghost use Rattle.cell_layouts.specs.LayoutFields.{ArePlaces};
+    ghost use Rattle.adp_model.specs.WideForm.{form_code};
+    ghost use Rattle.std.specs.Coded.{codes};
+
+    ghost coded = { Prim.hlevel (codes, form_code) };
 
     ghost view = { λ places. places.problem.now };
 

@@ -56,6 +56,10 @@ impl<'a> Model for Layout<'a> {
     ghost Value = { PosedProblem };
 
     ghost use Rattle.cell_layouts.specs.LayoutFields.{AreLaidOut};
+    ghost use Rattle.adp_model.specs.WideForm.{form_code};
+    ghost use Rattle.std.specs.Coded.{codes};
+
+    ghost coded = { Prim.hlevel (codes, form_code) };
 
     ghost view = { λ layout. layout.problem.now };
 

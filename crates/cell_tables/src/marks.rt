@@ -34,6 +34,11 @@ impl<'a> Model for Marks<'a> {
 
     ghost Value = { CellMarks };
 
+    ghost use Rattle.adp_model.specs.WideForm.{form_code};
+    ghost use Rattle.std.specs.Coded.{codes};
+
+    ghost coded = { Prim.hlevel (codes, form_code) };
+
     ghost use Rattle.cell_tables.specs.MarksFields.{AreKeptMarks, cell_marks};
 
     ghost view = { cell_marks };

@@ -27,6 +27,11 @@ impl<'a> Model for Noted<'a> {
 
     ghost Value = { Notes };
 
+    ghost use Rattle.adp_model.specs.WideForm.{form_code};
+    ghost use Rattle.std.specs.Coded.{codes};
+
+    ghost coded = { Prim.hlevel (codes, form_code) };
+
     ghost use Rattle.cell_tables.specs.Noted.{AreNotes};
 
     ghost view = { λ noted.

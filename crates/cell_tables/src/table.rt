@@ -29,6 +29,11 @@ impl<'a, V> Model for Table<'a, V> {
 
     ghost Value = { tables.Table V };
 
+    ghost use Rattle.adp_model.specs.WideForm.{form_code};
+    ghost use Rattle.std.specs.Coded.{codes};
+
+    ghost coded = { Prim.hlevel (codes, form_code) };
+
     ghost view = { λ table.
         record { problem = table.problem.now; rows = table.rows; columns = table.columns } };
 

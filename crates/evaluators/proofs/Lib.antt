@@ -7,3 +7,4 @@ pub mod Joining
 pub mod Finishing
 pub mod Playing
 pub mod Watching
+pub mod SentProbes

@@ -1,5 +1,5 @@
 -- Cut numbers: sums, products and greatest numbers of cut numbers are those of the numbers, cut.
-use Rattle.std.proofs.Common.{◌≡◌, ℕ, zero, suc, ◌+◌, ◌*◌, ◌^◌, ◌≤◌, min, max, ◌⊎◌, inl, inr, arith}
+use Rattle.std.proofs.Common.{◌≡◌, ℕ, zero, suc, ◌+◌, ◌*◌, ◌^◌, ◌≤◌, min, max, ◌⊎◌, inl, inr, ap, ap₂, ◌∙◌, arith}
 use Rattle.std.proofs.Math.Nat.{mul-le-mul_left}
 use Rattle.adp_model.specs.LimitFaults.{told}
 
@@ -28,3 +28,16 @@ told-sum a b = omega arith
 
 pub told-max : (a b : ℕ) → max (told a) (told b) ≡ told (max a b)
 told-max a b = omega arith
+
+commuted : (a b : ℕ) → a * b ≡ b * a
+commuted a b = grind arith
+
+told-both : (a b : ℕ) → told (told a * told b) ≡ told (a * b)
+told-both a b = told-product (told a) b ∙ ap told (commuted (told a) b) ∙ told-product b a ∙ ap told (commuted b a)
+
+told-one : (a : ℕ) → max 1 (told a) ≡ told (max 1 a)
+told-one a = omega arith
+
+-- products of numbers at least 1
+pub told-ones : (a b : ℕ) → told (max 1 (told a) * max 1 (told b)) ≡ told (max 1 a * max 1 b)
+told-ones a b = ap₂ (λ x y. told (x * y)) (told-one a) (told-one b) ∙ told-both (max 1 a) (max 1 b)

@@ -6,7 +6,8 @@ use Rattle.adp_model.specs.declared.grammar.Rule as rules
 use Rattle.adp_model.specs.declared.grammar.Grammar.{Grammar}
 use Rattle.adp_model.specs.Parts.{sign_at}
 use Rattle.adp_model.specs.Lengths.{IsProductive}
-use Rattle.adp_model.specs.GrammarFaults.{rule_name, IsNamed, IsFirstFaulty, IsUnproductive, HasMonotoneTerm, HasOtherTerm, IsGrammarFault, NoAlgebra, Unproductive, Loop, NotMonotone}
+use Rattle.adp_model.specs.GrammarSigns.{HasMonotoneTerm}
+use Rattle.adp_model.specs.GrammarFaults.{rule_name, IsNamed, IsFirstFaulty, IsUnproductive, HasOtherTerm, IsGrammarFault, NoAlgebra, Unproductive, Loop, NotMonotone}
 use Rattle.yield_sizes.specs.KnownLengths.{AreProductive}
 use Rattle.yield_sizes.specs.LoopAnswers.{IsLoopFree, IsFirstOnLoop}
 use Rattle.grammar_check.specs.declared.error.CheckError.{CheckError}
@@ -14,7 +15,7 @@ use Rattle.grammar_check.specs.declared.error.CheckError.TheVariants.{Fault, Mem
 use Rattle.grammar_check.specs.CheckAnswers.{IsFirstFalse, IsFirstUnproductive, IsRefusal, MatchFaultless}
 
 -- the refusal of a name that is known by another term
-faulty : (grammar : Grammar) (asked : List ℕ) (kind : ℕ) (name name' : List ℕ) (error : CheckError) → name ≡ name' → IsRefusal kind name error → IsGrammarFault grammar asked (record { kind = kind; name = name' }) → MatchFaultless grammar asked (Err error)
+pub faulty : (grammar : Grammar) (asked : List ℕ) (kind : ℕ) (name name' : List ℕ) (error : CheckError) → name ≡ name' → IsRefusal kind name error → IsGrammarFault grammar asked (record { kind = kind; name = name' }) → MatchFaultless grammar asked (Err error)
 faulty grammar asked kind name name' (Fault fault) same is h = subst (IsGrammarFault grammar asked) (sym (is ∙ ap (λ n. record { kind = kind; name = n }) same)) h
 faulty grammar asked kind name name' Memory same is h = tt
 

@@ -7,8 +7,7 @@ use Rattle.grammar_check.specs.declared.part.Part.{Part}
 use Rattle.grammar_check.specs.declared.part.Worth.{Worth}
 use Rattle.grammar_check.specs.declared.part.Worth.TheVariants.{OfRule, OfLetters}
 use Rattle.grammar_check.specs.Plans.{worth_of, greatest_from, rooms, lows, spread, part_at, is_letters, is_fixed, open_parts, fixed_length, fixed_worth}
-use Rattle.grammar_check.specs.Alternatives.{alternative_value}
-use Rattle.grammar_check.specs.RuleValues.{kept_value}
+use Rattle.grammar_check.specs.Alternatives.{alternative_value, linear_value}
 use Rattle.grammar_check.proofs.Spreads.{added_by}
 use Rattle.grammar_check.proofs.Sweeps.{value_of_ways, value_too_short, value_too_long}
 
@@ -114,28 +113,28 @@ if_false : (b : Bool) (v w : ℕ) → b ≡ false → (if b then v else w) ≡ w
 if_false true v w e = absurd cc
 if_false false v w e = refl
 
-pub kept_some : (bound : ℕ → ℕ → ℕ) (constant fixed : ℕ) (parts : List Part) (len : ℕ) → fixed ≤ len → kept_value bound constant fixed parts len ≡ alternative_value bound constant parts (len - fixed)
+pub kept_some : (bound : ℕ → ℕ → ℕ) (constant fixed : ℕ) (parts : List Part) (len : ℕ) → fixed ≤ len → linear_value bound constant fixed parts len ≡ alternative_value bound constant parts (len - fixed)
 kept_some bound constant fixed parts len long = if_true (nat_le fixed len) (alternative_value bound constant parts (len - fixed)) 0 (le-leb fixed len long)
 
-pub kept_too_short : (bound : ℕ → ℕ → ℕ) (constant fixed : ℕ) (parts : List Part) (len : ℕ) → len < fixed + lows parts → kept_value bound constant fixed parts len ≡ 0
+pub kept_too_short : (bound : ℕ → ℕ → ℕ) (constant fixed : ℕ) (parts : List Part) (len : ℕ) → len < fixed + lows parts → linear_value bound constant fixed parts len ≡ 0
 kept_too_short bound constant fixed parts len short = by (less_or_not len fixed)
   where
-    by : (len < fixed) ⊎ (fixed ≤ len) → kept_value bound constant fixed parts len ≡ 0
+    by : (len < fixed) ⊎ (fixed ≤ len) → linear_value bound constant fixed parts len ≡ 0
     by (inl less) = if_false (nat_le fixed len) (alternative_value bound constant parts (len - fixed)) 0 (lt-leb fixed len less)
     by (inr long) = kept_some bound constant fixed parts len long ∙ value_too_short bound constant parts (len - fixed) (omega arith)
 
-pub kept_too_long : (bound : ℕ → ℕ → ℕ) (constant fixed : ℕ) (parts : List Part) (len : ℕ) → fixed ≤ len → rooms parts < len - (fixed + lows parts) → kept_value bound constant fixed parts len ≡ 0
+pub kept_too_long : (bound : ℕ → ℕ → ℕ) (constant fixed : ℕ) (parts : List Part) (len : ℕ) → fixed ≤ len → rooms parts < len - (fixed + lows parts) → linear_value bound constant fixed parts len ≡ 0
 kept_too_long bound constant fixed parts len long many = kept_some bound constant fixed parts len long ∙ value_too_long bound constant parts (len - fixed) (omega arith)
 
-pub kept_of_ways : (bound : ℕ → ℕ → ℕ) (constant fixed : ℕ) (parts : List Part) (len : ℕ) → fixed + lows parts ≤ len → len - (fixed + lows parts) ≤ rooms parts → kept_value bound constant fixed parts len ≡ constant + spread bound parts (len - (fixed + lows parts))
+pub kept_of_ways : (bound : ℕ → ℕ → ℕ) (constant fixed : ℕ) (parts : List Part) (len : ℕ) → fixed + lows parts ≤ len → len - (fixed + lows parts) ≤ rooms parts → linear_value bound constant fixed parts len ≡ constant + spread bound parts (len - (fixed + lows parts))
 kept_of_ways bound constant fixed parts len long few =
     let spare : len - fixed - lows parts ≡ len - (fixed + lows parts) = omega arith in
     kept_some bound constant fixed parts len (omega arith) ∙ value_of_ways bound constant parts (len - fixed) (omega arith) (omega arith)
     ∙ ap (λ s. constant + spread bound parts s) spare
 
 -- the value of what is kept
-pub kept_value-is : (bound : ℕ → ℕ → ℕ) (constant : ℕ) (parts : List Part) (len : ℕ) → len < 2 ^ 32 → told (kept_value bound (told (constant + fixed_worth parts)) (min (fixed_length parts) (2 ^ 64 - 1)) (open_parts parts) len) ≡ told (alternative_value bound constant parts len)
-kept_value-is bound constant parts len short = by (less_or_not len (lows parts)) (less_or_not (rooms parts) (len - lows parts))
+pub linear_value-is : (bound : ℕ → ℕ → ℕ) (constant : ℕ) (parts : List Part) (len : ℕ) → len < 2 ^ 32 → told (linear_value bound (told (constant + fixed_worth parts)) (min (fixed_length parts) (2 ^ 64 - 1)) (open_parts parts) len) ≡ told (alternative_value bound constant parts len)
+linear_value-is bound constant parts len short = by (less_or_not len (lows parts)) (less_or_not (rooms parts) (len - lows parts))
   where
     fixed : ℕ
     fixed = min (fixed_length parts) (2 ^ 64 - 1)
@@ -143,7 +142,7 @@ kept_value-is bound constant parts len short = by (less_or_not len (lows parts))
     total : lows parts ≡ fixed_length parts + lows (open_parts parts)
     total = lows-open parts
 
-    by : (len < lows parts) ⊎ (lows parts ≤ len) → (rooms parts < len - lows parts) ⊎ (len - lows parts ≤ rooms parts) → told (kept_value bound (told (constant + fixed_worth parts)) fixed (open_parts parts) len) ≡ told (alternative_value bound constant parts len)
+    by : (len < lows parts) ⊎ (lows parts ≤ len) → (rooms parts < len - lows parts) ⊎ (len - lows parts ≤ rooms parts) → told (linear_value bound (told (constant + fixed_worth parts)) fixed (open_parts parts) len) ≡ told (alternative_value bound constant parts len)
     by (inl few) room =
         ap told (kept_too_short bound (told (constant + fixed_worth parts)) fixed (open_parts parts) len (omega (arith, total)) ∙ sym (value_too_short bound constant parts len few))
     by (inr long) (inl many) =
@@ -157,14 +156,14 @@ kept_value-is bound constant parts len short = by (less_or_not len (lows parts))
         let here = kept_of_ways bound (told (constant + fixed_worth parts)) fixed (open_parts parts) len (omega (arith, total)) (omega (arith, total)) ∙ ap (λ s. told (constant + fixed_worth parts) + spread bound (open_parts parts) s) spare in
         let whole = value_of_ways bound constant parts len long few in
         let adds = spread-open bound parts (len - lows parts) few in
-        cut (kept_value bound (told (constant + fixed_worth parts)) fixed (open_parts parts) len) (alternative_value bound constant parts len) constant (fixed_worth parts) (spread bound (open_parts parts) (len - lows parts)) (spread bound parts (len - lows parts)) here whole adds
+        cut (linear_value bound (told (constant + fixed_worth parts)) fixed (open_parts parts) len) (alternative_value bound constant parts len) constant (fixed_worth parts) (spread bound (open_parts parts) (len - lows parts)) (spread bound parts (len - lows parts)) here whole adds
       where
         cut : (kept value constant fixed others all : ℕ) → kept ≡ told (constant + fixed) + others → value ≡ constant + all → all ≡ fixed + others → told kept ≡ told value
         cut kept value constant fixed others all e f g = omega arith
 
 -- of two with the same parts the one with the greater constant has the greater values
-pub kept_value-max : (bound : ℕ → ℕ → ℕ) (constant other fixed : ℕ) (parts : List Part) (len : ℕ) → kept_value bound (max constant other) fixed parts len ≡ max (kept_value bound constant fixed parts len) (kept_value bound other fixed parts len)
-kept_value-max bound constant other fixed parts len = by (nat_le fixed len) (nat_le (lows parts) (len - fixed) && nat_le (len - fixed - lows parts) (rooms parts)) (spread bound parts (len - fixed - lows parts))
+pub linear_value-max : (bound : ℕ → ℕ → ℕ) (constant other fixed : ℕ) (parts : List Part) (len : ℕ) → linear_value bound (max constant other) fixed parts len ≡ max (linear_value bound constant fixed parts len) (linear_value bound other fixed parts len)
+linear_value-max bound constant other fixed parts len = by (nat_le fixed len) (nat_le (lows parts) (len - fixed) && nat_le (len - fixed - lows parts) (rooms parts)) (spread bound parts (len - fixed - lows parts))
   where
     by : (b d : Bool) (s : ℕ) → (if b then (if d then max constant other + s else 0) else 0) ≡ max (if b then (if d then constant + s else 0) else 0) (if b then (if d then other + s else 0) else 0)
     by true true s = omega arith

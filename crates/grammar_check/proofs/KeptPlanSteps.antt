@@ -2,23 +2,24 @@
 use Rattle.std.proofs.Common.{◌≡◌, ◌≢◌, ℕ, zero, suc, ◌+◌, ◌-◌, ◌*◌, ◌^◌, ◌<◌, ◌≤◌, min, max, Bool, true, false, ◌&&◌, nat_le, ◌⊎◌, inl, inr, List, [], ◌∷◌, ◌++◌, length, map, slice_index_or, slice_set, refl, sym, ap, ap₂, subst, ◌∙◌, arith}
 use Rattle.std.specs.Prelude.{if◌then◌else◌}
 use Rattle.std.specs.List.{All}
+use Rattle.std.proofs.lemmas.Bool.{le-leb}
 use Rattle.std.proofs.lemmas.List.{map-append, map-set, get_or-map, get_or_append_left, get_or_push, get_or_default, length-map, length_push, length-set, get_or-set_other, get_or-set_same}
 use Rattle.adp_model.specs.LimitFaults.{told}
 use Rattle.adp_model.specs.declared.grammar.Rule as rules
 use Rattle.adp_model.specs.declared.grammar.Grammar.{Grammar}
+use Rattle.adp_model.specs.WideForm as wide
 use Rattle.grammar_check.specs.declared.part.Part.{Part}
 use Rattle.grammar_check.specs.declared.part.Worth.TheVariants.{OfLetters}
 use Rattle.grammar_check.specs.declared.alternative.Alternative.{Alternative}
 use Rattle.grammar_check.specs.declared.rule_plan.RulePlan.{RulePlan}
 use Rattle.grammar_check.specs.declared.measure.Measure.{Measure}
 use Rattle.grammar_check.specs.Plans.{IsReadable, lows, part_at, open_parts, fixed_length, fixed_worth}
-use Rattle.grammar_check.specs.Alternatives.{alternative_value}
-use Rattle.grammar_check.specs.RuleValues.{rule_value, kept_of, plan_of, kept_value, kept_rule_value}
+use Rattle.grammar_check.specs.RuleValues.{Entry, Kept, Own, own_value, rule_value, kept_of, plan_of, kept_value, kept_rule_value}
 use Rattle.grammar_check.specs.GrammarPlans.{Lengths, entry_in, grammar_plan}
 use Rattle.grammar_check.specs.Fills.{IsRuleReadable, rules_plan, plan_at, parts_at, kept_at, kept_entry, IsPlanned, IsKept, NamesLesser, IsRanked, IsKeptRanked}
 use Rattle.grammar_check.specs.TokenNumbers.{greatest_of, letters_worth, token_number, alternative_tokens, tokens_number}
-use Rattle.grammar_check.specs.KeptPlans.{KeepsParts, SameParts, AddsKept, KeepsPlan, KeepsAll, rule_tokens}
-use Rattle.grammar_check.proofs.Kept.{less_or_not, kept_value-is, kept_value-max, lows-open, open_found}
+use Rattle.grammar_check.specs.KeptPlans.{KeepsParts, KeepsPartsOf, SameParts, AddsKept, KeepsPlan, KeepsAll, rule_tokens}
+use Rattle.grammar_check.proofs.Kept.{less_or_not, linear_value-is, linear_value-max, IsPartOf, lows-open, open_found}
 use Rattle.grammar_check.proofs.Sweeps.{low_at}
 use Rattle.grammar_check.proofs.ScoreNumbers.{of_above}
 
@@ -59,89 +60,87 @@ greatest_of-map number f (item ∷ items) = ap (λ n. max (number (f item)) n) (
 
 -- ---- one alternative more
 
-rule_value-push : (bound : ℕ → ℕ → ℕ) (entries : List (ℕ × List Part)) (entry : ℕ × List Part) (len : ℕ) → rule_value bound (entries ++ entry ∷ []) len ≡ max (rule_value bound entries len) (alternative_value bound entry.0 entry.1 len)
-rule_value-push bound [] entry len = let here = alternative_value bound entry.0 entry.1 len in omega arith
+rule_value-push : (bound : ℕ → ℕ → ℕ) (entries : List Entry) (entry : Entry) (len : ℕ) → rule_value bound (entries ++ entry ∷ []) len ≡ max (rule_value bound entries len) (own_value bound entry.0 entry.1 len)
+rule_value-push bound [] entry len = let here = own_value bound entry.0 entry.1 len in omega arith
 rule_value-push bound (first ∷ entries) entry len =
     let rest = rule_value-push bound entries entry len in
-    let here = alternative_value bound first.0 first.1 len in
+    let here = own_value bound first.0 first.1 len in
     let all = rule_value bound entries len in
-    let last = alternative_value bound entry.0 entry.1 len in omega arith
+    let last = own_value bound entry.0 entry.1 len in omega arith
 
-kept_rule_value-push : (bound : ℕ → ℕ → ℕ) (plan : List (ℕ × ℕ × List Part)) (kept : ℕ × ℕ × List Part) (len : ℕ) → kept_rule_value bound (plan ++ kept ∷ []) len ≡ max (kept_rule_value bound plan len) (kept_value bound kept.0 kept.1 kept.2 len)
-kept_rule_value-push bound [] kept len = let here = kept_value bound kept.0 kept.1 kept.2 len in omega arith
+kept_rule_value-push : (bound : ℕ → ℕ → ℕ) (plan : List Kept) (kept : Kept) (len : ℕ) → kept_rule_value bound (plan ++ kept ∷ []) len ≡ max (kept_rule_value bound plan len) (kept_value bound kept len)
+kept_rule_value-push bound [] kept len = let here = kept_value bound kept len in omega arith
 kept_rule_value-push bound (first ∷ plan) kept len =
     let rest = kept_rule_value-push bound plan kept len in
-    let here = kept_value bound first.0 first.1 first.2 len in
+    let here = kept_value bound first len in
     let all = kept_rule_value bound plan len in
-    let last = kept_value bound kept.0 kept.1 kept.2 len in omega arith
+    let last = kept_value bound kept len in omega arith
 
 -- one that stands there has its constant raised
-kept_rule_value-set : (bound : ℕ → ℕ → ℕ) (plan : List (ℕ × ℕ × List Part)) (place : ℕ) (d : ℕ × ℕ × List Part) (constant other fixed : ℕ) (parts : List Part) (len : ℕ) → place < length plan → slice_index_or plan place d ≡ (constant, fixed, parts) → kept_rule_value bound (slice_set plan place (max constant other, fixed, parts)) len ≡ max (kept_rule_value bound plan len) (kept_value bound other fixed parts len)
+kept_rule_value-set : (bound : ℕ → ℕ → ℕ) (plan : List Kept) (place : ℕ) (d : Kept) (constant other fixed : ℕ) (parts : List Part) (len : ℕ) → place < length plan → slice_index_or plan place d ≡ (inl constant, fixed, parts) → kept_rule_value bound (slice_set plan place (inl (max constant other), fixed, parts)) len ≡ max (kept_rule_value bound plan len) (kept_value bound (inl other, fixed, parts) len)
 kept_rule_value-set bound [] place d constant other fixed parts len inside here = absurd (omega arith)
 kept_rule_value-set bound (first ∷ plan) zero d constant other fixed parts len inside here =
-    let old : kept_value bound first.0 first.1 first.2 len ≡ kept_value bound constant fixed parts len = ap (λ (e : ℕ × ℕ × List Part). kept_value bound e.0 e.1 e.2 len) here in
-    let new = kept_value-max bound constant other fixed parts len in
-    among (kept_value bound (max constant other) fixed parts len) (kept_rule_value bound plan len) (kept_value bound first.0 first.1 first.2 len) (kept_value bound constant fixed parts len) (kept_value bound other fixed parts len) old new
+    let old : kept_value bound first len ≡ kept_value bound (inl constant, fixed, parts) len = ap (λ (e : Kept). kept_value bound e len) here in
+    let new = linear_value-max bound constant other fixed parts len in
+    among (kept_value bound (inl (max constant other), fixed, parts) len) (kept_rule_value bound plan len) (kept_value bound first len) (kept_value bound (inl constant, fixed, parts) len) (kept_value bound (inl other, fixed, parts) len) old new
   where
     among : (new all old here more : ℕ) → old ≡ here → new ≡ max here more → max new all ≡ max (max old all) more
     among new all old here more e f = omega arith
 kept_rule_value-set bound (first ∷ plan) (suc place) d constant other fixed parts len inside here =
     let rest = kept_rule_value-set bound plan place d constant other fixed parts len (omega arith) here in
-    among (kept_value bound first.0 first.1 first.2 len) (kept_rule_value bound (slice_set plan place (max constant other, fixed, parts)) len) (kept_rule_value bound plan len) (kept_value bound other fixed parts len) rest
+    among (kept_value bound first len) (kept_rule_value bound (slice_set plan place (inl (max constant other), fixed, parts)) len) (kept_rule_value bound plan len) (kept_value bound (inl other, fixed, parts) len) rest
   where
     among : (first new all more : ℕ) → new ≡ max all more → max first new ≡ max (max first all) more
     among first new all more e = omega arith
 
-pub push_adds : (plan : List (ℕ × ℕ × List Part)) (kept : ℕ × ℕ × List Part) → AddsKept plan (plan ++ kept ∷ []) kept
+pub push_adds : (plan : List Kept) (kept : Kept) → AddsKept plan (plan ++ kept ∷ []) kept
 push_adds plan kept = record {
   values = λ bound len. kept_rule_value-push bound plan kept len;
   parts = λ place inside. by place inside (less_or_not place (length plan));
 }
   where
-    by : (place : ℕ) → place < length (plan ++ kept ∷ []) → (place < length plan) ⊎ (length plan ≤ place) → SameParts (slice_index_or (plan ++ kept ∷ []) place (0, 0, [])) kept ⊎ ((place < length plan) × SameParts (slice_index_or (plan ++ kept ∷ []) place (0, 0, [])) (slice_index_or plan place (0, 0, [])))
+    by : (place : ℕ) → place < length (plan ++ kept ∷ []) → (place < length plan) ⊎ (length plan ≤ place) → SameParts (slice_index_or (plan ++ kept ∷ []) place (inl 0, 0, [])) kept ⊎ ((place < length plan) × SameParts (slice_index_or (plan ++ kept ∷ []) place (inl 0, 0, [])) (slice_index_or plan place (inl 0, 0, [])))
     by place inside (inl less) =
-        let same = get_or_append_left plan (kept ∷ []) (0, 0, []) place less in
-        inr (less, (ap (λ (e : ℕ × ℕ × List Part). e.1) same, ap (λ (e : ℕ × ℕ × List Part). e.2) same))
+        let same = get_or_append_left plan (kept ∷ []) (inl 0, 0, []) place less in
+        inr (less, (ap (λ (e : Kept). e.1) same, ap (λ (e : Kept). e.2) same))
     by place inside (inr past) =
         let last : place ≡ length plan = omega (arith, length_push plan kept) in
-        let same : slice_index_or (plan ++ kept ∷ []) place (0, 0, []) ≡ kept = get_or_push plan kept (0, 0, []) place (sym last) in
-        inl (ap (λ (e : ℕ × ℕ × List Part). e.1) same, ap (λ (e : ℕ × ℕ × List Part). e.2) same)
+        let same : slice_index_or (plan ++ kept ∷ []) place (inl 0, 0, []) ≡ kept = get_or_push plan kept (inl 0, 0, []) place (sym last) in
+        inl (ap (λ (e : Kept). e.1) same, ap (λ (e : Kept). e.2) same)
 
-pub set_adds : (plan : List (ℕ × ℕ × List Part)) (at : ℕ) (constant other fixed : ℕ) (parts : List Part) → at < length plan → slice_index_or plan at (0, 0, []) ≡ (constant, fixed, parts) → AddsKept plan (slice_set plan at (max constant other, fixed, parts)) (other, fixed, parts)
+pub set_adds : (plan : List Kept) (at : ℕ) (constant other fixed : ℕ) (parts : List Part) → at < length plan → slice_index_or plan at (inl 0, 0, []) ≡ (inl constant, fixed, parts) → AddsKept plan (slice_set plan at (inl (max constant other), fixed, parts)) (inl other, fixed, parts)
 set_adds plan at constant other fixed parts inside here = record {
-  values = λ bound len. kept_rule_value-set bound plan at (0, 0, []) constant other fixed parts len inside here;
+  values = λ bound len. kept_rule_value-set bound plan at (inl 0, 0, []) constant other fixed parts len inside here;
   parts = λ place below. by place below (same_or_not place at);
 }
   where
     same_or_not : (a b : ℕ) → (a ≡ b) ⊎ (a ≢ b)
     same_or_not a b = grind arith
 
-    new : ℕ × ℕ × List Part
-    new = (max constant other, fixed, parts)
+    new : Kept
+    new = (inl (max constant other), fixed, parts)
 
-    by : (place : ℕ) → place < length (slice_set plan at new) → (place ≡ at) ⊎ (place ≢ at) → SameParts (slice_index_or (slice_set plan at new) place (0, 0, [])) (other, fixed, parts) ⊎ ((place < length plan) × SameParts (slice_index_or (slice_set plan at new) place (0, 0, [])) (slice_index_or plan place (0, 0, [])))
+    by : (place : ℕ) → place < length (slice_set plan at new) → (place ≡ at) ⊎ (place ≢ at) → SameParts (slice_index_or (slice_set plan at new) place (inl 0, 0, [])) (inl other, fixed, parts) ⊎ ((place < length plan) × SameParts (slice_index_or (slice_set plan at new) place (inl 0, 0, [])) (slice_index_or plan place (inl 0, 0, [])))
     by place below (inl same) =
-        let found : slice_index_or (slice_set plan at new) place (0, 0, []) ≡ new = ap (λ n. slice_index_or (slice_set plan at new) n (0, 0, [])) same ∙ get_or-set_same plan at new (0, 0, []) inside in
-        inl (ap (λ (e : ℕ × ℕ × List Part). e.1) found, ap (λ (e : ℕ × ℕ × List Part). e.2) found)
+        let found : slice_index_or (slice_set plan at new) place (inl 0, 0, []) ≡ new = ap (λ n. slice_index_or (slice_set plan at new) n (inl 0, 0, [])) same ∙ get_or-set_same plan at new (inl 0, 0, []) inside in
+        inl (ap (λ (e : Kept). e.1) found, ap (λ (e : Kept). e.2) found)
     by place below (inr differ) =
-        let found = get_or-set_other plan at place new (0, 0, []) differ in
-        inr (omega (arith, length-set plan at new), (ap (λ (e : ℕ × ℕ × List Part). e.1) found, ap (λ (e : ℕ × ℕ × List Part). e.2) found))
+        let found = get_or-set_other plan at place new (inl 0, 0, []) differ in
+        inr (omega (arith, length-set plan at new), (ap (λ (e : Kept). e.1) found, ap (λ (e : Kept). e.2) found))
 
 -- an alternative with the same parts has its constant raised
-pub raise_adds : (alternatives : List Alternative) (place : ℕ) (old new : Alternative) (other fixed : ℕ) (parts : List Part) → place < length alternatives → old ≡ slice_index_or alternatives place old → new.constant ≡ max old.constant other → new.fixed ≡ old.fixed → new.parts.items ≡ old.parts.items → old.fixed ≡ fixed → old.parts.items ≡ parts → AddsKept (plan_of alternatives) (plan_of (slice_set alternatives place new)) (other, fixed, parts)
-raise_adds alternatives place old new other fixed parts inside old_is constant same_fixed same_parts fixed_is parts_is =
-    let here : slice_index_or (plan_of alternatives) place (0, 0, []) ≡ (old.constant, fixed, parts) =
-    get_or-map kept_of alternatives place old (0, 0, []) inside ∙ ap kept_of (sym old_is) ∙ (λ i. (old.constant, fixed_is i, parts_is i)) in
-    let new_is : kept_of new ≡ (max old.constant other, fixed, parts) = λ i. (constant i, (same_fixed ∙ fixed_is) i, (same_parts ∙ parts_is) i) in
-    subst (λ ps. AddsKept (plan_of alternatives) ps (other, fixed, parts)) (sym (map-set kept_of alternatives place new ∙ ap (λ (e : ℕ × ℕ × List Part). slice_set (plan_of alternatives) place e) new_is))
-    (set_adds (plan_of alternatives) place old.constant other fixed parts (omega (arith, length-map alternatives kept_of)) here)
+pub raise_adds : (alternatives : List Alternative) (place : ℕ) (old new : Alternative) (constant other fixed : ℕ) (parts : List Part) → place < length alternatives → old ≡ slice_index_or alternatives place old → kept_of old ≡ (inl constant, fixed, parts) → kept_of new ≡ (inl (max constant other), fixed, parts) → AddsKept (plan_of alternatives) (plan_of (slice_set alternatives place new)) (inl other, fixed, parts)
+raise_adds alternatives place old new constant other fixed parts inside old_is kept_is new_is =
+    let here : slice_index_or (plan_of alternatives) place (inl 0, 0, []) ≡ (inl constant, fixed, parts) =
+    get_or-map kept_of alternatives place old (inl 0, 0, []) inside ∙ ap kept_of (sym old_is) ∙ kept_is in
+    subst (λ ps. AddsKept (plan_of alternatives) ps (inl other, fixed, parts)) (sym (map-set kept_of alternatives place new ∙ ap (λ (e : Kept). slice_set (plan_of alternatives) place e) new_is))
+    (set_adds (plan_of alternatives) place constant other fixed parts (omega (arith, length-map alternatives kept_of)) here)
 
 -- an alternative comes last
-pub last_adds : (alternatives : List Alternative) (new : Alternative) (constant fixed : ℕ) (parts : List Part) → new.constant ≡ constant → new.fixed ≡ fixed → new.parts.items ≡ parts → AddsKept (plan_of alternatives) (plan_of (alternatives ++ new ∷ [])) (constant, fixed, parts)
-last_adds alternatives new constant fixed parts constant_is fixed_is parts_is =
-    let new_is : kept_of new ≡ (constant, fixed, parts) = λ i. (constant_is i, fixed_is i, parts_is i) in
-    subst (λ ps. AddsKept (plan_of alternatives) ps (constant, fixed, parts)) (sym (map-append kept_of alternatives (new ∷ []) ∙ ap (λ (e : ℕ × ℕ × List Part). plan_of alternatives ++ e ∷ []) new_is))
-    (push_adds (plan_of alternatives) (constant, fixed, parts))
+pub last_adds : (alternatives : List Alternative) (new : Alternative) (kept : Kept) → kept_of new ≡ kept → AddsKept (plan_of alternatives) (plan_of (alternatives ++ new ∷ [])) kept
+last_adds alternatives new kept new_is =
+    subst (λ ps. AddsKept (plan_of alternatives) ps kept) (sym (map-append kept_of alternatives (new ∷ []) ∙ ap (λ (e : Kept). plan_of alternatives ++ e ∷ []) new_is))
+    (push_adds (plan_of alternatives) kept)
 
 -- ---- tokens
 
@@ -165,44 +164,85 @@ known_token tokens part len found =
     let above = of_above (token_number len) tokens found.0 part found.1 in
     nothing_more (greatest_of (token_number len) tokens) (token_number len part) (subst (λ p. token_number len p ≤ greatest_of (token_number len) tokens) found.2 above)
 
+-- ---- what is kept of an entry
+
+same_keeps : (own : Own) (parts : List Part) (kept other : Kept) → SameParts other kept → KeepsPartsOf own parts kept → KeepsPartsOf own parts other
+same_keeps (inl constant) parts kept other same h = (same.0 ∙ h.0, same.1 ∙ h.1)
+same_keeps (inr term) parts kept other same h = (same.0 ∙ h.0, same.1 ∙ h.1)
+
+-- a kept part is one of the entry's
+kept_found : (own : Own) (parts : List Part) (kept : Kept) (place : ℕ) → KeepsPartsOf own parts kept → place < length kept.2 → IsPartOf parts (part_at kept.2 place)
+kept_found (inl constant) parts kept place h inside =
+    let found = open_found parts place (subst (λ ps. place < length ps) h.1 inside) in
+    record { place = found.place; inside = found.inside; part_is = found.part_is ∙ ap (λ ps. part_at ps place) (sym h.1) }
+kept_found (inr term) parts kept place h inside =
+    record { place = place; inside = subst (λ ps. place < length ps) h.1 inside; part_is = ap (λ ps. part_at ps place) (sym h.1) }
+
+-- where all other kept parts can be empty, and there are no letters of tokens, so can all others of the entry
+kept_alone : (own : Own) (parts : List Part) (kept : Kept) (place : ℕ) → KeepsPartsOf own parts kept → place < length kept.2 → kept.1 + lows kept.2 ≤ (part_at kept.2 place).low → lows parts ≤ (part_at kept.2 place).low
+kept_alone (inl constant) parts kept place h inside least_only =
+    let low = low_at kept.2 place inside in
+    let total = lows-open parts in
+    let others : lows kept.2 ≡ lows (open_parts parts) = ap lows h.1 in
+    let fixed = h.0 in
+    omega (arith, fixed, total, others, low, least_only)
+kept_alone (inr term) parts kept place h inside least_only =
+    let others : lows kept.2 ≡ lows parts = ap lows h.1 in
+    omega (arith, others, least_only)
+
 -- the plan with one entry more
-pub keeps_more : (entries : List (ℕ × List Part)) (before after : List (ℕ × ℕ × List Part)) (tokens tokens' parts : List Part) (constant : ℕ) → KeepsPlan entries before tokens → AddsKept before after (told (constant + fixed_worth parts), min (fixed_length parts) (2 ^ 64 - 1), open_parts parts) → ((len : ℕ) → greatest_of (token_number len) tokens' ≡ max (greatest_of (token_number len) tokens) (greatest_of (token_number len) parts)) → KeepsPlan (entries ++ (constant, parts) ∷ []) after tokens'
-keeps_more entries before after tokens tokens' parts constant keeps adds counts = record {
+pub keeps_more : (entries : List Entry) (before after : List Kept) (tokens tokens' parts : List Part) (own : Own) (kept : Kept) → KeepsPlan entries before tokens → AddsKept before after kept
+    → ((bound : ℕ → ℕ → ℕ) (len : ℕ) → len < 2 ^ 32 → told (kept_value bound kept len) ≡ told (own_value bound own parts len)) → KeepsPartsOf own parts kept
+    → ((len : ℕ) → greatest_of (token_number len) tokens' ≡ max (greatest_of (token_number len) tokens) (greatest_of (token_number len) parts)) → KeepsPlan (entries ++ (own, parts) ∷ []) after tokens'
+keeps_more entries before after tokens tokens' parts own kept keeps adds value_is parts_are counts = record {
   values = λ bound len short.
-      cut (kept_rule_value bound after len) (kept_rule_value bound before len) (kept_value bound (told (constant + fixed_worth parts)) (min (fixed_length parts) (2 ^ 64 - 1)) (open_parts parts) len) (rule_value bound entries len) (alternative_value bound constant parts len) (rule_value bound (entries ++ (constant, parts) ∷ []) len)
-      (adds.values bound len) (keeps.values bound len short) (kept_value-is bound constant parts len short) (rule_value-push bound entries (constant, parts) len);
+      cut (kept_rule_value bound after len) (kept_rule_value bound before len) (kept_value bound kept len) (rule_value bound entries len) (own_value bound own parts len) (rule_value bound (entries ++ (own, parts) ∷ []) len)
+      (adds.values bound len) (keeps.values bound len short) (value_is bound len short) (rule_value-push bound entries (own, parts) len);
   parts = λ place inside. by place (adds.parts place inside);
   tokens_are = λ len.
       counts len ∙ ap (λ n. max n (greatest_of (token_number len) parts)) (keeps.tokens_are len)
-      ∙ sym (greatest_of-push (alternative_tokens len) entries (constant, parts));
+      ∙ sym (greatest_of-push (alternative_tokens len) entries (own, parts));
 }
   where
     cut : (after before kept all one whole : ℕ) → after ≡ max before kept → told before ≡ told all → told kept ≡ told one → whole ≡ max all one → told after ≡ told whole
     cut after before kept all one whole e f g h = omega arith
 
-    last : slice_index_or (entries ++ (constant, parts) ∷ []) (length entries) (0, []) ≡ (constant, parts)
-    last = get_or_push entries (constant, parts) (0, []) (length entries) refl
+    last : slice_index_or (entries ++ (own, parts) ∷ []) (length entries) (inl 0, []) ≡ (own, parts)
+    last = get_or_push entries (own, parts) (inl 0, []) (length entries) refl
 
-    by : (place : ℕ) → SameParts (slice_index_or after place (0, 0, [])) (told (constant + fixed_worth parts), min (fixed_length parts) (2 ^ 64 - 1), open_parts parts) ⊎ ((place < length before) × SameParts (slice_index_or after place (0, 0, [])) (slice_index_or before place (0, 0, [])))
-        → (at : ℕ) × (at < length (entries ++ (constant, parts) ∷ [])) × KeepsParts (slice_index_or (entries ++ (constant, parts) ∷ []) at (0, [])) (slice_index_or after place (0, 0, []))
+    by : (place : ℕ) → SameParts (slice_index_or after place (inl 0, 0, [])) kept ⊎ ((place < length before) × SameParts (slice_index_or after place (inl 0, 0, [])) (slice_index_or before place (inl 0, 0, [])))
+        → (at : ℕ) × (at < length (entries ++ (own, parts) ∷ [])) × KeepsParts (slice_index_or (entries ++ (own, parts) ∷ []) at (inl 0, [])) (slice_index_or after place (inl 0, 0, []))
     by place (inl same) = (
       length entries,
-      omega (arith, length_push entries (constant, parts)),
-      (
-        same.0 ∙ ap (λ (e : ℕ × List Part). min (fixed_length e.1) (2 ^ 64 - 1)) (sym last),
-        same.1 ∙ ap (λ (e : ℕ × List Part). open_parts e.1) (sym last),
-      ),
+      omega (arith, length_push entries (own, parts)),
+      subst (λ (e : Entry). KeepsParts e (slice_index_or after place (inl 0, 0, []))) (sym last)
+          (same_keeps own parts kept (slice_index_or after place (inl 0, 0, [])) same parts_are),
     )
     by place (inr old) =
         let from = keeps.parts place old.0 in
-        let same : slice_index_or (entries ++ (constant, parts) ∷ []) from.0 (0, []) ≡ slice_index_or entries from.0 (0, []) = get_or_append_left entries ((constant, parts) ∷ []) (0, []) from.0 from.1 in (
+        let same : slice_index_or (entries ++ (own, parts) ∷ []) from.0 (inl 0, []) ≡ slice_index_or entries from.0 (inl 0, []) = get_or_append_left entries ((own, parts) ∷ []) (inl 0, []) from.0 from.1 in
+        let entry = slice_index_or entries from.0 (inl 0, []) in (
           from.0,
-          omega (arith, from.1, length_push entries (constant, parts)),
-          (
-            old.1.0 ∙ from.2.0 ∙ ap (λ (e : ℕ × List Part). min (fixed_length e.1) (2 ^ 64 - 1)) (sym same),
-            old.1.1 ∙ from.2.1 ∙ ap (λ (e : ℕ × List Part). open_parts e.1) (sym same),
-          ),
+          omega (arith, from.1, length_push entries (own, parts)),
+          subst (λ (e : Entry). KeepsParts e (slice_index_or after place (inl 0, 0, []))) (sym same)
+              (same_keeps entry.0 entry.1 (slice_index_or before place (inl 0, 0, [])) (slice_index_or after place (inl 0, 0, [])) old.1 from.2),
         )
+
+-- the plan with one entry more whose parts add up
+pub keeps_linear : (entries : List Entry) (before after : List Kept) (tokens tokens' parts : List Part) (constant : ℕ) → KeepsPlan entries before tokens → AddsKept before after (inl (told (constant + fixed_worth parts)), min (fixed_length parts) (2 ^ 64 - 1), open_parts parts) → ((len : ℕ) → greatest_of (token_number len) tokens' ≡ max (greatest_of (token_number len) tokens) (greatest_of (token_number len) parts)) → KeepsPlan (entries ++ (inl constant, parts) ∷ []) after tokens'
+keeps_linear entries before after tokens tokens' parts constant keeps adds counts =
+    keeps_more entries before after tokens tokens' parts (inl constant) (inl (told (constant + fixed_worth parts)), min (fixed_length parts) (2 ^ 64 - 1), open_parts parts) keeps adds
+    (λ bound len short. linear_value-is bound constant parts len short) (refl, refl) counts
+
+-- the plan with one entry more that has a wide term
+pub keeps_wide : (entries : List Entry) (before after : List Kept) (tokens tokens' parts : List Part) (term : wide.WideForm) → KeepsPlan entries before tokens → AddsKept before after (inr term, 0, parts) → ((len : ℕ) → greatest_of (token_number len) tokens' ≡ max (greatest_of (token_number len) tokens) (greatest_of (token_number len) parts)) → KeepsPlan (entries ++ (inr term, parts) ∷ []) after tokens'
+keeps_wide entries before after tokens tokens' parts term keeps adds counts =
+    keeps_more entries before after tokens tokens' parts (inr term) (inr term, 0, parts) keeps adds
+    (λ bound len short. ap told (if_true (nat_le 0 len) (own_value bound (inr term) parts (len - 0)) 0 (le-leb 0 len (omega arith)) ∙ (let same : len - 0 ≡ len = omega arith in ap (own_value bound (inr term) parts) same))) (refl, refl) counts
+  where
+    if_true : (b : Bool) (v w : ℕ) → b ≡ true → (if b then v else w) ≡ v
+    if_true true v w e = refl
+    if_true false v w e = absurd cc
 
 -- ---- the plans of a grammar
 
@@ -227,17 +267,14 @@ module _ (grammar : Grammar) (measure : Measure) (lengths : Lengths) (plans : Li
   pub kept_ranked : (ranks : List ℕ) → IsRanked ranks (grammar_plan grammar measure lengths) → IsKeptRanked ranks (rules_plan plans)
   kept_ranked ranks ranked rule alternative place inside in_rule in_parts least_only =
       let from = (of_rule rule (first_plan plans rule (omega (arith, kept_length))) (omega (arith, kept_length))).parts alternative in_rule in
-      let entry = kept_entry (rules_plan plans) rule alternative in
+      let kept = kept_entry (rules_plan plans) rule alternative in
+      let entry = slice_index_or (plan_at (grammar_plan grammar measure lengths) rule) from.0 (inl 0, []) in
       let parts = parts_at (grammar_plan grammar measure lengths) rule from.0 in
-      let found = open_found parts place (subst (λ ps. place < length ps) from.2.1 in_parts) in
-      let same : part_at parts found.place ≡ part_at entry.2 place = found.part_is ∙ ap (λ ps. part_at ps place) (sym from.2.1) in
-      let low = low_at entry.2 place in_parts in
-      let total = lows-open parts in
-      let others : lows entry.2 ≡ lows (open_parts parts) = ap lows from.2.1 in
-      let fixed = from.2.0 in
-      let alone : lows parts ≤ (part_at parts found.place).low = subst (λ (p : Part). lows parts ≤ p.low) (sym same) (omega (arith, fixed, total, others, low, least_only)) in
-      subst (λ (p : Part). NamesLesser ranks rule p.worth) same
-      (ranked rule from.0 found.place (omega (arith, plan_length, kept_length)) from.1 found.inside alone)
+      let found = kept_found entry.0 entry.1 kept place from.2 in_parts in
+      let alone = kept_alone entry.0 entry.1 kept place from.2 in_parts least_only in
+      subst (λ (p : Part). NamesLesser ranks rule p.worth) found.part_is
+      (ranked rule from.0 found.place (omega (arith, plan_length, kept_length)) from.1 found.inside
+      (subst (λ (p : Part). lows parts ≤ p.low) (sym found.part_is) alone))
 
   pub kept_tokens : (len : ℕ) → greatest_of (rule_tokens len) plans ≡ tokens_number len (grammar_plan grammar measure lengths)
   kept_tokens len =
@@ -250,10 +287,9 @@ module _ (grammar : Grammar) (measure : Measure) (lengths : Lengths) (plans : Li
       let here = keeps.keeps rule d inside in
       let in_plan : alternative < length (plan_of plan.alternatives.items) = omega (arith, length-map plan.alternatives.items kept_of) in
       let from = here.parts alternative in_plan in
-      let same_parts : (slice_index_or plan.alternatives.items alternative e).parts.items ≡ open_parts (parts_at (grammar_plan grammar measure lengths) rule from.0) =
-      sym (ap (λ (k : ℕ × ℕ × List Part). k.2) (get_or-map kept_of plan.alternatives.items alternative e (0, 0, []) in_rule)) ∙ from.2.1 in
-      let ps = (slice_index_or plan.alternatives.items alternative e).parts.items in
-      let parts = parts_at (grammar_plan grammar measure lengths) rule from.0 in
-      let found = open_found parts place (subst (λ (xs : List Part). place < length xs) same_parts in_parts) in
-      let part : part_at parts found.place ≡ slice_index_or ps place p = found.part_is ∙ ap (λ xs. part_at xs place) (sym same_parts) ∙ get_or_default ps place (record { worth = OfLetters 0 0; low = 0; room = 0 }) p in_parts in
+      let kept = kept_of (slice_index_or plan.alternatives.items alternative e) in
+      let same : slice_index_or (plan_of plan.alternatives.items) alternative (inl 0, 0, []) ≡ kept = get_or-map kept_of plan.alternatives.items alternative e (inl 0, 0, []) in_rule in
+      let entry = slice_index_or (plan_at (grammar_plan grammar measure lengths) rule) from.0 (inl 0, []) in
+      let found = kept_found entry.0 entry.1 kept place (subst (KeepsPartsOf entry.0 entry.1) same from.2) in_parts in
+      let part : part_at entry.1 found.place ≡ slice_index_or kept.2 place p = found.part_is ∙ get_or_default kept.2 place (record { worth = OfLetters 0 0; low = 0; room = 0 }) p in_parts in
       subst (λ (x : Part). IsReadable rules x.worth) part (readable rule from.0 (omega (arith, keeps.each)) from.1 found.place (record { worth = OfLetters 0 0; low = 0; room = 0 }) found.inside)

@@ -6,7 +6,7 @@ use Rattle.adp_model.specs.declared.grammar.Arg.{Arg}
 use Rattle.adp_model.specs.declared.grammar.Arg.TheVariants.{Rule, Literal, Letter, Run}
 use Rattle.adp_model.specs.declared.grammar.Grammar.{Grammar}
 use Rattle.adp_model.specs.Lengths.{HasLength}
-use Rattle.adp_model.specs.Sizes.{IsLeastSize, IsGreatestSize, IsWithinSizes, IsBetween}
+use Rattle.adp_model.specs.Sizes.{IsLeastSize, IsWithinSizes, IsBetween}
 use Rattle.adp_model.specs.Loops.{CanBeEmpty, AreEmptyBut}
 use Rattle.adp_model.specs.Bounds.{IsInRange, AreInRange}
 use Rattle.grammar_check.specs.declared.part.Worth.{Worth}
@@ -66,7 +66,7 @@ alone_more grammar argument arguments (OfLetters weight factor) empty rest = tt
 
 module _ (grammar : Grammar) (least : List ℕ) (greatest : List (Option ℕ))
     (least_are : (rule : ℕ) → rule < length grammar.rules → IsLeastSize grammar rule (slice_index least rule))
-    (greatest_are : (rule : ℕ) → rule < length grammar.rules → IsGreatestSize grammar rule (slice_index_or greatest rule None))
+    (ordered : (rule : ℕ) → rule < length grammar.rules → IfSome (slice_index_or greatest rule None) (λ most. slice_index least rule ≤ most))
     (between : (rule len : ℕ) → rule < length grammar.rules → IsWithinSizes grammar rule len ↔ IsBetween least greatest rule len) where
   range_low : (argument : Arg) (len : ℕ) → IsSound grammar argument → IsInRange grammar argument len → low_in least argument ≤ len
   range_low (Rule rule) len sound fits = ((between rule len sound).0 fits).0
@@ -86,14 +86,8 @@ module _ (grammar : Grammar) (least : List ℕ) (greatest : List (Option ℕ))
   range_is (Letter class) len sound low high = omega (arith, low, high)
   range_is (Run class from to) len sound low high = (low, high)
 
-  sizes_in_order : (rule : ℕ) (size : ℕ) (top : Option ℕ) → IsLeastSize grammar rule size → IsGreatestSize grammar rule top → IfSome top (λ most. size ≤ most)
-  sizes_in_order rule size None h k = tt
-  sizes_in_order rule size (Some top) h k =
-      let low = h.2 k.1 k.2 in
-      omega (arith, h.3, k.4)
-
   ranges_in_order : (argument : Arg) → IsSound grammar argument → IfSome (high_in greatest argument) (λ top. low_in least argument ≤ top)
-  ranges_in_order (Rule rule) sound = sizes_in_order rule (slice_index least rule) (slice_index_or greatest rule None) (least_are rule sound) (greatest_are rule sound)
+  ranges_in_order (Rule rule) sound = ordered rule sound
   ranges_in_order (Literal text) sound = omega arith
   ranges_in_order (Letter class) sound = omega arith
   ranges_in_order (Run class low high) sound = sound

@@ -13,7 +13,7 @@ use Rattle.grammar_check.specs.declared.rule_plan.RulePlan.{RulePlan}
 use Rattle.grammar_check.specs.Tables.{entry}
 use Rattle.grammar_check.specs.Plans.{IsReadable, ReadsRight, lows, part_at}
 use Rattle.grammar_check.specs.Alternatives.{AreRead}
-use Rattle.grammar_check.specs.RuleValues.{plan_of, kept_of, kept_rule_value, AreAllRead}
+use Rattle.grammar_check.specs.RuleValues.{Kept, plan_of, kept_of, kept_rule_value, AreAllRead}
 use Rattle.grammar_check.specs.Fills.{plan_tokens, IsRuleReadable, IsRuleSpread, rules_plan, kept_at, kept_entry, IsKept, NamesLesser, IsKeptRanked, IsFilledTo, IsRankFilled}
 use Rattle.grammar_check.proofs.RulePlans.{spread_less}
 use Rattle.grammar_check.proofs.Sweeps.{low_at}
@@ -53,25 +53,25 @@ module _ (bound : ℕ → ℕ → ℕ) (ranks : List ℕ) (table : Table) (plans
   pub all_read : IsRankFilled bound ranks table plans len rank → slice_index ranks rule ≡ rank → IsKeptRanked ranks (rules_plan plans) → (old : RulePlan) → rule < length plans → old ≡ slice_index_or plans rule old → IsRuleReadable (length plans) old → AreAllRead bound table (plan_of old.alternatives.items) len
   all_read filled rank_is lesser old inside old_is known = λ place d in_plan. read place d in_plan
     where
-      plan : List (ℕ × ℕ × List Part)
+      plan : List Kept
       plan = plan_of old.alternatives.items
 
-      known_parts : All (λ (e : ℕ × ℕ × List Part). All (λ (part : Part). IsReadable (length plans) part.worth) e.2) plan
-      known_parts = All-map (λ (e : ℕ × ℕ × List Part). All (λ (part : Part). IsReadable (length plans) part.worth) e.2) kept_of old.alternatives.items known
+      known_parts : All (λ (e : Kept). All (λ (part : Part). IsReadable (length plans) part.worth) e.2) plan
+      known_parts = All-map (λ (e : Kept). All (λ (part : Part). IsReadable (length plans) part.worth) e.2) kept_of old.alternatives.items known
 
       here : kept_at (rules_plan plans) rule ≡ plan
       here = plan_at-rule plans rule old inside old_is
 
-      read : (k : ℕ) (d : ℕ × ℕ × List Part) → k < length plan → (slice_index_or plan k d).1 ≤ len → AreRead bound table (slice_index_or plan k d).2 (len - (slice_index_or plan k d).1)
+      read : (k : ℕ) (d : Kept) → k < length plan → (slice_index_or plan k d).1 ≤ len → AreRead bound table (slice_index_or plan k d).2 (len - (slice_index_or plan k d).1)
       read k d in_plan long = λ place l in_parts room.
           let parts : List Part = (slice_index_or plan k d).2 in
           let fixed : ℕ = (slice_index_or plan k d).1 in
           let least = low_at parts place in_parts in
-          let same_entry : kept_entry (rules_plan plans) rule k ≡ slice_index_or plan k d = ap (λ (p : List (ℕ × ℕ × List Part)). slice_index_or p k (0, 0, [])) here ∙ get_or_default plan k (0, 0, []) d in_plan in
+          let same_entry : kept_entry (rules_plan plans) rule k ≡ slice_index_or plan k d = ap (λ (p : List Kept). slice_index_or p k (inl 0, 0, [])) here ∙ get_or_default plan k (inl 0, 0, []) d in_plan in
           worth_read filled rank_is (part_at parts place).worth l (known_parts k d in_plan place (record { worth = OfLetters 0 0; low = 0; room = 0 }) in_parts) (less_or_same l len (omega arith))
-          (λ same. subst (λ (e : ℕ × ℕ × List Part). NamesLesser ranks rule (part_at e.2 place).worth) same_entry
-          (lesser rule k place (omega (arith, length-rules_plan plans)) (subst (λ p. k < length p) (sym here) in_plan) (subst (λ (e : ℕ × ℕ × List Part). place < length e.2) (sym same_entry) in_parts)
-          (subst (λ (e : ℕ × ℕ × List Part). e.1 + lows e.2 ≤ (part_at e.2 place).low) (sym same_entry) (omega arith))))
+          (λ same. subst (λ (e : Kept). NamesLesser ranks rule (part_at e.2 place).worth) same_entry
+          (lesser rule k place (omega (arith, length-rules_plan plans)) (subst (λ p. k < length p) (sym here) in_plan) (subst (λ (e : Kept). place < length e.2) (sym same_entry) in_parts)
+          (subst (λ (e : Kept). e.1 + lows e.2 ≤ (part_at e.2 place).low) (sym same_entry) (omega arith))))
 
   pub rank_step : (next : Table) (old new : RulePlan) (value : ℕ) → IsPartlyFilled bound ranks table plans len rank rule → IsKept bound (rules_plan plans) len → IsKeptRanked ranks (rules_plan plans)
       → rule < length plans → slice_index ranks rule ≡ rank → old ≡ slice_index_or plans rule old → IsRuleReadable (length plans) old → len < table.width

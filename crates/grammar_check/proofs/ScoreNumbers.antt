@@ -87,7 +87,7 @@ argument_stands grammar rule alternative token h = (by_rule (order' rule (length
     by_alternative : (alternative < length (alternatives_of grammar rule)) ⊎ (length (alternatives_of grammar rule) ≤ alternative) → alternative < length (alternatives_of grammar rule)
     by_alternative (inl below) = below
     by_alternative (inr past) =
-        let none : length (arguments_of grammar rule alternative) ≡ 0 = ap (λ (a : Alt). length a.args) (get_or_past (alternatives_of grammar rule) alternative (record { sign = 0; args = [] }) past) in
+        let none : length (arguments_of grammar rule alternative) ≡ 0 = ap (λ (a : Alt). length a.args) (get_or_past (alternatives_of grammar rule) alternative (record { sign = 0; args = []; size = None }) past) in
         absurd (omega (arith, none, h.1))
 
     by_rule : (rule < length grammar.rules) ⊎ (length grammar.rules ≤ rule) → rule < length grammar.rules
@@ -205,8 +205,8 @@ module _ (grammar : Grammar) (algebra : ℕ) (least : List ℕ) (greatest : List
   tokens_above len short rule alternative token inside in_range stands admits =
       let entries = map (entry_in grammar (Scores algebra) (record { least = least; greatest = greatest; most = most })) (alternatives_of grammar rule) in
       let low = parts_above (alternative_at grammar rule alternative).sign 0 (arguments_of grammar rule alternative) stands.0 token len short stands.1 stands.2 admits in
-      let above = of_above (alternative_tokens len) entries alternative (0, []) (omega (arith, length-map (alternatives_of grammar rule) (entry_in grammar (Scores algebra) (record { least = least; greatest = greatest; most = most })))) in
-      let entry = ap (alternative_tokens len) (get_or-map (entry_in grammar (Scores algebra) (record { least = least; greatest = greatest; most = most })) (alternatives_of grammar rule) alternative (record { sign = 0; args = [] }) (0, []) in_range) in
+      let above = of_above (alternative_tokens len) entries alternative (inl 0, []) (omega (arith, length-map (alternatives_of grammar rule) (entry_in grammar (Scores algebra) (record { least = least; greatest = greatest; most = most })))) in
+      let entry = ap (alternative_tokens len) (get_or-map (entry_in grammar (Scores algebra) (record { least = least; greatest = greatest; most = most })) (alternatives_of grammar rule) alternative (record { sign = 0; args = []; size = None }) (inl 0, []) in_range) in
       let over = of_above (greatest_of (alternative_tokens len)) (grammar_plan grammar (Scores algebra) (record { least = least; greatest = greatest; most = most })) rule [] (omega (arith, length-map grammar.rules (λ (r : rules.Rule). map (entry_in grammar (Scores algebra) (record { least = least; greatest = greatest; most = most })) r.alts))) in
       let plan = ap (greatest_of (alternative_tokens len)) (get_or-map (λ (r : rules.Rule). map (entry_in grammar (Scores algebra) (record { least = least; greatest = greatest; most = most })) r.alts) grammar.rules rule (record { name = []; alts = [] }) [] inside) in
       omega (arith, low, above, entry, over, plan)
@@ -222,12 +222,12 @@ module _ (grammar : Grammar) (algebra : ℕ) (least : List ℕ) (greatest : List
         in_alternative rule alternative value' e (inl none) = inl (e ∙ none)
         in_alternative rule alternative value' e (inr found) = inr (rule, alternative, record { token = found.token; stands = found.stands; admits = found.admits; value_is = e ∙ found.value_is })
 
-        in_rule : (rule : ℕ) → rule < length grammar.rules → (value' : ℕ) → value' ≡ greatest_of (alternative_tokens len) (map (entry_in grammar (Scores algebra) (record { least = least; greatest = greatest; most = most })) (alternatives_of grammar rule)) → (greatest_of (alternative_tokens len) (map (entry_in grammar (Scores algebra) (record { least = least; greatest = greatest; most = most })) (alternatives_of grammar rule)) ≡ 0) ⊎ IsNumberOf (alternative_tokens len) (map (entry_in grammar (Scores algebra) (record { least = least; greatest = greatest; most = most })) (alternatives_of grammar rule)) (0, []) (greatest_of (alternative_tokens len) (map (entry_in grammar (Scores algebra) (record { least = least; greatest = greatest; most = most })) (alternatives_of grammar rule))) → (value' ≡ 0) ⊎ ((r : ℕ) × (a : ℕ) × IsTokenOf grammar (arguments_of grammar r a) len value')
+        in_rule : (rule : ℕ) → rule < length grammar.rules → (value' : ℕ) → value' ≡ greatest_of (alternative_tokens len) (map (entry_in grammar (Scores algebra) (record { least = least; greatest = greatest; most = most })) (alternatives_of grammar rule)) → (greatest_of (alternative_tokens len) (map (entry_in grammar (Scores algebra) (record { least = least; greatest = greatest; most = most })) (alternatives_of grammar rule)) ≡ 0) ⊎ IsNumberOf (alternative_tokens len) (map (entry_in grammar (Scores algebra) (record { least = least; greatest = greatest; most = most })) (alternatives_of grammar rule)) (inl 0, []) (greatest_of (alternative_tokens len) (map (entry_in grammar (Scores algebra) (record { least = least; greatest = greatest; most = most })) (alternatives_of grammar rule))) → (value' ≡ 0) ⊎ ((r : ℕ) × (a : ℕ) × IsTokenOf grammar (arguments_of grammar r a) len value')
         in_rule rule inside value' e (inl none) = inl (e ∙ none)
         in_rule rule inside value' e (inr found) =
             let in_range : found.place < length (alternatives_of grammar rule) = omega (arith, found.inside, length-map (alternatives_of grammar rule) (entry_in grammar (Scores algebra) (record { least = least; greatest = greatest; most = most }))) in
             in_alternative rule found.place value'
-            (e ∙ found.value_is ∙ ap (alternative_tokens len) (get_or-map (entry_in grammar (Scores algebra) (record { least = least; greatest = greatest; most = most })) (alternatives_of grammar rule) found.place (record { sign = 0; args = [] }) (0, []) in_range))
+            (e ∙ found.value_is ∙ ap (alternative_tokens len) (get_or-map (entry_in grammar (Scores algebra) (record { least = least; greatest = greatest; most = most })) (alternatives_of grammar rule) found.place (record { sign = 0; args = []; size = None }) (inl 0, []) in_range))
             (parts_found (alternative_at grammar rule found.place).sign 0 (arguments_of grammar rule found.place) len (sound rule found.place) short)
 
         in_plan : (value ≡ 0) ⊎ IsNumberOf (greatest_of (alternative_tokens len)) (grammar_plan grammar (Scores algebra) (record { least = least; greatest = greatest; most = most })) [] value → (value ≡ 0) ⊎ ((r : ℕ) × (a : ℕ) × IsTokenOf grammar (arguments_of grammar r a) len value)
@@ -236,7 +236,7 @@ module _ (grammar : Grammar) (algebra : ℕ) (least : List ℕ) (greatest : List
             let inside : found.place < length grammar.rules = omega (arith, found.inside, length-map grammar.rules (λ (r : rules.Rule). map (entry_in grammar (Scores algebra) (record { least = least; greatest = greatest; most = most })) r.alts)) in
             in_rule found.place inside value
             (found.value_is ∙ ap (greatest_of (alternative_tokens len)) (get_or-map (λ (r : rules.Rule). map (entry_in grammar (Scores algebra) (record { least = least; greatest = greatest; most = most })) r.alts) grammar.rules found.place (record { name = []; alts = [] }) [] inside))
-            (of_found (alternative_tokens len) (map (entry_in grammar (Scores algebra) (record { least = least; greatest = greatest; most = most })) (alternatives_of grammar found.place)) (0, []))
+            (of_found (alternative_tokens len) (map (entry_in grammar (Scores algebra) (record { least = least; greatest = greatest; most = most })) (alternatives_of grammar found.place)) (inl 0, []))
 
     -- ---- the score bound
 

@@ -2,12 +2,12 @@
 use Rattle.std.proofs.Common.{◌≡◌, ℕ, zero, suc, ◌+◌, ◌<◌, ◌≤◌, max, ◌⊎◌, inl, inr, List, [], ◌∷◌, ◌++◌, length, slice_index, refl, sym, ap, ap₂, subst, ◌∙◌, arith}
 use Rattle.std.proofs.lemmas.List.{get_or_append_left, get_or_push}
 use Rattle.adp_model.specs.LimitFaults.{told}
-use Rattle.grammar_check.specs.declared.part.Part.{Part}
 use Rattle.grammar_check.specs.declared.table.Table.{Table}
 use Rattle.grammar_check.specs.Tables.{entry}
 use Rattle.grammar_check.specs.Plans.{greatest_from}
 use Rattle.grammar_check.specs.TokenNumbers.{tokens_number, rules_number, score_number}
 use Rattle.grammar_check.proofs.CutNumbers.{told-max}
+use Rattle.grammar_check.specs.RuleValues.{Entry}
 
 -- the greatest at so many lengths, from 0 on, cut
 abbrev pub cut_number : Table → (ℕ → ℕ) → ℕ → ℕ
@@ -22,7 +22,7 @@ greatest_cut bound table len (suc count) right =
     let here : entry table (0 + count) len ≡ told (bound (0 + count) len) = subst (λ n. entry table n len ≡ told (bound n len)) (sym place) (right count (omega arith)) in
     ap₂ (λ a b. max a b) rest here ∙ told-max (greatest_from (λ rule. bound rule len) 0 count) (bound (0 + count) len)
 
-pub cut_number-told : (bound : ℕ → ℕ → ℕ) (table : Table) (plan : List (List (ℕ × List Part))) (most : ℕ) → ((rule len : ℕ) → rule < table.rows → len ≤ most → entry table rule len ≡ told (bound rule len)) → (len : ℕ) → len ≤ most → cut_number table (λ l. tokens_number l plan) (suc len) ≡ told (score_number bound table.rows plan len)
+pub cut_number-told : (bound : ℕ → ℕ → ℕ) (table : Table) (plan : List (List Entry)) (most : ℕ) → ((rule len : ℕ) → rule < table.rows → len ≤ most → entry table rule len ≡ told (bound rule len)) → (len : ℕ) → len ≤ most → cut_number table (λ l. tokens_number l plan) (suc len) ≡ told (score_number bound table.rows plan len)
 cut_number-told bound table plan most right zero short =
     let rules = greatest_cut bound table 0 table.rows (λ rule below. right rule 0 below short) in
     let first : max 0 (max (greatest_from (λ row. entry table row 0) 0 table.rows) (told (tokens_number 0 plan))) ≡ max (greatest_from (λ row. entry table row 0) 0 table.rows) (told (tokens_number 0 plan)) = omega arith in

@@ -16,7 +16,7 @@ less_or_same a b order = grind arith
 
 -- ---- the greatest of some numbers
 
-greatest_above : (number : ℕ → ℕ) (first count k : ℕ) → k < count → number (first + k) ≤ greatest_from number first count
+pub greatest_above : (number : ℕ → ℕ) (first count k : ℕ) → k < count → number (first + k) ≤ greatest_from number first count
 greatest_above number first zero k below = absurd (omega arith)
 greatest_above number first (suc count) k below = by (less_or_same k count (omega arith))
     (λ less. greatest_above number first count k less)
@@ -29,7 +29,7 @@ max_cases : (a b : ℕ) → (max a b ≡ a) ⊎ (max a b ≡ b)
 max_cases a b = grind arith
 
 -- one of them is the greatest
-greatest_found : (number : ℕ → ℕ) (first count : ℕ) → 0 < count → (k : ℕ) × (k < count) × (greatest_from number first count ≡ number (first + k))
+pub greatest_found : (number : ℕ → ℕ) (first count : ℕ) → 0 < count → (k : ℕ) × (k < count) × (greatest_from number first count ≡ number (first + k))
 greatest_found number first zero some = absurd (omega arith)
 greatest_found number first (suc zero) some = (0, omega arith, omega arith)
 greatest_found number first (suc (suc count)) some = by (max_cases (greatest_from number first (suc count)) (number (first + suc count))) (greatest_found number first (suc count) (omega arith))

@@ -6,13 +6,13 @@ use Rattle.adp_model.specs.LimitFaults.{told}
 use Rattle.grammar_check.specs.declared.part.Part.{Part}
 use Rattle.grammar_check.specs.declared.part.Worth.TheVariants.{OfLetters}
 use Rattle.grammar_check.specs.declared.table.Table.{Table}
-use Rattle.grammar_check.specs.declared.alternative.Alternative.{Alternative}
+use Rattle.grammar_check.specs.declared.linear_alternative.LinearAlternative.{LinearAlternative}
 use Rattle.grammar_check.specs.Tables.{entry}
 use Rattle.grammar_check.specs.Plans.{ReadsRight, rooms, lows, spread, part_at}
 use Rattle.grammar_check.specs.Alternatives.{AreSpread, AreRead, alternative_value}
 
 -- the parts from this place on are written for so many spare letters, and this is what they add
-pub record IsSweeping (bounds : Table) (len spare : ℕ) (before now : Alternative) (place best : ℕ) : Type 0 where
+pub record IsSweeping (bounds : Table) (len spare : ℕ) (before now : LinearAlternative) (place best : ℕ) : Type 0 where
   pub constant : now.constant ≡ before.constant
   pub fixed : now.fixed ≡ before.fixed
   pub low : now.low ≡ before.low
@@ -36,7 +36,7 @@ less_or_same : (a b : ℕ) → a ≤ b → (a < b) ⊎ (a ≡ b)
 less_or_same a b order = grind arith
 
 -- at first nothing is written
-pub sweep_begun : (bounds : Table) (len spare : ℕ) (before : Alternative) (place : ℕ) → length before.parts.items ≤ place → IsSweeping bounds len spare before before place 0
+pub sweep_begun : (bounds : Table) (len spare : ℕ) (before : LinearAlternative) (place : ℕ) → length before.parts.items ≤ place → IsSweeping bounds len spare before before place 0
 sweep_begun bounds len spare before place past = record {
   constant = refl;
   fixed = refl;
@@ -49,7 +49,7 @@ sweep_begun bounds len spare before place past = record {
 }
 
 -- the row of a place, once the places behind it are written
-row_behind : (bound : ℕ → ℕ → ℕ) (bounds : Table) (len spare : ℕ) (before now : Alternative) (place best : ℕ) → IsSweeping bounds len spare before now (place + 1) best → AreRead bound bounds before.parts.items len → AreSpread bound before spare → place + 1 < length before.parts.items → (column : ℕ) → column ≤ spare → entry now.spreads place column ≡ told (spread bound (drop (place + 1) before.parts.items) column)
+row_behind : (bound : ℕ → ℕ → ℕ) (bounds : Table) (len spare : ℕ) (before now : LinearAlternative) (place best : ℕ) → IsSweeping bounds len spare before now (place + 1) best → AreRead bound bounds before.parts.items len → AreSpread bound before spare → place + 1 < length before.parts.items → (column : ℕ) → column ≤ spare → entry now.spreads place column ≡ told (spread bound (drop (place + 1) before.parts.items) column)
 row_behind bound bounds len spare before now place best sweep reads spreads inside column within = by (less_or_same column spare within)
   where
     by : (column < spare) ⊎ (column ≡ spare) → entry now.spreads place column ≡ told (spread bound (drop (place + 1) before.parts.items) column)
@@ -60,7 +60,7 @@ row_behind bound bounds len spare before now place best sweep reads spreads insi
         subst (λ c. entry now.spreads place c ≡ told (spread bound (drop (place + 1) before.parts.items) c)) (sym same)
         (sweep.done bound reads spreads place (omega arith) inside)
 
-pub sweep_step : (bounds : Table) (len spare : ℕ) (before now next : Alternative) (place best best' : ℕ) → IsSweeping bounds len spare before now (place + 1) best
+pub sweep_step : (bounds : Table) (len spare : ℕ) (before now next : LinearAlternative) (place best best' : ℕ) → IsSweeping bounds len spare before now (place + 1) best
     → spare + lows before.parts.items ≡ len → place < length before.parts.items → spare < now.spreads.width
     → next.constant ≡ now.constant → next.fixed ≡ now.fixed → next.low ≡ now.low → next.parts.items ≡ now.parts.items → next.spreads.width ≡ now.spreads.width
     → (0 < place → entry next.spreads (place - 1) spare ≡ best')
@@ -104,7 +104,7 @@ sweep_step bounds len spare before now next place best best' sweep spare_is insi
         ∙ ap (λ n. told (spread bound (drop n before.parts.items) spare)) same
 
 -- after the sweep
-pub swept : (bound : ℕ → ℕ → ℕ) (bounds : Table) (len spare : ℕ) (before now : Alternative) (place best : ℕ) → place ≤ 0 → IsSweeping bounds len spare before now place best → AreRead bound bounds before.parts.items len → AreSpread bound before spare → AreSpread bound now (spare + 1)
+pub swept : (bound : ℕ → ℕ → ℕ) (bounds : Table) (len spare : ℕ) (before now : LinearAlternative) (place best : ℕ) → place ≤ 0 → IsSweeping bounds len spare before now place best → AreRead bound bounds before.parts.items len → AreSpread bound before spare → AreSpread bound now (spare + 1)
 swept bound bounds len spare before now place best ended sweep reads spreads = record {
   rows = λ at column inside less. by at column inside (less_or_same column spare (omega arith));
 }
@@ -120,13 +120,13 @@ swept bound bounds len spare before now place best ended sweep reads spreads = r
         (sweep.done bound reads spreads at (omega arith) (subst (λ ps. at + 1 < length ps) sweep.parts inside)))
 
 -- the sweep's best is what all parts add
-pub swept_best : (bound : ℕ → ℕ → ℕ) (bounds : Table) (len spare : ℕ) (before now : Alternative) (place best : ℕ) → place ≤ 0 → IsSweeping bounds len spare before now place best → AreRead bound bounds before.parts.items len → AreSpread bound before spare → best ≡ told (spread bound before.parts.items spare)
+pub swept_best : (bound : ℕ → ℕ → ℕ) (bounds : Table) (len spare : ℕ) (before now : LinearAlternative) (place best : ℕ) → place ≤ 0 → IsSweeping bounds len spare before now place best → AreRead bound bounds before.parts.items len → AreSpread bound before spare → best ≡ told (spread bound before.parts.items spare)
 swept_best bound bounds len spare before now place best ended sweep reads spreads =
     let first : place ≡ 0 = omega arith in
     sweep.best_is bound reads spreads ∙ ap (λ n. told (spread bound (drop n before.parts.items) spare)) first
 
 -- no row has fewer spare letters than none
-pub none_spread : (bound : ℕ → ℕ → ℕ) (alternative : Alternative) → AreSpread bound alternative 0
+pub none_spread : (bound : ℕ → ℕ → ℕ) (alternative : LinearAlternative) → AreSpread bound alternative 0
 none_spread bound alternative = record { rows = λ place column inside less. absurd (omega arith) }
 
 pub low_is : (fixed : ℕ) (parts : List Part) (low len : ℕ) → low ≡ min (fixed + lows parts) (2 ^ 64 - 1) → low ≤ len → len < 2 ^ 32 → low ≡ fixed + lows parts

@@ -1,5 +1,6 @@
 -- What a table of bounds has, once it is filled for some rules and lengths.
 use Rattle.std.specs.Prelude.{◌≡◌, ℕ, ◌+◌, ◌<◌, ◌≤◌, List, [], length, map, slice_index, slice_index_or, Vec, vec_len}
+use mathlib.Core.Logic.{inl}
 use Rattle.std.specs.List.{All}
 use Rattle.std.specs.Global.{Global}
 use Rattle.adp_model.specs.LimitFaults.{told}
@@ -10,7 +11,7 @@ use Rattle.grammar_check.specs.declared.table.Table.{Table}
 use Rattle.grammar_check.specs.declared.rule_plan.RulePlan.{RulePlan}
 use Rattle.grammar_check.specs.Tables.{entry}
 use Rattle.grammar_check.specs.Plans.{lows, part_at}
-use Rattle.grammar_check.specs.RuleValues.{IsAllReadable, IsWide, IsSpreadTo, plan_of, rule_value, kept_rule_value}
+use Rattle.grammar_check.specs.RuleValues.{Entry, Kept, IsAllReadable, IsWide, IsSpreadTo, plan_of, rule_value, kept_rule_value}
 
 abbrev pub IsRuleReadable : ℕ → RulePlan → Type 0
 IsRuleReadable rules plan = All (IsAllReadable rules) plan.alternatives.items
@@ -22,7 +23,7 @@ abbrev pub IsRuleSpread : (ℕ → ℕ → ℕ) → ℕ → RulePlan → Type 0
 IsRuleSpread bound len plan = All (IsSpreadTo bound len) plan.alternatives.items
 
 -- the kept plans of all rules
-abbrev pub rules_plan : List RulePlan → List (List (ℕ × ℕ × List Part))
+abbrev pub rules_plan : List RulePlan → List (List Kept)
 rules_plan plans = map (λ (plan : RulePlan). plan_of plan.alternatives.items) plans
 
 -- the tokens of a rule's plan
@@ -30,15 +31,15 @@ abbrev pub plan_tokens : RulePlan → List Part
 plan_tokens plan = plan.tokens.items
 
 -- the plan of a rule
-abbrev pub plan_at : List (List (ℕ × List Part)) → ℕ → List (ℕ × List Part)
+abbrev pub plan_at : List (List Entry) → ℕ → List Entry
 plan_at plan rule = slice_index_or plan rule []
 
 -- the parts of an alternative
-abbrev pub parts_at : List (List (ℕ × List Part)) → ℕ → ℕ → List Part
-parts_at plan rule alternative = (slice_index_or (plan_at plan rule) alternative (0, [])).1
+abbrev pub parts_at : List (List Entry) → ℕ → ℕ → List Part
+parts_at plan rule alternative = (slice_index_or (plan_at plan rule) alternative (inl 0, [])).1
 
 -- the bounds are the values of the plan at this length
-abbrev pub IsPlanned : (ℕ → ℕ → ℕ) → List (List (ℕ × List Part)) → ℕ → Type 0
+abbrev pub IsPlanned : (ℕ → ℕ → ℕ) → List (List Entry) → ℕ → Type 0
 IsPlanned bound plan len = (rule : ℕ) → rule < length plan → bound rule len ≡ rule_value bound (plan_at plan rule) len
 
 -- a rule that the part names has a lesser rank
@@ -47,7 +48,7 @@ NamesLesser ranks rule (OfRule other factor) = slice_index ranks other < slice_i
 NamesLesser ranks rule (OfLetters weight factor) = Unit {0}
 
 -- a part that can be as long as the rule, since all others can be empty, names a rule of lesser rank
-abbrev pub IsRanked : List ℕ → List (List (ℕ × List Part)) → Type 0
+abbrev pub IsRanked : List ℕ → List (List Entry) → Type 0
 IsRanked ranks plan =
     (rule alternative place : ℕ) → rule < length plan → alternative < length (plan_at plan rule)
     → place < length (parts_at plan rule alternative)
@@ -55,19 +56,19 @@ IsRanked ranks plan =
     → NamesLesser ranks rule (part_at (parts_at plan rule alternative) place).worth
 
 -- what is kept of a rule's plan, and of an alternative
-abbrev pub kept_at : List (List (ℕ × ℕ × List Part)) → ℕ → List (ℕ × ℕ × List Part)
+abbrev pub kept_at : List (List Kept) → ℕ → List Kept
 kept_at plan rule = slice_index_or plan rule []
 
-abbrev pub kept_entry : List (List (ℕ × ℕ × List Part)) → ℕ → ℕ → ℕ × ℕ × List Part
-kept_entry plan rule alternative = slice_index_or (kept_at plan rule) alternative (0, 0, [])
+abbrev pub kept_entry : List (List Kept) → ℕ → ℕ → Kept
+kept_entry plan rule alternative = slice_index_or (kept_at plan rule) alternative (inl 0, 0, [])
 
 -- the bounds are, cut, the values of what is kept of the plan at this length
-abbrev pub IsKept : (ℕ → ℕ → ℕ) → List (List (ℕ × ℕ × List Part)) → ℕ → Type 0
+abbrev pub IsKept : (ℕ → ℕ → ℕ) → List (List Kept) → ℕ → Type 0
 IsKept bound plan len =
     (rule : ℕ) → rule < length plan → told (bound rule len) ≡ told (kept_rule_value bound (kept_at plan rule) len)
 
 -- a kept part that can be as long as the rule, since all others can be empty, names a rule of lesser rank
-abbrev pub IsKeptRanked : List ℕ → List (List (ℕ × ℕ × List Part)) → Type 0
+abbrev pub IsKeptRanked : List ℕ → List (List Kept) → Type 0
 IsKeptRanked ranks plan =
     (rule alternative place : ℕ) → rule < length plan → alternative < length (kept_at plan rule)
     → place < length (kept_entry plan rule alternative).2

@@ -1,28 +1,58 @@
 -- The plan of a grammar for the score bounds of an algebra, or for the node bounds.
-use Rattle.std.specs.Prelude.{ℕ, ◌+◌, ◌-◌, min, pos, nat_abs, Option, Some, None, unwrap_or, List, [], ◌∷◌, length, map, slice_index, slice_index_or}
+use Rattle.std.specs.Prelude.{ℕ, ◌+◌, ◌-◌, min, pos, nat_abs, Option, Some, None, unwrap_or, List, [], ◌∷◌, length, map, slice_index, slice_index_or, ◌≤◌, IfSome}
+use mathlib.Core.Logic.{inl, inr}
 use Rattle.adp_model.specs.declared.grammar.Arg.{Arg}
 use Rattle.adp_model.specs.declared.grammar.Arg.TheVariants.{Rule, Literal, Letter, Run}
 use Rattle.adp_model.specs.declared.grammar.Alt.{Alt}
 use Rattle.adp_model.specs.declared.grammar.Rule as rules
+use Rattle.adp_model.specs.declared.grammar.Term.{Term}
+use Rattle.adp_model.specs.declared.grammar.Term.TheVariants.{Linear, Wide}
+use Rattle.adp_model.specs.WideForm as wide
 use Rattle.adp_model.specs.declared.grammar.Grammar.{Grammar}
 use Rattle.adp_model.specs.Parts.{letters_of, term_for}
 use Rattle.adp_model.specs.Bounds.{greatest_weight}
+use Rattle.adp_model.specs.Terms.{leaves}
+use Rattle.adp_model.specs.WellFormed.{most_leaves}
 use Rattle.yield_sizes.specs.declared.rule_sizes.Sizes.{Sizes}
 use Rattle.grammar_check.specs.declared.part.Worth.{Worth}
 use Rattle.grammar_check.specs.declared.part.Worth.TheVariants.{OfRule, OfLetters}
 use Rattle.grammar_check.specs.declared.part.Part.{Part}
 use Rattle.grammar_check.specs.declared.measure.Measure.{Measure}
 use Rattle.grammar_check.specs.declared.measure.Measure.TheVariants.{Scores, Nodes}
+use Rattle.grammar_check.specs.RuleValues.{Entry, Own}
+
+-- a wide term
+abbrev pub wide_of : Term → Option wide.WideForm
+wide_of (Linear term) = None
+wide_of (Wide term) = Some term
+
+-- what a linear term adds of its own; 0 for a wide one
+abbrev pub constant_of : Term → ℕ
+constant_of (Linear term) = nat_abs term.constant
+constant_of (Wide term) = 0
+
+-- how often a linear term counts what the argument at this place adds; a wide one gathers it as it is
+abbrev pub factor_of : Term → ℕ → ℕ
+factor_of (Linear term) place = nat_abs (slice_index_or term.factors place (pos 0))
+factor_of (Wide term) place = 1
+
+-- the wide term that alternatives of the sign are bounded by
+abbrev pub wide_in : Grammar → Measure → ℕ → Option wide.WideForm
+wide_in grammar (Scores algebra) sign = wide_of (term_for grammar algebra sign)
+wide_in grammar Nodes sign = None
+
+-- a wide term has at most 32 leaves
+abbrev pub HasFewLeaves : Option wide.WideForm → Type 0
+HasFewLeaves term = IfSome term (λ (wide : wide.WideForm). length (leaves wide) ≤ most_leaves)
 
 -- what an alternative of the sign adds of its own
 abbrev pub constant_in : Grammar → Measure → ℕ → ℕ
-constant_in grammar (Scores algebra) sign = nat_abs (term_for grammar algebra sign).constant
+constant_in grammar (Scores algebra) sign = constant_of (term_for grammar algebra sign)
 constant_in grammar Nodes sign = 1
 
 -- how often what the argument at this place adds is counted
 abbrev pub factor_in : Grammar → Measure → ℕ → ℕ → ℕ
-factor_in grammar (Scores algebra) sign place =
-    nat_abs (slice_index_or (term_for grammar algebra sign).factors place (pos 0))
+factor_in grammar (Scores algebra) sign place = factor_of (term_for grammar algebra sign) place
 factor_in grammar Nodes sign place = 1
 
 -- how much a letter of the class adds
@@ -77,13 +107,21 @@ parts_in grammar measure lengths sign place [] = []
 parts_in grammar measure lengths sign place (argument ∷ arguments) =
     part_in grammar measure lengths sign place argument ∷ parts_in grammar measure lengths sign (place + 1) arguments
 
+-- what an alternative of the sign adds of its own, or its wide term
+abbrev pub own_of : Option wide.WideForm → ℕ → Own
+own_of None constant = inl constant
+own_of (Some term) constant = inr term
+
+abbrev pub own_in : Grammar → Measure → ℕ → Own
+own_in grammar measure sign = own_of (wide_in grammar measure sign) (constant_in grammar measure sign)
+
 -- an alternative
-abbrev pub entry_in : Grammar → Measure → Lengths → Alt → ℕ × List Part
+abbrev pub entry_in : Grammar → Measure → Lengths → Alt → Entry
 entry_in grammar measure lengths alternative =
-    (constant_in grammar measure alternative.sign, parts_in grammar measure lengths alternative.sign 0 alternative.args)
+    (own_in grammar measure alternative.sign, parts_in grammar measure lengths alternative.sign 0 alternative.args)
 
 -- the grammar
-abbrev pub grammar_plan : Grammar → Measure → Lengths → List (List (ℕ × List Part))
+abbrev pub grammar_plan : Grammar → Measure → Lengths → List (List Entry)
 grammar_plan grammar measure lengths =
     map (λ (rule : rules.Rule). map (entry_in grammar measure lengths) rule.alts) grammar.rules
 

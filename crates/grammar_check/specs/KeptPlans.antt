@@ -1,45 +1,51 @@
 -- What a rule's plan keeps of its alternatives: tokens of one length are added to the constant, and of those with
 -- the same other parts and the same length of tokens the one with the greatest constant stands for all.
 use Rattle.std.specs.Prelude.{◌≡◌, ℕ, ◌^◌, ◌-◌, ◌<◌, ◌⊎◌, max, min, List, [], length, slice_index_or}
+use mathlib.Core.Logic.{inl, inr}
 use Rattle.adp_model.specs.LimitFaults.{told}
 use Rattle.adp_model.specs.declared.grammar.Grammar.{Grammar}
 use Rattle.grammar_check.specs.declared.part.Part.{Part}
 use Rattle.grammar_check.specs.declared.rule_plan.RulePlan.{RulePlan}
 use Rattle.grammar_check.specs.declared.measure.Measure.{Measure}
 use Rattle.grammar_check.specs.Plans.{open_parts, fixed_length}
-use Rattle.grammar_check.specs.RuleValues.{rule_value, plan_of, kept_value, kept_rule_value}
+use Rattle.grammar_check.specs.RuleValues.{Entry, Kept, Own, rule_value, plan_of, kept_value, kept_rule_value}
 use Rattle.grammar_check.specs.TokenNumbers.{greatest_of, token_number, alternative_tokens}
 use Rattle.grammar_check.specs.GrammarPlans.{Lengths, grammar_plan}
 use Rattle.grammar_check.specs.Fills.{plan_at, plan_tokens}
 
 -- the fixed length and the parts are those of this entry of a plan
-abbrev pub KeepsParts : ℕ × List Part → ℕ × ℕ × List Part → Type 0
-KeepsParts entry kept = (kept.1 ≡ min (fixed_length entry.1) (2 ^ 64 - 1)) × (kept.2 ≡ open_parts entry.1)
+abbrev pub KeepsPartsOf : Own → List Part → Kept → Type 0
+KeepsPartsOf (inl constant) parts kept =
+    (kept.1 ≡ min (fixed_length parts) (2 ^ 64 - 1)) × (kept.2 ≡ open_parts parts)
+KeepsPartsOf (inr term) parts kept = (kept.1 ≡ 0) × (kept.2 ≡ parts)
+
+abbrev pub KeepsParts : Entry → Kept → Type 0
+KeepsParts entry kept = KeepsPartsOf entry.0 entry.1 kept
 
 -- the same fixed length and the same parts
-abbrev pub SameParts : ℕ × ℕ × List Part → ℕ × ℕ × List Part → Type 0
+abbrev pub SameParts : Kept → Kept → Type 0
 SameParts kept other = (kept.1 ≡ other.1) × (kept.2 ≡ other.2)
 
 -- one more alternative is kept: the values are the greater ones, and no other parts come
-pub record AddsKept (before after : List (ℕ × ℕ × List Part)) (kept : ℕ × ℕ × List Part) : Type 0 where
+pub record AddsKept (before after : List Kept) (kept : Kept) : Type 0 where
   pub values : (bound : ℕ → ℕ → ℕ) (len : ℕ) → kept_rule_value bound after len
-      ≡ max (kept_rule_value bound before len) (kept_value bound kept.0 kept.1 kept.2 len)
+      ≡ max (kept_rule_value bound before len) (kept_value bound kept len)
   pub parts : (place : ℕ) → place < length after
-      → SameParts (slice_index_or after place (0, 0, [])) kept
+      → SameParts (slice_index_or after place (inl 0, 0, [])) kept
       ⊎ ((place < length before)
-      × SameParts (slice_index_or after place (0, 0, [])) (slice_index_or before place (0, 0, [])))
+      × SameParts (slice_index_or after place (inl 0, 0, [])) (slice_index_or before place (inl 0, 0, [])))
 
 -- what is kept of a rule's plan: it has the same values and the same greatest tokens, and its parts are the plan's
-pub record KeepsPlan (entries : List (ℕ × List Part)) (kept : List (ℕ × ℕ × List Part)) (tokens : List Part)
+pub record KeepsPlan (entries : List Entry) (kept : List Kept) (tokens : List Part)
     : Type 0 where
   pub values : (bound : ℕ → ℕ → ℕ) (len : ℕ) → len < 2 ^ 32
       → told (kept_rule_value bound kept len) ≡ told (rule_value bound entries len)
   pub parts : (place : ℕ) → place < length kept → (at : ℕ) × (at < length entries)
-      × KeepsParts (slice_index_or entries at (0, [])) (slice_index_or kept place (0, 0, []))
+      × KeepsParts (slice_index_or entries at (inl 0, [])) (slice_index_or kept place (inl 0, 0, []))
   pub tokens_are : (len : ℕ) → greatest_of (token_number len) tokens ≡ greatest_of (alternative_tokens len) entries
 
 -- the plan of a rule keeps these alternatives
-abbrev pub Keeps : List (ℕ × List Part) → RulePlan → Type 0
+abbrev pub Keeps : List Entry → RulePlan → Type 0
 Keeps entries plan = KeepsPlan entries (plan_of plan.alternatives.items) plan.tokens.items
 
 -- the plans keep those of a grammar's rules, rule by rule

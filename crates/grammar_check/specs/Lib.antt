@@ -1,6 +1,9 @@
 pub mod Tables
 pub mod Plans
+pub mod TermSpreads
+pub mod WideRows
 pub mod Alternatives
+pub mod WideAlternatives
 pub mod RuleValues
 pub mod Fills
 pub mod GrammarPlans

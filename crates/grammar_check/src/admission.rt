@@ -1,5 +1,7 @@
 ghost use Rattle.std.specs.Prelude.{◌≡◌, ◌≤◌, MatchResult, length};
-ghost use Rattle.adp_model.specs.LimitFaults.{IsLimitFault};
+ghost use Rattle.adp_model.specs.Bounds.{IsScoreBound};
+ghost use Rattle.adp_model.specs.LimitFaults.{HasFewNodes, IsLimitFault};
+ghost use Rattle.adp_model.specs.ProblemFields.{KeepsLimits, greatest_score};
 ghost use Rattle.grammar_check.specs.Admitted.{IsProblemOf, KeepsCells, MatchAdmission};
 ghost use Rattle.grammar_check.specs.ToldRows.{AreRowsOf};
 
@@ -7,6 +9,8 @@ use crate::bounds::BoundRows;
 use crate::checked::Checked;
 use crate::cut::CUT;
 use crate::error::AdmitError;
+use adp_model::laws::bounds::words_have_one_bound;
+use adp_model::laws::limits::limits_are_kept_or_passed;
 use adp_model::{LimitFault, MOST_LETTERS, Problem, Text};
 use cell_layouts::cell_bound;
 use std::alloc::Global;
@@ -68,7 +72,19 @@ pub fn admit_within<'a>(
             number: score_bound,
         });
     }
-    Ok(Problem {
+    Ok(posed(checked, word, cells, score_bound))
+}
+
+/// The problem of the word, which keeps the limits and has these bounds.
+fn posed<'a>(checked: &'a Checked, word: &'a Text, cells: u64, score_bound: u64) -> Problem<'a>
+    requires cells { KeepsCells checked.now.grammar (length word.now) cells }
+    requires nodes { HasFewNodes checked.now.grammar (length word.now) }
+    requires scores { IsScoreBound checked.now.grammar checked.now.algebra (length word.now) score_bound }
+    requires low { score_bound ≤ greatest_score }
+    ensures { IsProblemOf checked.now word.now result }
+{
+    checked.passes();
+    Problem {
         grammar: &checked.grammar,
         algebra: checked.algebra,
         word,
@@ -79,7 +95,22 @@ pub fn admit_within<'a>(
         right: &checked.anchors.right,
         cells,
         score_bound,
-    })
+    }
+}
+
+/// The problem of the word, which keeps the limits and has this score bound: as rows would give it. Takes no memory.
+pub fn admit_known<'a>(checked: &'a Checked, word: &'a Text, score_bound: u64) -> Problem<'a>
+    requires limits { KeepsLimits checked.now.grammar checked.now.algebra (length word.now) }
+    requires bound { IsScoreBound checked.now.grammar checked.now.algebra (length word.now) score_bound }
+    ensures { IsProblemOf checked.now word.now result }
+{
+    checked.passes();
+    limits_are_kept_or_passed();
+    words_have_one_bound();
+    match cells_within_limits(checked, word) {
+        Ok(cells) => posed(checked, word, cells, score_bound),
+        Err(_) => unreachable!(),
+    }
 }
 
 /// The problem of the checked grammar, its algebra and the word, where the word keeps the limits; else the fault: the

@@ -18,6 +18,11 @@ impl Model for Checked {
 
     ghost Value = { CheckedGrammar };
 
+    ghost use Rattle.adp_model.specs.WideForm.{form_code};
+    ghost use Rattle.std.specs.Coded.{codes};
+
+    ghost coded = { Prim.hlevel (codes, form_code) };
+
     ghost view = { checked_grammar };
 
     ghost invariant = { λ fields. PassesChecks (checked_grammar fields) };

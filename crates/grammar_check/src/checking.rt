@@ -1,16 +1,20 @@
 ghost use Rattle.std.specs.Prelude.{◌≡◌, ℕ, ◌<◌, IfOk, IsTrue, MatchOption, length};
-ghost use Rattle.adp_model.specs.GrammarFaults.{IsNamed, IsFirstFaulty, HasMonotoneTerm, HasOtherTerm};
+ghost use Rattle.adp_model.specs.GrammarFaults.{IsNamed, IsFirstFaulty, HasOtherTerm};
+ghost use Rattle.adp_model.specs.GrammarSigns.{HasMonotoneTerm};
 ghost use Rattle.adp_model.specs.WellFormed.{is_well_formed};
 ghost use Rattle.grammar_check.specs.CheckAnswers.{IsFirstFalse, IsFirstUnproductive, IsRefusal, MatchFaultless, MatchFindings, MatchCheck};
 
 use crate::checked::Checked;
 use crate::error::CheckError;
+use crate::signs::known_signs;
 use adp_model::laws::terms::monotone_terms_keep_order;
-use adp_model::laws::well_formed::{numbers_fit_together, terms_fit_their_signs};
+use adp_model::laws::well_formed::{alternatives_fit, numbers_fit_together, terms_fit_their_signs};
 use adp_model::{Grammar, GrammarFault, Sequence, Text};
-use algebra_terms::monotone;
 use std::alloc::{AllocError, Global};
-use yield_sizes::{Anchors, Sizes, anchors, first_loop, productive, ranks, sizes};
+use term_values::monotone;
+use yield_sizes::{
+    Anchors, Sizes, anchors, first_impossible, first_loop, productive, ranks, sizes,
+};
 
 /// What the checks find of a grammar that has no fault under an algebra, by its number.
 #[derive(Drop)]
@@ -57,12 +61,14 @@ fn first_other_term(grammar: &Grammar, algebra: u32) -> Option<usize>
         (length grammar.now.signs)) }
 {
     terms_fit_their_signs();
+    let known = known_signs(grammar, algebra);
     let terms = grammar.algebras.as_slice()[algebra as usize]
         .terms
         .as_slice();
     let signs = grammar.signs.as_slice();
     for sign in 0..signs.len() {
-        if !monotone(&terms[sign], signs[sign].kinds.as_slice()) {
+        let kinds = signs[sign].kinds.as_slice();
+        if !monotone(&terms[sign], kinds, known.tokens, known.scores) {
             return Some(sign);
         }
     }
@@ -113,6 +119,10 @@ fn faultless(alloc: Global, grammar: &Grammar, algebra: &Text) -> Result<(u32, S
         let name = &grammar.signs.as_slice()[sign].name;
         return Err(refusal(alloc, 4, name));
     }
+    if let Some(rule) = first_impossible(grammar, &sizes) {
+        let name = &grammar.rules.as_slice()[rule].name;
+        return Err(refusal(alloc, 5, name));
+    }
     Ok((number, sizes))
 }
 
@@ -133,13 +143,14 @@ fn examine(alloc: Global, grammar: &Grammar, algebra: &Text) -> Result<Findings,
 }
 
 /// Checks a grammar under its algebra of this name. A refusal is the first that holds: no algebra has the name; a rule
-/// is not productive; a rule is on a loop; a sign's term in the algebra is not monotone. It carries the asked name, or
-/// that of the first such rule or sign, and the grammar is gone.
+/// is not productive; a rule is on a loop; a sign's term in the algebra is not monotone; a rule has an alternative that no
+/// length fits. It carries the asked name, or that of the first such rule or sign, and the grammar is gone.
 pub fn check(alloc: Global, grammar: Grammar, algebra: &Text) -> Result<Checked, CheckError>
     requires { IsTrue (is_well_formed grammar) }
     ensures { MatchCheck grammar algebra.now result }
 {
     monotone_terms_keep_order();
+    alternatives_fit();
     let found = examine(alloc, &grammar, algebra)?;
     Ok(Checked {
         grammar,

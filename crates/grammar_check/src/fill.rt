@@ -5,7 +5,13 @@ use crate::rule_plan::RulePlan;
 use crate::table::Table;
 
 /// Writes the bounds at this length of the rules of this rank, once those of all lesser ranks are written.
-fn fill_rank(plans: &mut Vec<RulePlan>, ranks: &[u32], table: &mut Table, len: usize, rank: usize)
+fn fill_rank(
+    plans: &mut Vec<RulePlan<'_>>,
+    ranks: &[u32],
+    table: &mut Table,
+    len: usize,
+    rank: usize,
+)
     requires fillable { AreFillable ranks.now table.old plans.old }
     requires within { len < table.old.width }
     requires short { len < 2 ^ 32 }
@@ -25,7 +31,7 @@ fn fill_rank(plans: &mut Vec<RulePlan>, ranks: &[u32], table: &mut Table, len: u
 }
 
 /// Writes the bounds of all rules at this length, once those at all lesser lengths are written.
-fn fill_length(plans: &mut Vec<RulePlan>, ranks: &[u32], table: &mut Table, len: usize)
+fn fill_length(plans: &mut Vec<RulePlan<'_>>, ranks: &[u32], table: &mut Table, len: usize)
     requires fillable { AreFillable ranks.now table.old plans.old }
     requires fits { (rule : ℕ) → rule < vec_len plans.old → slice_index ranks.now rule < vec_len plans.old }
     requires within { len < table.old.width }
@@ -41,7 +47,7 @@ fn fill_length(plans: &mut Vec<RulePlan>, ranks: &[u32], table: &mut Table, len:
 }
 
 /// Writes the bounds of all rules at all lengths up to `most`.
-pub fn fill(plans: &mut Vec<RulePlan>, ranks: &[u32], table: &mut Table, most: usize)
+pub fn fill(plans: &mut Vec<RulePlan<'_>>, ranks: &[u32], table: &mut Table, most: usize)
     requires fillable { AreFillable ranks.now table.old plans.old }
     requires fits { (rule : ℕ) → rule < vec_len plans.old → slice_index ranks.now rule < vec_len plans.old }
     requires within { most < table.old.width }

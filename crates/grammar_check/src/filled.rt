@@ -13,13 +13,15 @@ use crate::plan::plans;
 use crate::rule_plan::RulePlan;
 use crate::table::Table;
 use adp_model::laws::sizes::sizes_are_the_checked_numbers;
-use adp_model::laws::well_formed::{arguments_are_few_and_known, numbers_fit_together};
+use adp_model::laws::well_formed::{
+    arguments_are_few_and_known, numbers_fit_together, terms_fit_their_alternatives,
+};
 use std::alloc::{AllocError, Global};
 
 /// The plan of a grammar, and the bounds of its rules at all lengths up to some length, cut.
 #[derive(Drop)]
-pub struct Filled {
-    pub plans: Vec<RulePlan>,
+pub struct Filled<'a> {
+    pub plans: Vec<RulePlan<'a>>,
     pub table: Table,
 }
 
@@ -29,7 +31,7 @@ pub fn filled_table(
     checked: &Checked,
     measure: Measure,
     most: usize,
-) -> Result<Filled, AllocError>
+) -> Result<Filled<'_>, AllocError>
     requires { most ≤ 4000 }
     ensures tokens { IfOk result (λ filled. (len : ℕ) → greatest_of (rule_tokens len) filled.plans.items
         ≡ tokens_number len (grammar_plan checked.now.grammar measure (lengths_of checked.now.sizes most))) }
@@ -42,6 +44,7 @@ pub fn filled_table(
     checked.passes();
     sizes_are_the_checked_numbers();
     arguments_are_few_and_known();
+    terms_fit_their_alternatives();
     numbers_fit_together();
     let mut plans = plans(alloc, &checked.grammar, &checked.sizes, measure, most)?;
     let mut table = Table::new(alloc, plans.len(), most + 1)?;

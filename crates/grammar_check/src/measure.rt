@@ -1,10 +1,10 @@
-ghost use Rattle.std.specs.Prelude.{◌≡◌, ◌<◌, length};
+ghost use Rattle.std.specs.Prelude.{◌≡◌, ◌<◌, length, Some, None, IfSome};
 ghost use Rattle.adp_model.specs.Bounds.{greatest_weight};
 ghost use Rattle.adp_model.specs.Parts.{algebra_at, letters_of};
-ghost use Rattle.grammar_check.specs.GrammarPlans.{constant_in, factor_in, weight_in, worth_in};
+ghost use Rattle.grammar_check.specs.GrammarPlans.{constant_in, factor_in, weight_in, wide_in, worth_in};
 
 use crate::part::Worth;
-use adp_model::{Arg, Grammar, Linear};
+use adp_model::{Arg, Grammar, Term, WideTerm};
 
 /// What is bounded.
 #[derive(Clone, Copy)]
@@ -16,7 +16,7 @@ pub enum Measure {
 }
 
 /// The terms of an algebra, one for each sign.
-fn terms(grammar: &Grammar, algebra: u32) -> &[Linear]
+fn terms(grammar: &Grammar, algebra: u32) -> &[Term]
     ensures { result.now ≡ (algebra_at grammar.now algebra).terms }
 {
     match grammar.algebras.as_slice().get(algebra as usize) {
@@ -49,14 +49,28 @@ fn class_weight(grammar: &Grammar, class: u32) -> u64
 }
 
 impl Measure {
+    /// The term of the sign, where it is a wide one that scores are bounded by.
+    pub fn wide_term(self, grammar: &Grammar, sign: u32) -> Option<&WideTerm>
+        ensures wide { IfSome result (λ term. wide_in grammar.now self sign ≡ Some term.now) }
+        ensures linear { result ≡ None → wide_in grammar.now self sign ≡ None }
+    {
+        match self {
+            Measure::Scores { algebra } => match terms(grammar, algebra).get(sign as usize) {
+                Some(Term::Wide(term)) => Some(term),
+                Some(Term::Linear(_)) | None => None,
+            },
+            Measure::Nodes => None,
+        }
+    }
+
     /// What an alternative of the sign adds of its own.
     pub fn constant(self, grammar: &Grammar, sign: u32) -> u64
         ensures { result ≡ constant_in grammar.now self sign }
     {
         match self {
             Measure::Scores { algebra } => match terms(grammar, algebra).get(sign as usize) {
-                None => 0,
-                Some(term) => term.constant.unsigned_abs(),
+                Some(Term::Linear(term)) => term.constant.unsigned_abs(),
+                Some(Term::Wide(_)) | None => 0,
             },
             Measure::Nodes => 1,
         }
@@ -68,11 +82,12 @@ impl Measure {
     {
         match self {
             Measure::Scores { algebra } => match terms(grammar, algebra).get(sign as usize) {
-                None => 0,
-                Some(term) => match term.factors.as_slice().get(place) {
+                Some(Term::Linear(term)) => match term.factors.as_slice().get(place) {
                     None => 0,
                     Some(factor) => factor.unsigned_abs(),
                 },
+                Some(Term::Wide(_)) => 1,
+                None => 0,
             },
             Measure::Nodes => 1,
         }

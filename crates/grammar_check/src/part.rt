@@ -1,6 +1,6 @@
 ghost use Rattle.std.specs.Prelude.{◌≡◌, ℕ, ◌*◌, ◌^◌, ◌-◌, ◌<◌, [], ◌∷◌, min, true, length, slice_index_or, IfOk};
 ghost use Rattle.adp_model.specs.LimitFaults.{told};
-ghost use Rattle.grammar_check.specs.Plans.{worth_of, IsReadable, ReadsRight, is_fixed, fixed_length, fixed_worth, open_parts};
+ghost use Rattle.grammar_check.specs.Plans.{worth_of, IsReadable, ReadsRight, is_fixed, fixed_length, fixed_worth, lows, open_parts};
 ghost use Rattle.grammar_check.specs.TokenNumbers.{letters_worth};
 
 use crate::cut::{cut_product, cut_sum};
@@ -102,6 +102,19 @@ impl Part {
     {
         self.low == other.low && self.room == other.room && self.worth.is_same(other.worth)
     }
+}
+
+/// The least length of all parts together, or the greatest number that there is.
+pub fn lows(parts: &[Part]) -> usize
+    ensures { result ≡ min (lows parts.now) (2 ^ 64 - 1) }
+{
+    let mut total: usize = 0;
+    let mut rest = parts;
+    while let Some((first, others)) = rest.split_first() {
+        total = total.saturating_add(first.low);
+        rest = others;
+    }
+    total
 }
 
 /// The letters of the tokens of one length, or the greatest number that there is.

@@ -1,14 +1,15 @@
-ghost use Rattle.std.specs.Prelude.{◌≡◌, ◌+◌, ◌^◌, ◌<◌, ◌≤◌, IfOk, IsTrue, length, map};
+ghost use Rattle.std.specs.Prelude.{◌≡◌, ◌+◌, ◌^◌, ◌<◌, ◌≤◌, [], ◌∷◌, ◌++◌, List, IfOk, OnOk, IsTrue, length, map, vec_len};
 ghost use Rattle.std.specs.List.{All};
 ghost use Rattle.adp_model.specs.WellFormed.{is_well_formed};
-ghost use Rattle.grammar_check.specs.GrammarPlans.{low_in, high_in, ranged, parts_in, entry_in, lengths_of};
+ghost use Rattle.grammar_check.specs.GrammarPlans.{HasFewLeaves, low_in, high_in, ranged, own_in, parts_in, entry_in, lengths_of, wide_in};
 ghost use Rattle.grammar_check.specs.Fills.{IsRuleWide};
+ghost use Rattle.grammar_check.specs.RuleValues.{Entry};
 ghost use Rattle.grammar_check.specs.KeptPlans.{Keeps, KeepsAll};
 
 use crate::measure::Measure;
 use crate::part::{Part, Worth};
 use crate::rule_plan::RulePlan;
-use adp_model::laws::well_formed::arguments_are_few_and_known;
+use adp_model::laws::well_formed::{arguments_are_few_and_known, terms_fit_their_alternatives};
 use adp_model::{Alt, Arg, Grammar};
 use std::alloc::{AllocError, Global};
 use yield_sizes::Sizes;
@@ -86,16 +87,40 @@ fn parts(
     Ok(parts)
 }
 
-/// What is kept of the alternatives of a rule, for lengths up to `most`.
-fn rule_plan(
+/// Adds an alternative of the sign, which has these parts, for lengths up to `most`.
+fn add_alternative<'a>(
     alloc: Global,
-    grammar: &Grammar,
+    plan: &mut RulePlan<'a>,
+    grammar: &'a Grammar,
+    measure: Measure,
+    most: usize,
+    sign: u32,
+    parts: Vec<Part>,
+) -> Result<(), AllocError>
+    requires few { vec_len parts ≤ 4 }
+    requires term { HasFewLeaves (wide_in grammar.now measure sign) }
+    requires short { most ≤ 4000 }
+    ensures keeps { OnOk result ((entries : List Entry) → Keeps entries plan.old
+        → Keeps (entries ++ (own_in grammar.now measure sign, parts.items) ∷ []) plan.new) }
+    ensures columns { OnOk result (IsRuleWide (most + 1) plan.old → IsRuleWide (most + 1) plan.new) }
+{
+    match measure.wide_term(grammar, sign) {
+        None => plan.add(alloc, measure.constant(grammar, sign), &parts, most),
+        Some(term) => plan.add_wide(alloc, term, parts, most),
+    }
+}
+
+/// What is kept of the alternatives of a rule, for lengths up to `most`.
+fn rule_plan<'a>(
+    alloc: Global,
+    grammar: &'a Grammar,
     sizes: &Sizes,
     measure: Measure,
     most: usize,
     alternatives: &[Alt],
-) -> Result<RulePlan, AllocError>
+) -> Result<RulePlan<'a>, AllocError>
     requires few { All (λ alternative. length alternative.args ≤ 4) alternatives.now }
+    requires terms { All (λ alternative. HasFewLeaves (wide_in grammar.now measure alternative.sign)) alternatives.now }
     requires short { most ≤ 4000 }
     ensures plan { IfOk result
         (Keeps (map (entry_in grammar.now measure (lengths_of sizes.now most)) alternatives.now)) }
@@ -106,25 +131,26 @@ fn rule_plan(
         let sign = alternative.sign;
         let arguments = alternative.args.as_slice();
         let parts = parts(alloc, grammar, sizes, measure, most, sign, arguments)?;
-        plan.add(alloc, measure.constant(grammar, sign), &parts, most)?;
+        add_alternative(alloc, &mut plan, grammar, measure, most, sign, parts)?;
     }
     Ok(plan)
 }
 
 /// What is kept of a grammar's plan, rule by rule, for lengths up to `most`.
-pub fn plans(
+pub fn plans<'a>(
     alloc: Global,
-    grammar: &Grammar,
+    grammar: &'a Grammar,
     sizes: &Sizes,
     measure: Measure,
     most: usize,
-) -> Result<Vec<RulePlan>, AllocError>
+) -> Result<Vec<RulePlan<'a>>, AllocError>
     requires well_formed { IsTrue (is_well_formed grammar.now) }
     requires short { most ≤ 4000 }
     ensures plan { IfOk result (λ plans. KeepsAll grammar.now measure (lengths_of sizes.now most) plans.items) }
     ensures columns { IfOk result (λ plans. All (λ plan. IsRuleWide (most + 1) plan) plans.items) }
 {
     arguments_are_few_and_known();
+    terms_fit_their_alternatives();
     let mut planned = Vec::with_capacity(alloc, grammar.rules.as_slice().len())?;
     for rule in grammar.rules.as_slice() {
         planned.push(rule_plan(alloc, grammar, sizes, measure, most, rule.alts.as_slice())?)?;

@@ -1,29 +1,34 @@
 ghost use Rattle.std.specs.Prelude.{◌≡◌, ℕ, ◌+◌, ◌^◌, ◌<◌, ◌≤◌, [], ◌∷◌, ◌++◌, true, max, length, slice_index_or, vec_len, List, OnOk, IfSome};
 ghost use Rattle.std.specs.List.{All};
+ghost use mathlib.Core.Logic.{inl, inr};
 ghost use Rattle.adp_model.specs.LimitFaults.{told};
+ghost use Rattle.adp_model.specs.Terms.{leaves};
 ghost use Rattle.grammar_check.specs.declared.part.Part.{Part};
 ghost use Rattle.grammar_check.specs.Fills.{IsRuleWide};
 ghost use Rattle.grammar_check.specs.KeptPlans.{AddsKept, Keeps};
-ghost use Rattle.grammar_check.specs.RuleValues.{IsWide, IsAllReadable, plan_of, kept_rule_value, AreAllRead, IsSpreadTo};
+ghost use Rattle.grammar_check.specs.RuleValues.{Entry, IsWide, IsAllReadable, kept_of, plan_of, kept_rule_value, AreAllRead, IsSpreadTo};
 ghost use Rattle.grammar_check.specs.TokenNumbers.{greatest_of, token_number};
 
 use crate::alternative::Alternative;
 use crate::cut::cut_sum;
-use crate::part::{Part, fixed_length, fixed_worth, has, is_same_list, open_parts};
+use crate::linear_alternative::LinearAlternative;
+use crate::part::{Part, fixed_length, fixed_worth, has, open_parts};
 use crate::table::Table;
+use crate::wide_alternative::WideAlternative;
+use adp_model::WideTerm;
 use std::alloc::{AllocError, Global};
 
 /// The alternatives of a rule, for the rows of a bound: one of those with the same parts and as many letters of tokens.
 /// Its tokens are those of all alternatives that add something, each once.
 #[derive(Drop)]
-pub struct RulePlan {
-    pub alternatives: Vec<Alternative>,
+pub struct RulePlan<'a> {
+    pub alternatives: Vec<Alternative<'a>>,
     pub tokens: Vec<Part>,
 }
 
-impl RulePlan {
+impl<'a> RulePlan<'a> {
     /// The plan of no alternatives.
-    pub fn new(alloc: Global) -> RulePlan
+    pub fn new(alloc: Global) -> RulePlan<'a>
         ensures keeps { Keeps [] result }
         ensures columns { (width : ℕ) → IsRuleWide width result }
     {
@@ -33,7 +38,8 @@ impl RulePlan {
         }
     }
 
-    /// Adds an alternative, which adds this of its own and has these parts, for lengths up to `most`.
+    /// Adds an alternative whose parts add up, which adds this of its own and has these parts, for lengths up to
+    /// `most`.
     pub fn add(
         &mut self,
         alloc: Global,
@@ -43,8 +49,8 @@ impl RulePlan {
     ) -> Result<(), AllocError>
         requires few { length parts.now ≤ 4 }
         requires short { most ≤ 4000 }
-        ensures keeps { OnOk result ((entries : List (ℕ × List Part)) → Keeps entries self.old
-            → Keeps (entries ++ (constant, parts.now) ∷ []) self.new) }
+        ensures keeps { OnOk result ((entries : List Entry) → Keeps entries self.old
+            → Keeps (entries ++ (inl constant, parts.now) ∷ []) self.new) }
         ensures columns { OnOk result (IsRuleWide (most + 1) self.old → IsRuleWide (most + 1) self.new) }
     {
         self.add_tokens(parts)?;
@@ -53,7 +59,27 @@ impl RulePlan {
         self.add_kept(alloc, constant, fixed_length(parts), open, most)
     }
 
-    /// Adds what is kept of an alternative: this of its own, tokens of so many letters, and these parts.
+    /// Adds an alternative with a wide term, which has these parts, for lengths up to `most`.
+    pub fn add_wide(
+        &mut self,
+        alloc: Global,
+        term: &'a WideTerm,
+        parts: Vec<Part>,
+        most: usize,
+    ) -> Result<(), AllocError>
+        requires few { length (leaves term.now) ≤ 32 }
+        requires short { most ≤ 4000 }
+        ensures keeps { OnOk result ((entries : List Entry) → Keeps entries self.old
+            → Keeps (entries ++ (inr term.now, parts.items) ∷ []) self.new) }
+        ensures columns { OnOk result (IsRuleWide (most + 1) self.old → IsRuleWide (most + 1) self.new) }
+    {
+        self.add_tokens(&parts)?;
+        let alternative = WideAlternative::new(alloc, term, parts, most)?;
+        self.alternatives.push(Alternative::Wide(alternative))?;
+        Ok(())
+    }
+
+    /// Adds what is kept of an alternative whose parts add up: this of its own, tokens of so many letters, and these parts.
     fn add_kept(
         &mut self,
         alloc: Global,
@@ -66,16 +92,15 @@ impl RulePlan {
         requires short { most ≤ 4000 }
         ensures tokens { self.new.tokens ≡ self.old.tokens }
         ensures kept { OnOk result (AddsKept (plan_of self.old.alternatives.items) (plan_of self.new.alternatives.items)
-            (constant, fixed, parts.items)) }
+            (inl constant, fixed, parts.items)) }
         ensures columns { OnOk result (IsRuleWide (most + 1) self.old → IsRuleWide (most + 1) self.new) }
     {
         if let Some(place) = self.place_of(fixed, &parts) {
-            let alternative = &mut self.alternatives[place];
-            alternative.constant = alternative.constant.max(constant);
+            self.alternatives[place].raise(constant);
             return Ok(());
         }
-        let alternative = Alternative::new(alloc, constant, fixed, parts, most)?;
-        self.alternatives.push(alternative)?;
+        let alternative = LinearAlternative::new(alloc, constant, fixed, parts, most)?;
+        self.alternatives.push(Alternative::Linear(alternative))?;
         Ok(())
     }
 
@@ -105,16 +130,14 @@ impl RulePlan {
         Ok(())
     }
 
-    /// The number of an alternative with the same parts and as many letters of tokens.
+    /// The number of an alternative whose parts add up, with the same parts and as many letters of tokens.
     fn place_of(&self, fixed: usize, parts: &[Part]) -> Option<usize>
         ensures inside { IfSome result (λ place. place < length self.now.alternatives.items) }
-        ensures fixed { IfSome result (λ place. (d : Alternative)
-            → (slice_index_or self.now.alternatives.items place d).fixed ≡ fixed) }
-        ensures parts { IfSome result (λ place. (d : Alternative)
-            → (slice_index_or self.now.alternatives.items place d).parts.items ≡ parts.now) }
+        ensures same { IfSome result (λ place. (d : Alternative) → (constant : ℕ)
+            × (kept_of (slice_index_or self.now.alternatives.items place d) ≡ (inl constant, fixed, parts.now))) }
     {
         for (place, alternative) in self.alternatives.iter().enumerate() {
-            if alternative.fixed == fixed && is_same_list(&alternative.parts, parts) {
+            if alternative.has_parts(fixed, parts) {
                 return Some(place);
             }
         }

@@ -34,14 +34,12 @@ fn parts_token(parts: &[Part], len: usize) -> u64
 }
 
 /// The greatest that letters of this number are worth to a token of the plans, cut.
-pub fn greatest_token(plans: &[RulePlan], len: usize) -> u64
+pub fn greatest_token(plans: &[RulePlan<'_>], len: usize) -> u64
     ensures { result ≡ told (greatest_of (rule_tokens len) plans.now) }
 {
     let mut greatest = 0;
-    let mut rest = plans;
-    while let Some((first, others)) = rest.split_first() {
-        greatest = parts_token(&first.tokens, len).max(greatest);
-        rest = others;
+    for plan in plans {
+        greatest = parts_token(&plan.tokens, len).max(greatest);
     }
     greatest
 }

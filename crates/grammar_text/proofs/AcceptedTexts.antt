@@ -8,8 +8,8 @@ use Rattle.adp_model.specs.Printable.{is_printable_byte}
 use Rattle.adp_model.specs.declared.grammar.Grammar.{Grammar}
 use Rattle.adp_model.specs.declared.job.Job.{Job}
 use Rattle.adp_model.specs.declared.fault.TextFault.{TextFault}
-use Rattle.adp_model.specs.WellFormed.{is_well_formed}
-use Rattle.job_texts.specs.JobLines.{job_lines, is_words_line, up_to_words_line, header_of, words_line_of, words_of}
+use Rattle.adp_model.specs.WellFormed.{is_of_version, is_well_formed}
+use Rattle.job_texts.specs.JobLines.{job_lines, is_second_format, line_at, is_words_line, up_to_words_line, header_of, version_of, words_line_of, words_of}
 use Rattle.job_texts.specs.Declarations.{Declaration, HeaderLine, Skipped, Unprintable, Unclosed, Shapeless, Says, header_line}
 use Rattle.job_texts.specs.DeclaredNames.{TextLines, text_lines, form_of, form_at, declarations, above, is_algebra_line}
 use Rattle.job_texts.specs.TextFaults.{is_axiom_line, is_words_line_number, Counted, limited, counts_of, counts_at, is_word_line, words_up_to}
@@ -17,7 +17,8 @@ use Rattle.job_texts.specs.JobText.{declared_grammar, first_fault, Accepted, acc
 use Rattle.grammar_text.specs.Building.{are_buildable}
 use Rattle.grammar_text.proofs.Nothing.{map_none, not_some, none_of_both, none_passes}
 use Rattle.grammar_text.proofs.Faultless.{free, Each, each_faultless, IsFaultless, is_over}
-use Rattle.grammar_text.proofs.Shapes.{IsShaped, LineShaped, header_line-shaped}
+use Rattle.grammar_text.proofs.FormatsKept.{IsOfFormat, declaration_of-formed, of_first, of_second}
+use Rattle.grammar_text.proofs.Shapes.{IsShaped, LineKeeps, header_line-keeps, header_line-shaped}
 use Rattle.grammar_text.proofs.WellFormedText.{IsSound, AreSound, well_formed, buildable}
 
 -- ---- the header
@@ -34,19 +35,21 @@ header_short : (bytes : List ℕ) → length (text_lines bytes).header ≤ lengt
 header_short bytes =
     let lines = job_lines bytes in
     let short = up_to_short (drop 1 lines) in
-    let counted : length (map header_line (header_of lines)) ≡ length (header_of lines) = length-map (header_of lines) header_line in
+    let counted : length (map (header_line (version_of lines)) (header_of lines)) ≡ length (header_of lines) = length-map (header_of lines) (header_line (version_of lines)) in
     omega (arith, length-drop 1 lines)
 
-kept_form : (line : HeaderLine) (declared : List Declaration) → LineShaped line → AllByRecursion IsShaped declared → AllByRecursion IsShaped (cons_option (form_of line) declared)
-kept_form (Says declaration) declared h k = (h, k)
-kept_form Skipped declared h k = k
-kept_form Unprintable declared h k = k
-kept_form Unclosed declared h k = k
-kept_form Shapeless declared h k = k
+-- what each line keeps, what the lines say keeps
+module _ (Keeps : Declaration → Type 0) (version : ℕ) (keeps : (line : List ℕ) → LineKeeps Keeps (header_line version line)) where
+  kept_form : (line : HeaderLine) (declared : List Declaration) → LineKeeps Keeps line → AllByRecursion Keeps declared → AllByRecursion Keeps (cons_option (form_of line) declared)
+  kept_form (Says declaration) declared h k = (h, k)
+  kept_form Skipped declared h k = k
+  kept_form Unprintable declared h k = k
+  kept_form Unclosed declared h k = k
+  kept_form Shapeless declared h k = k
 
-shaped_lines : (lines : List (List ℕ)) → AllByRecursion IsShaped (filter_map form_of (map header_line lines))
-shaped_lines [] = tt
-shaped_lines (line ∷ lines) = kept_form (header_line line) (filter_map form_of (map header_line lines)) (header_line-shaped line) (shaped_lines lines)
+  kept_lines : (lines : List (List ℕ)) → AllByRecursion Keeps (filter_map form_of (map (header_line version) lines))
+  kept_lines [] = tt
+  kept_lines (line ∷ lines) = kept_form (header_line version line) (filter_map form_of (map (header_line version) lines)) (keeps line) (kept_lines lines)
 
 each_sound : (all above below : List Declaration) → Each (IsFaultless all) above below → AllByRecursion IsShaped below → Each (IsSound all) above below
 each_sound all above [] h k = tt
@@ -101,6 +104,9 @@ at_words_line text line b e h =
     let here : (nat_eq line line && not b) ≡ false = subst (λ o. (option_eq nat_eq o (Some line) && not b) ≡ false) e h in
     not-false b (subst (λ t. (t && not b) ≡ false) (eq-eqb line line refl) here)
 
+all_faultless : (bytes : List ℕ) → first_fault (text_lines bytes) ≡ None → Each (IsFaultless (declarations (text_lines bytes))) [] (declarations (text_lines bytes))
+all_faultless bytes h = each_faultless (text_lines bytes) h (header_short bytes)
+
 are_sound : (bytes : List ℕ) → first_fault (text_lines bytes) ≡ None → AreSound (declarations (text_lines bytes))
 are_sound bytes h =
     let text = text_lines bytes in
@@ -108,13 +114,33 @@ are_sound bytes h =
     let found = words_line_at (job_lines bytes) (ended text h) in
     let at = free text found.0 h (omega arith) (omega arith) in
     record {
-      each = each_sound all [] all (each_faultless text h (header_short bytes)) (shaped_lines (header_of (job_lines bytes)));
+      each = each_sound all [] all (all_faultless bytes h) (kept_lines IsShaped text.version (header_line-shaped text.version) (header_of (job_lines bytes)));
       some_axiom = at_words_line text found.0 (list_any is_axiom_line all) found.1.at (or_parts _ _ at.one_axiom).1;
       some_algebra_line = at_words_line text found.0 (list_any is_algebra_line all) found.1.at (or_parts _ _ at.complete).1;
     }
 
 pub accepted-well_formed : (bytes : List ℕ) → first_fault (text_lines bytes) ≡ None → IsTrue (is_well_formed (declared_grammar (declarations (text_lines bytes))))
 accepted-well_formed bytes h = well_formed (declarations (text_lines bytes)) (are_sound bytes h)
+
+-- ---- the format
+
+declared_formed : (bytes : List ℕ) (version : ℕ) → (text_lines bytes).version ≡ version → AllByRecursion (IsOfFormat version) (declarations (text_lines bytes))
+declared_formed bytes version e =
+    let own = (text_lines bytes).version in
+    let keeps = header_line-keeps (IsOfFormat own) own (λ tokens printable. declaration_of-formed own tokens) in
+    subst (λ n. AllByRecursion (IsOfFormat n) (declarations (text_lines bytes))) e (kept_lines (IsOfFormat own) own keeps (header_of (job_lines bytes)))
+
+by_format : (bytes : List ℕ) (second : Bool) → (text_lines bytes).version ≡ cond second 2 1 → first_fault (text_lines bytes) ≡ None
+    → IsTrue (is_of_version (text_lines bytes).version (declared_grammar (declarations (text_lines bytes))))
+by_format bytes true e h =
+    let all = declarations (text_lines bytes) in
+    subst (λ n. IsTrue (is_of_version n (declared_grammar all))) (sym e) (of_second all (all_faultless bytes h) (declared_formed bytes 2 e))
+by_format bytes false e h =
+    let all = declarations (text_lines bytes) in
+    subst (λ n. IsTrue (is_of_version n (declared_grammar all))) (sym e) (of_first all (all_faultless bytes h) (declared_formed bytes 1 e))
+
+pub accepted-of_version : (bytes : List ℕ) → first_fault (text_lines bytes) ≡ None → IsTrue (is_of_version (text_lines bytes).version (declared_grammar (declarations (text_lines bytes))))
+accepted-of_version bytes h = by_format bytes (is_second_format (line_at (job_lines bytes) 1)) refl h
 
 -- the declarations of a text without a fault can be built of
 pub accepted-buildable : (bytes : List ℕ) → first_fault (text_lines bytes) ≡ None → are_buildable (declarations (text_lines bytes)) ≡ true
@@ -180,8 +206,10 @@ verdict_of text (Some fault) = Err fault
 verdict_by : (bytes : List ℕ) (fault : Option TextFault) → first_fault (text_lines bytes) ≡ fault → ((job : Job) × IsText bytes job) ⊎ ((fault : TextFault) × IsFaultOf bytes fault)
 verdict_by bytes None e =
     let job : Job = record {
+      version = (text_lines bytes).version;
       grammar = declared_grammar (declarations (text_lines bytes));
       words = (text_lines bytes).words;
+      of_version = accepted-of_version bytes e;
       well_formed = accepted-well_formed bytes e;
       printable_words = accepted-printable bytes e;
       few_words = accepted-few bytes e;
@@ -195,18 +223,18 @@ some_verdict bytes = verdict_by bytes (first_fault (text_lines bytes)) refl
 pub not_both_verdicts : (bytes : List ℕ) (job : Job) (fault : TextFault) → IsText bytes job → IsFaultOf bytes fault → ⊥
 not_both_verdicts bytes job fault accepted refused = apart (text_verdict bytes) accepted refused
   where
-    apart : (verdict : Result Accepted TextFault) → verdict ≡ Ok (record { grammar = job.grammar; words = job.words }) → verdict ≡ Err fault → ⊥
+    apart : (verdict : Result Accepted TextFault) → verdict ≡ Ok (record { version = job.version; grammar = job.grammar; words = job.words }) → verdict ≡ Err fault → ⊥
     apart verdict e f = cc
 
-pub one_job : (bytes : List ℕ) (job other : Job) → IsText bytes job → IsText bytes other → (job.grammar ≡ other.grammar) × (job.words ≡ other.words)
+pub one_job : (bytes : List ℕ) (job other : Job) → IsText bytes job → IsText bytes other → (job.version ≡ other.version) × (job.grammar ≡ other.grammar) × (job.words ≡ other.words)
 one_job bytes job other accepted again = same (text_verdict bytes) accepted again
   where
-    same : (verdict : Result Accepted TextFault) → verdict ≡ Ok (record { grammar = job.grammar; words = job.words }) → verdict ≡ Ok (record { grammar = other.grammar; words = other.words }) → (job.grammar ≡ other.grammar) × (job.words ≡ other.words)
+    same : (verdict : Result Accepted TextFault) → verdict ≡ Ok (record { version = job.version; grammar = job.grammar; words = job.words }) → verdict ≡ Ok (record { version = other.version; grammar = other.grammar; words = other.words }) → (job.version ≡ other.version) × (job.grammar ≡ other.grammar) × (job.words ≡ other.words)
     same verdict e f =
-        let first : Accepted = record { grammar = job.grammar; words = job.words } in
-        let second : Accepted = record { grammar = other.grammar; words = other.words } in
+        let first : Accepted = record { version = job.version; grammar = job.grammar; words = job.words } in
+        let second : Accepted = record { version = other.version; grammar = other.grammar; words = other.words } in
         let both : first ≡ second = same_ok first second (sym e ∙ f) in
-        (ap (λ (a : Accepted). a.grammar) both, ap (λ (a : Accepted). a.words) both)
+        (ap (λ (a : Accepted). a.version) both, ap (λ (a : Accepted). a.grammar) both, ap (λ (a : Accepted). a.words) both)
 
 pub one_fault : (bytes : List ℕ) (fault other : TextFault) → IsFaultOf bytes fault → IsFaultOf bytes other → fault ≡ other
 one_fault bytes fault other refused again = same (text_verdict bytes) refused again
@@ -216,17 +244,20 @@ one_fault bytes fault other refused again = same (text_verdict bytes) refused ag
 
 -- ---- a job that is made of a text
 
--- the grammar and the words of a text without a fault
-pub record IsMade (bytes : List ℕ) (grammar : Grammar) (words : List (List ℕ)) : Type 0 where
+-- the format, the grammar and the words of a text without a fault
+pub record IsMade (bytes : List ℕ) (version : ℕ) (grammar : Grammar) (words : List (List ℕ)) : Type 0 where
+  pub of_version : IsTrue (is_of_version version grammar)
   pub well_formed : IsTrue (is_well_formed grammar)
   pub printable_words : IsTrue (list_all (list_all is_printable_byte) words)
   pub few_words : IsTrue (nat_le (length words) 65536)
-  pub verdict : text_verdict bytes ≡ Ok (record { grammar = grammar; words = words })
+  pub verdict : text_verdict bytes ≡ Ok (record { version = version; grammar = grammar; words = words })
 
-pub made : (bytes : List ℕ) (grammar : Grammar) (words : List (List ℕ)) → first_fault (text_lines bytes) ≡ None → grammar ≡ declared_grammar (declarations (text_lines bytes)) → words ≡ (text_lines bytes).words → IsMade bytes grammar words
-made bytes grammar words h g w =
-    let accepted : ◌≡◌ {A = Accepted} (accepted_of (text_lines bytes)) (record { grammar = grammar; words = words }) = λ i. record { grammar = sym g i; words = sym w i } in
+pub made : (bytes : List ℕ) (version : ℕ) (grammar : Grammar) (words : List (List ℕ)) → first_fault (text_lines bytes) ≡ None → version ≡ (text_lines bytes).version → grammar ≡ declared_grammar (declarations (text_lines bytes)) → words ≡ (text_lines bytes).words
+    → IsMade bytes version grammar words
+made bytes version grammar words h v g w =
+    let accepted : ◌≡◌ {A = Accepted} (accepted_of (text_lines bytes)) (record { version = version; grammar = grammar; words = words }) = λ i. record { version = sym v i; grammar = sym g i; words = sym w i } in
     record {
+      of_version = subst (λ (n : ℕ). IsTrue (is_of_version n grammar)) (sym v) (subst (λ x. IsTrue (is_of_version (text_lines bytes).version x)) (sym g) (accepted-of_version bytes h));
       well_formed = subst (λ x. IsTrue (is_well_formed x)) (sym g) (accepted-well_formed bytes h);
       printable_words = subst (λ x. IsTrue (list_all (list_all is_printable_byte) x)) (sym w) (accepted-printable bytes h);
       few_words = subst (λ (x : List (List ℕ)). IsTrue (nat_le (length x) 65536)) (sym w) (accepted-few bytes h);

@@ -2,7 +2,7 @@
 use Rattle.std.proofs.Common.{◌≡◌, ℕ, zero, suc, ◌+◌, ◌<◌, get_or, length, take, Result, Ok, Err, List, [], ◌∷◌, ◌++◌, map, drop, refl, sym, ap, ◌∙◌, add-zero, subst, arith}
 use Rattle.std.proofs.lemmas.List.{take-append-drop, drop_more, map-append}
 use Rattle.job_texts.specs.LineTokens.{Token, PlacedToken, Offence, Beginning, Space, Begins, Stops, beginning, with_token, tokens_from, line_tokens, tokens_of}
-use Rattle.job_texts.specs.TermParts.{parts_of, term_parts}
+use Rattle.job_texts.specs.LetTerms.{term_of_text, term_of_tokens}
 use Rattle.algebra_terms.specs.declared.lexer.Token as spans
 use Rattle.algebra_terms.specs.Tokens.{said, placed}
 
@@ -122,11 +122,11 @@ pub said_of_placed : (line : List ℕ) (tokens : List spans.Token) → map (λ (
 said_of_placed line [] = refl
 said_of_placed line (token ∷ tokens) = ap (λ (others : List Token). said line token ∷ others) (said_of_placed line tokens)
 
--- the parts of the term behind a token
-pub parts_behind : (line : List ℕ) (tokens : List spans.Token) (place : ℕ) (d : spans.Token) → place < length tokens
+-- the term behind a token
+pub term_behind : (version : ℕ) (line : List ℕ) (tokens : List spans.Token) (place : ℕ) (d : spans.Token) → place < length tokens
     → line_tokens line ≡ Ok (map (placed line) tokens)
-    → term_parts (drop (get_or tokens place d).to line) ≡ parts_of (map (said line) (drop (place + 1) tokens))
-parts_behind line tokens place d inside h =
+    → term_of_text version (drop (get_or tokens place d).to line) ≡ term_of_tokens version (map (said line) (drop (place + 1) tokens))
+term_behind version line tokens place d inside h =
     let others = drop (place + 1) tokens in
     let split : tokens ≡ take place tokens ++ get_or tokens place d ∷ others =
     sym (take-append-drop place tokens) ∙ ap (λ (rest : List spans.Token). take place tokens ++ rest) (drop_more tokens place d inside) in

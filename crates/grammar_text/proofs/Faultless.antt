@@ -10,7 +10,7 @@ use Rattle.adp_model.specs.declared.fault.TextFault.{TextFault}
 use Rattle.job_texts.specs.TermText.{is_among}
 use Rattle.job_texts.specs.Declarations.{Declaration, HeaderLine, Skipped, Unprintable, Unclosed, Shapeless, Says}
 use Rattle.job_texts.specs.DeclaredNames.{TextLines, form_of, form_at, declarations, above, below, sign_names, section_of, let_signs, is_algebra_line}
-use Rattle.job_texts.specs.TextFaults.{has_unprintable_byte, has_no_words_line, has_not_one_axiom, lacks_let, has_no_name, has_no_number, has_repeated_name, has_no_letters, has_misplaced_let, has_unknown_name, has_misfit, has_crossed_run, passes_limit, misnames, misnumbers, repeats, misletters, is_misplaced, uses_unknown, misfits, Counted, counts_of, counts_at, is_word_line, words_up_to, limited, FaultKind, fault_kinds, plain_kind}
+use Rattle.job_texts.specs.TextFaults.{has_unprintable_byte, has_no_words_line, has_not_one_axiom, lacks_let, has_no_name, has_no_number, has_repeated_name, has_no_letters, has_misplaced_let, has_unknown_name, has_misfit, has_crossed_run, passes_limit, misnames, misnumbers, repeats, misletters, is_misplaced, uses_unknown, misfits, Counted, counts_of, counts_at, is_word_line, words_up_to, limited, FaultKind, fault_kinds, plain_kind, has_variable_twice, is_twice}
 use Rattle.job_texts.specs.JobText.{fault_at, first_fault_at, first_fault}
 use Rattle.grammar_text.specs.Judged as judged
 use Rattle.grammar_text.proofs.Nothing.{or_none, map_none, not_some, none_passes, none_of_both, told}
@@ -32,6 +32,7 @@ pub record IsFreeLine (text : TextLines) (line : ℕ) : Type 0 where
   pub uncrossed : has_crossed_run text line ≡ false
   pub complete : lacks_let text line ≡ false
   pub counted : passes_limit text line ≡ false
+  pub once : has_variable_twice text line ≡ false
 
 abbrev stands_at : TextLines → ℕ → FaultKind → Bool
 stands_at text line kind = kind.stands text line
@@ -56,6 +57,7 @@ free_line text line h =
       uncrossed = none_passes (stands_at text line) fault_kinds 13 any_kind (lit< tt) none;
       complete = none_passes (stands_at text line) fault_kinds 14 any_kind (lit< tt) none;
       counted = none_passes (stands_at text line) fault_kinds 15 any_kind (lit< tt) none;
+      once = none_passes (stands_at text line) fault_kinds 16 any_kind (lit< tt) none;
     }
 
 no_fault : (text : TextLines) (from n k line : ℕ) → first_fault_at text (range_with_len from n) ≡ None → k < n → from + k ≡ line → fault_at text line ≡ None
@@ -126,6 +128,7 @@ pub record IsFaultless (all above : List Declaration) (declaration : Declaration
   pub uncrossed : judged.has_crossed_run declaration ≡ false
   pub complete : (is_algebra_line declaration && not (list_all (is_among (let_signs (section_of below))) (sign_names all))) ≡ false
   pub counted : find is_over (counts_of above declaration) ≡ None
+  pub once : is_twice declaration ≡ false
 
 faultless_at : (text : TextLines) (line : ℕ) (declaration : Declaration) → IsFreeLine text line → form_at text line ≡ Some declaration → IsFaultless (declarations text) (above text line) declaration (below text line)
 faultless_at text line declaration free e =
@@ -140,6 +143,7 @@ faultless_at text line declaration free e =
       known = told (uses_unknown (declarations text)) (form_at text line) declaration e free.known;
       fit = told (misfits (declarations text)) (form_at text line) declaration e free.fit;
       uncrossed = told judged.has_crossed_run (form_at text line) declaration e free.uncrossed;
+      once = told is_twice (form_at text line) declaration e free.once;
       complete = told (λ d. is_algebra_line d && not (list_all (is_among (let_signs (section_of (below text line)))) (sign_names (declarations text)))) (form_at text line) declaration e (or_parts _ _ free.complete).0;
       counted = subst (λ o. find is_over (option_map_or (counts_of (above text line)) o []) ≡ None) e of_form;
     }

@@ -51,10 +51,10 @@ arguments_more view front argument None = refl
 arguments_more view front argument (Some found) = rw (map_push view front argument) (simp append_assoc)
 
 -- the alternative of these arguments, before those behind its closing bracket
-pub alternative_closed : (sign : List ℕ) (arguments : List forms.Argument) (others : Option (List forms.Alternative))
-    → forms.with_sign sign (with_arguments arguments (forms.at_close others)) ≡ forms.and_before (record { sign = sign; arguments = arguments }) others
-alternative_closed sign arguments None = refl
-alternative_closed sign arguments (Some others) = rw append-nil refl
+pub alternative_closed : (sign : List ℕ) (arguments : List forms.Argument) (size : Option forms.SizeWords) (others : Option (List forms.Alternative))
+    → forms.with_sign sign (with_arguments arguments (forms.at_close size others)) ≡ forms.and_before (record { sign = sign; arguments = arguments; size = size }) others
+alternative_closed sign arguments size None = refl
+alternative_closed sign arguments size (Some others) = rw append-nil refl
 
 pub some_items : (symbols : List Symbol) → 0 < length symbols → forms.items_of (tokens_seen symbols) ≡ forms.further_items (tokens_seen symbols)
 some_items [] h = absurd (omega arith)

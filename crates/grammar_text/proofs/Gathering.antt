@@ -3,7 +3,7 @@ use Rattle.std.proofs.Common.{◌≡◌, ℕ, suc, ◌+◌, ◌-◌, Bool, true,
 use Rattle.std.specs.List.{list_any, position}
 use Rattle.std.specs.Option.{option_map}
 use Rattle.std.specs.Borrow.{Bor}
-use Rattle.job_texts.specs.JobLines.{job_lines, is_words_line, up_to_words_line, words_line_of, words_of}
+use Rattle.job_texts.specs.JobLines.{job_lines, is_words_line, up_to_words_line, version_of, words_line_of, words_of}
 use Rattle.job_texts.specs.DeclaredNames.{text_lines}
 use Rattle.grammar_text.specs.Seen.{words_seen}
 use Rattle.job_texts.specs.Declarations as forms
@@ -44,23 +44,24 @@ last_place_more line (first ∷ header) other = step (list_any is_last (first �
         rw (other, e) (ap (λ (p : ℕ). Some p) place)
     step false e = rw (other, e) refl
 
-words_place : (lines : List (List ℕ)) → position is_words_line lines ≡ last_place (map forms.header_line (up_to_words_line lines))
-words_place [] = refl
-words_place (line ∷ lines) = step (is_words_line line) refl (words_place lines)
-  where
-    step : (is : Bool) → is_words_line line ≡ is → position is_words_line lines ≡ last_place (map forms.header_line (up_to_words_line lines))
-        → position is_words_line (line ∷ lines) ≡ last_place (map forms.header_line (up_to_words_line (line ∷ lines)))
-    step true e others =
-        let last : is_last (forms.header_line line) ≡ true = last_is_words line ∙ e in
-        let lines_are : map forms.header_line (up_to_words_line (line ∷ lines)) ≡ forms.header_line line ∷ [] = rw e refl in
-        let one : last_place (forms.header_line line ∷ []) ≡ Some 0 = rw last refl in
-        first_yes is_words_line line lines e ∙ sym (ap last_place lines_are ∙ one)
-    step false e others =
-        let last : is_last (forms.header_line line) ≡ false = last_is_words line ∙ e in
-        let lines_are : map forms.header_line (up_to_words_line (line ∷ lines)) ≡ forms.header_line line ∷ map forms.header_line (up_to_words_line lines) = rw e refl in
-        first_no is_words_line line lines e ∙ ap (option_map (λ place. suc place)) others
-        ∙ sym (last_place_more (forms.header_line line) (map forms.header_line (up_to_words_line lines)) last)
-        ∙ ap last_place (sym lines_are)
+module _ (version : ℕ) where
+  words_place : (lines : List (List ℕ)) → position is_words_line lines ≡ last_place (map (forms.header_line version) (up_to_words_line lines))
+  words_place [] = refl
+  words_place (line ∷ lines) = step (is_words_line line) refl (words_place lines)
+    where
+      step : (is : Bool) → is_words_line line ≡ is → position is_words_line lines ≡ last_place (map (forms.header_line version) (up_to_words_line lines))
+          → position is_words_line (line ∷ lines) ≡ last_place (map (forms.header_line version) (up_to_words_line (line ∷ lines)))
+      step true e others =
+          let last : is_last ((forms.header_line version) line) ≡ true = last_is_words version line ∙ e in
+          let lines_are : map (forms.header_line version) (up_to_words_line (line ∷ lines)) ≡ (forms.header_line version) line ∷ [] = rw e refl in
+          let one : last_place ((forms.header_line version) line ∷ []) ≡ Some 0 = rw last refl in
+          first_yes is_words_line line lines e ∙ sym (ap last_place lines_are ∙ one)
+      step false e others =
+          let last : is_last ((forms.header_line version) line) ≡ false = last_is_words version line ∙ e in
+          let lines_are : map (forms.header_line version) (up_to_words_line (line ∷ lines)) ≡ (forms.header_line version) line ∷ map (forms.header_line version) (up_to_words_line lines) = rw e refl in
+          first_no is_words_line line lines e ∙ ap (option_map (λ place. suc place)) others
+          ∙ sym (last_place_more ((forms.header_line version) line) (map (forms.header_line version) (up_to_words_line lines)) last)
+          ∙ ap last_place (sym lines_are)
 
 last_number : (header : List forms.HeaderLine) → words_line_in (forms.Skipped ∷ header) ≡ option_map (λ place. place + 2) (last_place header)
 last_number [] = refl
@@ -73,18 +74,18 @@ last_number (first ∷ header) = step (list_any is_last (first ∷ header)) refl
     step false e = rw e refl
 
 -- the number of the `words` line is that of the last line of its header
-pub words_line_is : (lines : List (List ℕ)) → words_line_in (forms.Skipped ∷ map forms.header_line (up_to_words_line (drop 1 lines))) ≡ words_line_of lines
-words_line_is lines = last_number (map forms.header_line (up_to_words_line (drop 1 lines))) ∙ ap (option_map (λ place. place + 2)) (sym (words_place (drop 1 lines)))
+pub words_line_is : (version : ℕ) (lines : List (List ℕ)) → words_line_in (forms.Skipped ∷ map (forms.header_line version) (up_to_words_line (drop 1 lines))) ≡ words_line_of lines
+words_line_is version lines = last_number (map (forms.header_line version) (up_to_words_line (drop 1 lines))) ∙ ap (option_map (λ place. place + 2)) (sym (words_place version (drop 1 lines)))
 
 pub words_behind_first : (lines : List (Bor (List ℕ))) → words_seen (drop 1 lines) ≡ drop 1 (words_seen lines)
 words_behind_first [] = refl
 words_behind_first (line ∷ lines) = refl
 
 -- what is gathered is the text
-pub text_is : (text : List ℕ) (lines others : List (List ℕ)) (header : List forms.HeaderLine) (words_line : Option ℕ) → lines ≡ job_lines text → others ≡ drop 1 lines
-    → header ≡ forms.Skipped ∷ map forms.header_line (up_to_words_line others) → words_line ≡ words_line_in header
-    → record { lines = lines; header = header; words_line = words_line; words = words_of lines } ≡ text_lines text
-text_is text lines others header words_line l o h w =
-    let header_is : header ≡ forms.Skipped ∷ map forms.header_line (up_to_words_line (drop 1 lines)) = h ∙ ap (λ (these : List (List ℕ)). forms.Skipped ∷ map forms.header_line (up_to_words_line these)) o in
-    let number : words_line ≡ words_line_of lines = w ∙ ap words_line_in header_is ∙ words_line_is lines in
-    rw (number, header_is, l) refl
+pub text_is : (text : List ℕ) (version : ℕ) (lines others : List (List ℕ)) (header : List forms.HeaderLine) (words_line : Option ℕ) → lines ≡ job_lines text → version ≡ version_of lines → others ≡ drop 1 lines
+    → header ≡ forms.Skipped ∷ map (forms.header_line version) (up_to_words_line others) → words_line ≡ words_line_in header
+    → record { version = version; lines = lines; header = header; words_line = words_line; words = words_of lines } ≡ text_lines text
+text_is text version lines others header words_line l v o h w =
+    let header_is : header ≡ forms.Skipped ∷ map (forms.header_line version) (up_to_words_line (drop 1 lines)) = h ∙ ap (λ (these : List (List ℕ)). forms.Skipped ∷ map (forms.header_line version) (up_to_words_line these)) o in
+    let number : words_line ≡ words_line_of lines = w ∙ ap words_line_in header_is ∙ words_line_is version lines in
+    rw (number, header_is, v, l) refl

@@ -11,16 +11,17 @@ use Rattle.algebra_terms.specs.Tokens as code
 use Rattle.grammar_text.specs.Seen.{tokens_seen}
 use Rattle.grammar_text.proofs.BehindTokens.{said_of_placed}
 
-pub says_form : (line : List ℕ) (tokens : List spans.Token) (said : List Symbol) (form : forms.Declaration)
-    → is_skipped line ≡ false → list_all is_printable_byte line ≡ true → line_tokens line ≡ Ok (map (code.placed line) tokens)
-    → tokens_seen said ≡ map (code.said line) tokens → Some form ≡ forms.declaration_of (tokens_seen said)
-    → forms.Says form ≡ forms.header_line line
-says_form line tokens said form skipped printable h same found =
-    rw (skipped, printable, h, said_of_placed line tokens, ← same, ← found) refl
+module _ (version : ℕ) where
+  pub says_form : (line : List ℕ) (tokens : List spans.Token) (said : List Symbol) (form : forms.Declaration)
+      → is_skipped line ≡ false → list_all is_printable_byte line ≡ true → line_tokens line ≡ Ok (map (code.placed line) tokens)
+      → tokens_seen said ≡ map (code.said line) tokens → Some form ≡ (forms.declaration_of version) (tokens_seen said)
+      → forms.Says form ≡ (forms.header_line version) line
+  says_form line tokens said form skipped printable h same found =
+      rw (skipped, printable, h, said_of_placed line tokens, ← same, ← found) refl
 
-pub has_no_form : (line : List ℕ) (tokens : List spans.Token) (said : List Symbol)
-    → is_skipped line ≡ false → list_all is_printable_byte line ≡ true → line_tokens line ≡ Ok (map (code.placed line) tokens)
-    → tokens_seen said ≡ map (code.said line) tokens → None ≡ forms.declaration_of (tokens_seen said)
-    → forms.Shapeless ≡ forms.header_line line
-has_no_form line tokens said skipped printable h same found =
-    rw (skipped, printable, h, said_of_placed line tokens, ← same, ← found) refl
+  pub has_no_form : (line : List ℕ) (tokens : List spans.Token) (said : List Symbol)
+      → is_skipped line ≡ false → list_all is_printable_byte line ≡ true → line_tokens line ≡ Ok (map (code.placed line) tokens)
+      → tokens_seen said ≡ map (code.said line) tokens → None ≡ (forms.declaration_of version) (tokens_seen said)
+      → forms.Shapeless ≡ (forms.header_line version) line
+  has_no_form line tokens said skipped printable h same found =
+      rw (skipped, printable, h, said_of_placed line tokens, ← same, ← found) refl

@@ -38,61 +38,62 @@ declared_few (Shapeless ∷ lines) = let h = declared_few lines in omega arith
 abbrev pub HasFewParts : Declaration → Type 0
 HasFewParts declaration = part_count declaration < 2 ^ 32
 
-pub parts_short : (lines : List (List ℕ)) → All (λ line. length line ≤ 2 ^ 31) lines → All HasFewParts (filter_map form_of (map header_line (up_to_words_line lines)))
-parts_short [] short = λ k d h. absurd (omega arith)
-parts_short (line ∷ lines) short = step (is_words_line line) (header_line line) refl refl (parts_short lines (λ k d h. short (suc k) d (omega arith)))
-  where
-    more : (found : HeaderLine) → header_line line ≡ found → (others : List HeaderLine) → All HasFewParts (filter_map form_of others) → All HasFewParts (filter_map form_of (found ∷ others))
-    more (Says d) e others h = All-cons HasFewParts d (filter_map form_of others) (let few = parts_few line d e in let s : length line ≤ 2 ^ 31 = short 0 line (omega arith) in omega arith) h
-    more Skipped e others h = h
-    more Unprintable e others h = h
-    more Unclosed e others h = h
-    more Shapeless e others h = h
+module _ (version : ℕ) where
+  pub parts_short : (lines : List (List ℕ)) → All (λ line. length line ≤ 2 ^ 31) lines → All HasFewParts (filter_map form_of (map (header_line version) (up_to_words_line lines)))
+  parts_short [] short = λ k d h. absurd (omega arith)
+  parts_short (line ∷ lines) short = step (is_words_line line) ((header_line version) line) refl refl (parts_short lines (λ k d h. short (suc k) d (omega arith)))
+    where
+      more : (found : HeaderLine) → (header_line version) line ≡ found → (others : List HeaderLine) → All HasFewParts (filter_map form_of others) → All HasFewParts (filter_map form_of (found ∷ others))
+      more (Says d) e others h = All-cons HasFewParts d (filter_map form_of others) (let few = parts_few version line d e in let s : length line ≤ 2 ^ 31 = short 0 line (omega arith) in omega arith) h
+      more Skipped e others h = h
+      more Unprintable e others h = h
+      more Unclosed e others h = h
+      more Shapeless e others h = h
 
-    step : (is : Bool) (found : HeaderLine) → is_words_line line ≡ is → header_line line ≡ found → All HasFewParts (filter_map form_of (map header_line (up_to_words_line lines)))
-        → All HasFewParts (filter_map form_of (map header_line (up_to_words_line (line ∷ lines))))
-    step true found e k h = rw (e, k) (more found k [] (λ k d h. absurd (omega arith)))
-    step false found e k h = rw (e, k) (more found k (map header_line (up_to_words_line lines)) h)
+      step : (is : Bool) (found : HeaderLine) → is_words_line line ≡ is → (header_line version) line ≡ found → All HasFewParts (filter_map form_of (map (header_line version) (up_to_words_line lines)))
+          → All HasFewParts (filter_map form_of (map (header_line version) (up_to_words_line (line ∷ lines))))
+      step true found e k h = rw (e, k) (more found k [] (λ k d h. absurd (omega arith)))
+      step false found e k h = rw (e, k) (more found k (map (header_line version) (up_to_words_line lines)) h)
 
--- what is declared, of the header as it is kept
-declared_are : (sorts : List LineSort) (declared : List code.Declaration) (others : List (Bor (List ℕ))) → says_in sorts ≡ length declared
-    → woven sorts (map declaration_seen declared) ≡ Skipped ∷ map header_line (up_to_words_line (words_seen others)) → map declaration_seen declared ≡ filter_map form_of (map header_line (up_to_words_line (words_seen others)))
-declared_are sorts declared others says seen =
-    sym (forms-woven sorts (map declaration_seen declared) (says ∙ sym (length-map declared declaration_seen))) ∙ ap (filter_map form_of) seen
+  -- what is declared, of the header as it is kept
+  declared_are : (sorts : List LineSort) (declared : List code.Declaration) (others : List (Bor (List ℕ))) → says_in sorts ≡ length declared
+      → woven sorts (map declaration_seen declared) ≡ Skipped ∷ map (header_line version) (up_to_words_line (words_seen others)) → map declaration_seen declared ≡ filter_map form_of (map (header_line version) (up_to_words_line (words_seen others)))
+  declared_are sorts declared others says seen =
+      sym (forms-woven sorts (map declaration_seen declared) (says ∙ sym (length-map declared declaration_seen))) ∙ ap (filter_map form_of) seen
 
-pub declared_within : (sorts : List LineSort) (declared : List code.Declaration) (lines others : List (Bor (List ℕ))) → says_in sorts ≡ length declared
-    → woven sorts (map declaration_seen declared) ≡ Skipped ∷ map header_line (up_to_words_line (words_seen others)) → others ≡ drop 1 lines → (most : ℕ) → length lines ≤ most → length declared ≤ most
-declared_within sorts declared lines others says seen behind most few =
-    let same : length declared ≡ length (filter_map form_of (map header_line (up_to_words_line (words_seen others)))) =
-    sym (length-map declared declaration_seen) ∙ ap length (declared_are sorts declared others says seen) in
-    let one = declared_few (map header_line (up_to_words_line (words_seen others))) in
-    let two : length (map header_line (up_to_words_line (words_seen others))) ≡ length (up_to_words_line (words_seen others)) = length-map (up_to_words_line (words_seen others)) header_line in
-    let three = header_short (words_seen others) in
-    let four : length (words_seen others) ≡ length others = length-map others (λ word. word.now) in
-    let five : length others ≤ length lines = rw behind (shorter lines) in
-    omega arith
-  where
-    shorter : (lines : List (Bor (List ℕ))) → length (drop 1 lines) ≤ length lines
-    shorter [] = omega arith
-    shorter (line ∷ lines) = omega arith
+  pub declared_within : (sorts : List LineSort) (declared : List code.Declaration) (lines others : List (Bor (List ℕ))) → says_in sorts ≡ length declared
+      → woven sorts (map declaration_seen declared) ≡ Skipped ∷ map (header_line version) (up_to_words_line (words_seen others)) → others ≡ drop 1 lines → (most : ℕ) → length lines ≤ most → length declared ≤ most
+  declared_within sorts declared lines others says seen behind most few =
+      let same : length declared ≡ length (filter_map form_of (map (header_line version) (up_to_words_line (words_seen others)))) =
+      sym (length-map declared declaration_seen) ∙ ap length (declared_are sorts declared others says seen) in
+      let one = declared_few (map (header_line version) (up_to_words_line (words_seen others))) in
+      let two : length (map (header_line version) (up_to_words_line (words_seen others))) ≡ length (up_to_words_line (words_seen others)) = length-map (up_to_words_line (words_seen others)) (header_line version) in
+      let three = header_short (words_seen others) in
+      let four : length (words_seen others) ≡ length others = length-map others (λ word. word.now) in
+      let five : length others ≤ length lines = rw behind (shorter lines) in
+      omega arith
+    where
+      shorter : (lines : List (Bor (List ℕ))) → length (drop 1 lines) ≤ length lines
+      shorter [] = omega arith
+      shorter (line ∷ lines) = omega arith
 
-pub parts_within : (sorts : List LineSort) (declared : List code.Declaration) (lines others : List (Bor (List ℕ))) → says_in sorts ≡ length declared
-    → woven sorts (map declaration_seen declared) ≡ Skipped ∷ map header_line (up_to_words_line (words_seen others)) → others ≡ drop 1 lines
-    → All (λ (line : Bor (List ℕ)). length line.now ≤ 2 ^ 31) lines → All (λ (declaration : code.Declaration). part_count (declaration_seen declaration) < 2 ^ 32) declared
-parts_within sorts declared lines others says seen behind short =
-    each declared (rw (declared_are sorts declared others says seen) (parts_short (words_seen others) (seen_short others (rw behind (later lines short)))))
-  where
-    later : (lines : List (Bor (List ℕ))) → All (λ (line : Bor (List ℕ)). length line.now ≤ 2 ^ 31) lines → All (λ (line : Bor (List ℕ)). length line.now ≤ 2 ^ 31) (drop 1 lines)
-    later [] short = short
-    later (line ∷ lines) short = λ k d h. short (suc k) d (omega arith)
+  pub parts_within : (sorts : List LineSort) (declared : List code.Declaration) (lines others : List (Bor (List ℕ))) → says_in sorts ≡ length declared
+      → woven sorts (map declaration_seen declared) ≡ Skipped ∷ map (header_line version) (up_to_words_line (words_seen others)) → others ≡ drop 1 lines
+      → All (λ (line : Bor (List ℕ)). length line.now ≤ 2 ^ 31) lines → All (λ (declaration : code.Declaration). part_count (declaration_seen declaration) < 2 ^ 32) declared
+  parts_within sorts declared lines others says seen behind short =
+      each declared (rw (declared_are sorts declared others says seen) (parts_short (words_seen others) (seen_short others (rw behind (later lines short)))))
+    where
+      later : (lines : List (Bor (List ℕ))) → All (λ (line : Bor (List ℕ)). length line.now ≤ 2 ^ 31) lines → All (λ (line : Bor (List ℕ)). length line.now ≤ 2 ^ 31) (drop 1 lines)
+      later [] short = short
+      later (line ∷ lines) short = λ k d h. short (suc k) d (omega arith)
 
-    seen_short : (others : List (Bor (List ℕ))) → All (λ (line : Bor (List ℕ)). length line.now ≤ 2 ^ 31) others → All (λ (line : List ℕ). length line ≤ 2 ^ 31) (words_seen others)
-    seen_short [] short = λ k d h. absurd (omega arith)
-    seen_short (line ∷ lines) short = All-cons (λ (line : List ℕ). length line ≤ 2 ^ 31) line.now (words_seen lines) (short 0 line (omega arith)) (seen_short lines (λ k d h. short (suc k) d (omega arith)))
+      seen_short : (others : List (Bor (List ℕ))) → All (λ (line : Bor (List ℕ)). length line.now ≤ 2 ^ 31) others → All (λ (line : List ℕ). length line ≤ 2 ^ 31) (words_seen others)
+      seen_short [] short = λ k d h. absurd (omega arith)
+      seen_short (line ∷ lines) short = All-cons (λ (line : List ℕ). length line ≤ 2 ^ 31) line.now (words_seen lines) (short 0 line (omega arith)) (seen_short lines (λ k d h. short (suc k) d (omega arith)))
 
-    each : (declared : List code.Declaration) → All HasFewParts (map declaration_seen declared) → All (λ (declaration : code.Declaration). part_count (declaration_seen declaration) < 2 ^ 32) declared
-    each [] few = λ k d h. absurd (omega arith)
-    each (e ∷ declared) few = All-cons (λ (declaration : code.Declaration). part_count (declaration_seen declaration) < 2 ^ 32) e declared (few 0 (declaration_seen e) (omega arith)) (each declared (λ k d h. few (suc k) d (omega arith)))
+      each : (declared : List code.Declaration) → All HasFewParts (map declaration_seen declared) → All (λ (declaration : code.Declaration). part_count (declaration_seen declaration) < 2 ^ 32) declared
+      each [] few = λ k d h. absurd (omega arith)
+      each (e ∷ declared) few = All-cons (λ (declaration : code.Declaration). part_count (declaration_seen declaration) < 2 ^ 32) e declared (few 0 (declaration_seen e) (omega arith)) (each declared (λ k d h. few (suc k) d (omega arith)))
 
 -- ---- the words
 

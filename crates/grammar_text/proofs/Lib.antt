@@ -7,6 +7,7 @@ pub mod ClassesKept
 pub mod Distinct
 pub mod Faultless
 pub mod Firsts
+pub mod FormatsKept
 pub mod Fronts
 pub mod Gathering
 pub mod HeaderLines
@@ -17,6 +18,7 @@ pub mod Lets
 pub mod Letters
 pub mod Members
 pub mod Nothing
+pub mod OwnWords
 pub mod PartCounts
 pub mod AllNames
 pub mod RulesKept
@@ -40,3 +42,5 @@ pub mod Placing
 pub mod LineForms
 pub mod FirstFaults
 pub mod HeaderParts
+pub mod RightWords
+pub mod WideFits

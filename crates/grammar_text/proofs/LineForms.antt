@@ -3,11 +3,12 @@ use Rattle.std.proofs.Common.{◌≡◌, ℕ, ◌+◌, Bool, true, false, ◌&&�
 use Rattle.std.specs.List.{list_all, list_any}
 use Rattle.std.specs.Option.{option_map_or, option_or}
 use Rattle.job_texts.specs.TermText.{is_among}
-use Rattle.job_texts.specs.Declarations.{Declaration, Words}
+use Rattle.job_texts.specs.Declarations.{Declaration, Class, Sign, Algebra, Let, Rule, Axiom, Words}
+use Rattle.job_texts.specs.LetTerms.{has_variables}
 use Rattle.job_texts.specs.DeclaredNames.{TextLines, form_at, above, below, declarations, is_algebra_line, section_of, let_signs, sign_names}
 use Rattle.job_texts.specs.TextFaults as faults
 use Rattle.grammar_text.specs.Judged as judged
-use Rattle.grammar_text.specs.Names.{first_passing}
+use Rattle.grammar_text.specs.Names.{declares_its_variables, first_passing}
 use Rattle.grammar_text.specs.LineKinds.{AreLineTests, AreTestsAlone, word_counts}
 use Rattle.grammar_text.specs.LineTests as forms
 use Rattle.grammar_text.specs.JoinedTests.{joined}
@@ -52,9 +53,29 @@ silent_tests text all line tests alone declared form = record {
     misfit = alone.misfit ∙ ap (λ (said : Option Declaration). option_map_or (faults.misfits (declarations text)) said false) (sym form);
     crossed = alone.crossed ∙ ap (λ (said : Option Declaration). option_map_or judged.has_crossed_run said false) (sym form);
     lacks_let = alone.lacks_let ∙ last_algebra text all line declared ∙ ap (λ (said : Option Declaration). option_map_or (λ (declaration : Declaration). is_algebra_line declaration && not (list_all (is_among (let_signs (section_of (below text line)))) (sign_names (declarations text)))) said false || (faults.is_words_line_number text line && not (list_any is_algebra_line (declarations text)))) (sym form);
-    passing_count = alone.passing_count ∙ ap (λ (said : Option Declaration). first_passing (option_map_or (faults.counts_of (above text line)) said [] ++ word_counts text line)) (sym form);
+    passing_count = λ known. alone.passing_count ∙ ap (λ (said : Option Declaration). first_passing (option_map_or (faults.counts_of (above text line)) said [] ++ word_counts text line)) (sym form);
+    twice = λ known none. alone.twice ∙ ap (λ (said : Option Declaration). option_map_or faults.is_twice said false) (sym form);
   };
 }
+
+-- a line without unknown names declares the variables of its term
+knows_its_variables : (all : List Declaration) (declaration : Declaration) → faults.uses_unknown all declaration ≡ false → declares_its_variables declaration ≡ true
+knows_its_variables all (Let sign variables term) h = both_known (is_among (sign_names all) sign) (has_variables variables term) h
+  where
+    both_known : (a b : Bool) → not (a && b) ≡ false → b ≡ true
+    both_known true true h = refl
+    both_known true false h = cc
+    both_known false b h = cc
+knows_its_variables all (Class name items) h = refl
+knows_its_variables all (Sign name kinds) h = refl
+knows_its_variables all (Algebra name goal) h = refl
+knows_its_variables all (Rule name alternatives) h = refl
+knows_its_variables all (Axiom rule) h = refl
+knows_its_variables all Words h = refl
+
+first_none : (one other : Option ℕ) → option_or one other ≡ None → one ≡ None
+first_none None other h = refl
+first_none (Some n) other h = cc
 
 -- a line that declares something whose words are right
 pub formed_tests : (text : TextLines) (all : List Declaration) (line place : ℕ) (tests : LineTests) (form : FormTests) → AreTestsAlone text all line tests → declarations text ≡ all
@@ -87,12 +108,15 @@ formed_tests text all line place tests form alone declared said above_is below_i
         ∙ ap (λ (these : List Declaration). is_algebra_line (get_or all place Words) && not (list_all (is_among (let_signs (section_of (below text line)))) (sign_names these))) (sym declared)
         ∙ ap (λ (said : Option Declaration). option_map_or (λ (declaration : Declaration). is_algebra_line declaration && not (list_all (is_among (let_signs (section_of (below text line)))) (sign_names (declarations text)))) said false) (sym said))
         ∙ ap (λ (none : Bool). option_map_or (λ (declaration : Declaration). is_algebra_line declaration && not (list_all (is_among (let_signs (section_of (below text line)))) (sign_names (declarations text)))) (form_at text line) false || none) (alone.lacks_let ∙ last_algebra text all line declared);
-    passing_count =
-        ap (λ (own : Option ℕ). option_or own tests.passing_count) are.passing_count
+    passing_count = λ known.
+        ap (λ (own : Option ℕ). option_or own tests.passing_count) (are.passing_count (knows_its_variables all (get_or all place Words) (sym are.uses_unknown ∙ known)))
         ∙ ap (λ (words : Option ℕ). option_or (first_passing (faults.counts_of (take place all) (get_or all place Words))) words) alone.passing_count
         ∙ sym (first_passing_more (faults.counts_of (take place all) (get_or all place Words)) (word_counts text line))
         ∙ ap (λ (these : List Declaration). first_passing (faults.counts_of these (get_or all place Words) ++ word_counts text line)) (sym above_is)
         ∙ ap (λ (said : Option Declaration). first_passing (option_map_or (faults.counts_of (above text line)) said [] ++ word_counts text line)) (sym said);
+    twice = λ known none.
+        are.twice (knows_its_variables all (get_or all place Words) (sym are.uses_unknown ∙ known)) (first_none form.passing_count tests.passing_count none)
+        ∙ ap (λ (said : Option Declaration). option_map_or faults.is_twice said false) (sym said);
   };
 }
 

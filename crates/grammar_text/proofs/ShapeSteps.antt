@@ -1,6 +1,8 @@
 -- One step of a list in a line: what is read so far stays a part of all.
-use Rattle.std.proofs.Common.{◌≡◌, ℕ, zero, suc, ◌+◌, ◌*◌, ◌-◌, ◌≤◌, Option, Some, None, List, [], ◌∷◌, ◌++◌, length, map, take, drop, refl, ◌∙◌, ap, sym, drop-drop, length-drop, append-nil, arith}
+use Rattle.std.proofs.Common.{◌≡◌, Bool, true, false, ℕ, zero, suc, ◌+◌, ◌*◌, ◌-◌, ◌≤◌, Option, Some, None, List, [], ◌∷◌, ◌++◌, length, map, take, drop, refl, ◌∙◌, ap, sym, drop-drop, length-drop, append-nil, arith}
+use Rattle.std.specs.Prelude.{codes}
 use Rattle.std.specs.Borrow.{Bor}
+use Rattle.std.proofs.lemmas.Bool.{and_parts}
 use Rattle.std.proofs.Math.Seq.{take-length}
 use Rattle.adp_model.specs.declared.grammar.Kind.{Kind}
 use Rattle.job_texts.specs.LineTokens.{Token, OpenSquare, Word, CloseSquare, Dots, CloseBracket, Comma, Bar}
@@ -10,8 +12,12 @@ use Rattle.grammar_text.specs.declared.reader.declaration.Item.{Item}
 use Rattle.grammar_text.specs.declared.reader.declaration.Argument.{Argument}
 use Rattle.grammar_text.specs.declared.reader.declaration.Argument.TheVariants as arguments
 use Rattle.grammar_text.specs.declared.reader.declaration.Alternative.{Alternative}
+use Rattle.grammar_text.specs.declared.reader.shape.Next.{Next}
 use Rattle.grammar_text.specs.declared.reader.shape.Next.TheVariants as next
-use Rattle.grammar_text.specs.Seen.{tokens_seen, item_seen, argument_seen, words_seen, behind_class, let_tokens_seen, IsFirstItem, IsFirstKind, IsFirstVariable, IsFirstArgument, IsArgumentEnd, IsHighBound, IsFirstSign, IsBehindArgument, AreArguments, with_arguments, alternative_seen}
+use Rattle.grammar_text.specs.declared.reader.declaration.SizeWords.{SizeWords}
+use Rattle.std.specs.Option.{option_map}
+use Rattle.grammar_text.specs.Seen.{tokens_seen, item_seen, argument_seen, words_seen, behind_class, behind_clause, behind_low, let_tokens_seen, IsSizeEnd, IsFirstItem, IsFirstKind, IsFirstVariable, IsFirstArgument, IsArgumentEnd, IsHighBound, IsFirstSign, IsBehindArgument, AreArguments, IsBehindAlternative, further_alternatives, size_seen, with_arguments, alternative_seen}
+use Rattle.grammar_text.proofs.Sorts.{same_text}
 use Rattle.grammar_text.proofs.Fronts.{with_front, front_last, seen_more, front_more, with_variables, variables_more, arguments_more, alternative_closed}
 
 -- the symbols from a place on, cut off at their end
@@ -126,56 +132,104 @@ pub brackets_unended : (class : List ℕ) (said : List Symbol)
     → forms.arguments_of (tokens_seen said) ≡ None
 brackets_unended class said front none = rw (front, in_brackets class (tokens_seen (drop 2 said)), none) refl
 
+-- a size, read to its end
+pub size_end : (low : Bor (List ℕ)) (said : List Symbol) (size : SizeWords) (follows : Next) (used : ℕ)
+    → tokens_seen said ≡ Word low.now ∷ Dots ∷ tokens_seen (drop 2 said) → 2 ≤ length said
+    → IsSizeEnd (λ tokens. behind_low low.now tokens) (drop 2 said) (Some (size, follows, used))
+    → IsSizeEnd (λ tokens. behind_clause tokens) said (Some (size, follows, 2 + used))
+size_end low said size follows used front long end =
+    (ap behind_clause front ∙ rw drop-drop at end.0, place_within said 2 used long end.1)
+
+pub size_unended : (low : List ℕ) (said : List Symbol)
+    → tokens_seen said ≡ Word low ∷ Dots ∷ tokens_seen (drop 2 said)
+    → behind_low low (tokens_seen (drop 2 said)) ≡ None
+    → behind_clause (tokens_seen said) ≡ None
+size_unended low said front none = ap behind_clause front ∙ none
+
+-- behind an alternative `with size`, and other words
+clause_words : (first second : List ℕ) → forms.is_clause first second ≡ true → (first ≡ codes "with") × (second ≡ codes "size")
+clause_words first second h =
+    let parts = and_parts (forms.is_word (codes "with") first) (forms.is_word (codes "size") second) h in
+    (sym (same_text (codes "with") first parts.0), sym (same_text (codes "size") second parts.1))
+
+at_clause : (first second : List ℕ) (said : List Symbol) → tokens_seen said ≡ Word first ∷ Word second ∷ tokens_seen (drop 2 said) → forms.is_clause first second ≡ true
+    → forms.behind_alternative (tokens_seen said) ≡ behind_clause (tokens_seen (drop 2 said))
+at_clause first second said front clause =
+    let words = clause_words first second clause in
+    let first_is = ap (λ (word : List ℕ). Word word ∷ Word second ∷ tokens_seen (drop 2 said)) words.0 in
+    let second_is = ap (λ (word : List ℕ). Word (codes "with") ∷ Word word ∷ tokens_seen (drop 2 said)) words.1 in
+    ap forms.behind_alternative (front ∙ first_is ∙ second_is)
+
+pub clause_end : (first second : List ℕ) (said : List Symbol) (size : SizeWords) (follows : Next) (used : ℕ)
+    → tokens_seen said ≡ Word first ∷ Word second ∷ tokens_seen (drop 2 said) → 2 ≤ length said → forms.is_clause first second ≡ true
+    → IsSizeEnd (λ tokens. behind_clause tokens) (drop 2 said) (Some (size, follows, used))
+    → IsBehindAlternative said (Some (Some size, follows, 2 + used))
+clause_end first second said size follows used front long clause end =
+    (at_clause first second said front clause ∙ rw drop-drop at end.0, place_within said 2 used long end.1)
+
+no_size : (first second : List ℕ) (tokens : List Token) → forms.is_clause first second ≡ false → forms.behind_alternative (Word first ∷ Word second ∷ tokens) ≡ None
+no_size first second (Word low ∷ Dots ∷ []) h = rw h refl
+no_size first second (Word low ∷ Dots ∷ Bar ∷ tokens) h = rw h refl
+no_size first second (Word low ∷ Dots ∷ Word high ∷ []) h = rw h refl
+no_size first second (Word low ∷ Dots ∷ Word high ∷ Bar ∷ tokens) h = rw h refl
+no_size first second tokens h = refl
+
+pub no_clause : (first second : List ℕ) (said : List Symbol)
+    → tokens_seen said ≡ Word first ∷ Word second ∷ tokens_seen (drop 2 said) → forms.is_clause first second ≡ false
+    → forms.behind_alternative (tokens_seen said) ≡ None
+no_clause first second said front other = ap forms.behind_alternative front ∙ no_size first second (tokens_seen (drop 2 said)) other
+
 -- an alternative up to its closing bracket
 pub sign_step : (said : List Symbol) (at used : ℕ) (sign : Bor (List ℕ)) (found : List Argument)
     → IsFirstSign (drop at said) (Some sign) → AreArguments (drop (at + 2) said) (Some (found, used))
     → forms.alternatives_of (tokens_seen (drop at said))
-    ≡ forms.with_sign sign.now (with_arguments (map argument_seen found) (forms.behind_argument (CloseBracket ∷ tokens_seen (drop (at + 2 + used) said))))
+    ≡ forms.with_sign sign.now (with_arguments (map argument_seen found) (forms.behind_alternative (tokens_seen (drop (at + 2 + used) said))))
 sign_step said at used sign found first all =
     rw (first.0, drop-drop) (ap (λ (rest : Option forms.RuleRest). forms.with_sign sign.now rest) (rw drop-drop at all.0))
 
--- the end of alternatives
-pub alternatives_end : (said : List Symbol) (at used : ℕ) (sign : Bor (List ℕ)) (found : List Argument) (front alternatives : List Alternative) (next : Alternative) (all : Option (List forms.Alternative))
-    → IsFirstSign (drop at said) (Some sign) → AreArguments (drop (at + 2) said) (Some (found, used))
-    → alternative_seen next ≡ record { sign = sign.now; arguments = map argument_seen found }
+-- an alternative with its size, and those behind it
+sized_step : (said : List Symbol) (at used behind : ℕ) (sign : Bor (List ℕ)) (found : List Argument) (size : Option SizeWords) (follows : Next) (front alternatives : List Alternative) (last : Alternative) (all : Option (List forms.Alternative))
+    → IsFirstSign (drop at said) (Some sign) → AreArguments (drop (at + 2) said) (Some (found, used)) → IsBehindAlternative (drop (at + 2 + used) said) (Some (size, follows, behind))
+    → alternative_seen last ≡ record { sign = sign.now; arguments = map argument_seen found; size = option_map size_seen size }
     → with_front (map alternative_seen front) (forms.alternatives_of (tokens_seen (drop at said))) ≡ all
-    → alternatives ≡ front ++ next ∷ []
-    → drop (at + 2 + used) said ≡ []
-    → Some (map alternative_seen alternatives) ≡ all
-alternatives_end said at used sign found front alternatives next all first those is_next seen is end =
+    → alternatives ≡ front ++ last ∷ []
+    → with_front (map alternative_seen alternatives) (further_alternatives follows (tokens_seen (drop behind (drop (at + 2 + used) said)))) ≡ all
+sized_step said at used behind sign found size follows front alternatives last all first those ends is_next seen is =
     let step = sign_step said at used sign found first those in
-    let closed = alternative_closed sign.now (map argument_seen found) (Some []) in
-    let behind : forms.behind_argument (CloseBracket ∷ tokens_seen (drop (at + 2 + used) said)) ≡ forms.at_close (Some []) = rw end refl in
-    let read : forms.and_before (alternative_seen next) (Some []) ≡ forms.alternatives_of (tokens_seen (drop at said)) =
-    ap (λ (this : forms.Alternative). forms.and_before this (Some [])) is_next
+    let others = further_alternatives follows (tokens_seen (drop behind (drop (at + 2 + used) said))) in
+    let closed = alternative_closed sign.now (map argument_seen found) (option_map size_seen size) others in
+    let read : forms.and_before (alternative_seen last) others ≡ forms.alternatives_of (tokens_seen (drop at said)) =
+    ap (λ (this : forms.Alternative). forms.and_before this others) is_next
     ∙ sym closed
-    ∙ sym (ap (λ (rest : Option forms.RuleRest). forms.with_sign sign.now (with_arguments (map argument_seen found) rest)) behind)
+    ∙ sym (ap (λ (rest : Option forms.RuleRest). forms.with_sign sign.now (with_arguments (map argument_seen found) rest)) ends.0)
     ∙ sym step in
-    let all_seen : with_front (map alternative_seen front) (forms.and_before (alternative_seen next) (Some [])) ≡ all =
+    let all_seen : with_front (map alternative_seen front) (forms.and_before (alternative_seen last) others) ≡ all =
     ap (with_front (map alternative_seen front)) read ∙ seen in
-    rw is (sym (front_last (map alternative_seen (front ++ next ∷ []))) ∙ seen_more alternative_seen front next (Some []) ∙ all_seen)
+    rw is (seen_more alternative_seen front last others ∙ all_seen)
 
-pub alternatives_step : (said : List Symbol) (at used : ℕ) (sign : Bor (List ℕ)) (found : List Argument) (front alternatives : List Alternative) (next : Alternative) (all : Option (List forms.Alternative))
-    → IsFirstSign (drop at said) (Some sign) → AreArguments (drop (at + 2) said) (Some (found, used))
-    → alternative_seen next ≡ record { sign = sign.now; arguments = map argument_seen found }
+-- the end of alternatives
+pub alternatives_end : (said : List Symbol) (at used behind : ℕ) (sign : Bor (List ℕ)) (found : List Argument) (size : Option SizeWords) (front alternatives : List Alternative) (last : Alternative) (all : Option (List forms.Alternative))
+    → IsFirstSign (drop at said) (Some sign) → AreArguments (drop (at + 2) said) (Some (found, used)) → IsBehindAlternative (drop (at + 2 + used) said) (Some (size, next.End, behind))
+    → alternative_seen last ≡ record { sign = sign.now; arguments = map argument_seen found; size = option_map size_seen size }
     → with_front (map alternative_seen front) (forms.alternatives_of (tokens_seen (drop at said))) ≡ all
-    → alternatives ≡ front ++ next ∷ []
-    → tokens_seen (drop (at + 2 + used) said) ≡ Bar ∷ tokens_seen (drop 1 (drop (at + 2 + used) said))
-    → with_front (map alternative_seen alternatives) (forms.alternatives_of (tokens_seen (drop (at + 2 + used + 1) said))) ≡ all
-alternatives_step said at used sign found front alternatives next all first those is_next seen is bar =
-    let step = sign_step said at used sign found first those in
-    let others = forms.alternatives_of (tokens_seen (drop (at + 2 + used + 1) said)) in
-    let closed = alternative_closed sign.now (map argument_seen found) others in
-    let behind : forms.behind_argument (CloseBracket ∷ tokens_seen (drop (at + 2 + used) said)) ≡ forms.at_close others =
-    rw bar (rw drop-drop refl) in
-    let all_seen : with_front (map alternative_seen front) (forms.and_before (alternative_seen next) others) ≡ all =
-    rw (is_next, ← closed, ← behind, ← step) seen in
-    rw is (seen_more alternative_seen front next others ∙ all_seen)
+    → alternatives ≡ front ++ last ∷ []
+    → Some (map alternative_seen alternatives) ≡ all
+alternatives_end said at used behind sign found size front alternatives last all first those ends is_next seen is =
+    sym (front_last (map alternative_seen alternatives)) ∙ sized_step said at used behind sign found size next.End front alternatives last all first those ends is_next seen is
+
+pub alternatives_step : (said : List Symbol) (at used behind : ℕ) (sign : Bor (List ℕ)) (found : List Argument) (size : Option SizeWords) (front alternatives : List Alternative) (last : Alternative) (all : Option (List forms.Alternative))
+    → IsFirstSign (drop at said) (Some sign) → AreArguments (drop (at + 2) said) (Some (found, used)) → IsBehindAlternative (drop (at + 2 + used) said) (Some (size, next.Another, behind))
+    → alternative_seen last ≡ record { sign = sign.now; arguments = map argument_seen found; size = option_map size_seen size }
+    → with_front (map alternative_seen front) (forms.alternatives_of (tokens_seen (drop at said))) ≡ all
+    → alternatives ≡ front ++ last ∷ []
+    → with_front (map alternative_seen alternatives) (forms.alternatives_of (tokens_seen (drop (at + 2 + used + behind) said))) ≡ all
+alternatives_step said at used behind sign found size front alternatives last all first those ends is_next seen is =
+    rw (← drop-drop) (sized_step said at used behind sign found size next.Another front alternatives last all first those ends is_next seen is)
 
 pub alternatives_unended : (said : List Symbol) (at used : ℕ) (sign : Bor (List ℕ)) (found : List Argument) (front : List forms.Alternative) (all : Option (List forms.Alternative))
     → IsFirstSign (drop at said) (Some sign) → AreArguments (drop (at + 2) said) (Some (found, used))
     → with_front front (forms.alternatives_of (tokens_seen (drop at said))) ≡ all
-    → forms.behind_argument (CloseBracket ∷ tokens_seen (drop (at + 2 + used) said)) ≡ None
+    → IsBehindAlternative (drop (at + 2 + used) said) None
     → None ≡ all
 alternatives_unended said at used sign found front all first those seen none =
     let step = sign_step said at used sign found first those in

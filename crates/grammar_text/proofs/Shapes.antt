@@ -1,6 +1,6 @@
 -- What the shape of a line gives its declaration: signs have a kind, rules an alternative, and the letters of quoted
 -- texts of a printable line are printable.
-use Rattle.std.proofs.Common.{◌≡◌, ℕ, zero, suc, ◌+◌, ◌≤◌, Bool, true, false, cond, not, ◌==◌, Option, Some, None, IfSome, Result, Ok, Err, List, [], ◌∷◌, length, map, refl, arith}
+use Rattle.std.proofs.Common.{◌≡◌, ℕ, zero, suc, ◌+◌, ◌≤◌, Bool, true, false, cond, not, ◌||◌, ◌==◌, Option, Some, None, is_none, IfSome, Result, Ok, Err, List, [], ◌∷◌, length, map, refl, arith}
 use Rattle.std.specs.Prelude.{codes}
 use Rattle.std.specs.List.{list_all, find, take_while, prefix_len}
 use Rattle.std.specs.Option.{option_map, option_and_then}
@@ -12,10 +12,9 @@ use Rattle.adp_model.specs.Printable.{is_printable_byte}
 use Rattle.adp_model.specs.WellFormed.{is_word_byte}
 use Rattle.job_texts.specs.JobLines.{is_skipped}
 use Rattle.job_texts.specs.LineTokens.{Token, Word, Quoted, Equals, OpenBracket, CloseBracket, Comma, OpenSquare, CloseSquare, Bar, Minus, Dots, PlacedToken, Offence, StrayByte, OpenQuote, ByteSort, SpaceByte, WordByte, QuoteByte, DotByte, MarkByte, OtherByte, byte_sort, mark_of, marks, is_one_of, QuotedSort, Quote, Backslash, Plain, quoted_sort, QuotedRest, with_letter, with_backslash, quoted_rest, Beginning, Space, Begins, Stops, beginning, with_token, tokens_from, line_tokens, tokens_of}
-use Rattle.job_texts.specs.Declarations.{Item, Argument, Named, Spelled, OneOf, RunOf, Alternative, Declaration, Class, Sign, Algebra, Let, Rule, is_word, further_items, items_of, class_of, kind_of, with_kind, kinds_of, sign_of, goal_of, algebra_of, LetTokens, let_tokens, let_of, RuleRest, with_argument, at_close, with_sign, alternatives_of, arguments_of, behind_argument, rule_of, axiom_of, nothing_more, behind_word, declaration_of, HeaderLine, Skipped, Unprintable, Unclosed, Shapeless, Says, and_before, header_line}
-use Rattle.job_texts.specs.TermText.{Part}
+use Rattle.job_texts.specs.Declarations.{Item, Argument, Named, Spelled, OneOf, RunOf, Alternative, Declaration, Class, Sign, Algebra, Let, Rule, is_word, further_items, items_of, class_of, kind_of, with_kind, kinds_of, sign_of, goal_of, algebra_of, LetTokens, let_tokens, let_of, RuleRest, SizeWords, with_argument, at_close, at_size, allowed, is_clause, with_sign, alternatives_of, arguments_of, behind_argument, behind_alternative, rule_of, axiom_of, nothing_more, behind_word, declaration_of, HeaderLine, Skipped, Unprintable, Unclosed, Shapeless, Says, and_before, header_line}
+use Rattle.job_texts.specs.LetTerms.{LetTerm, is_second, term_of_tokens}
 use Rattle.grammar_text.specs.Building.{is_printable_argument, is_printable_alternative}
-use Rattle.job_texts.specs.TermParts.{parts_of}
 
 -- ---- letters of quoted texts
 
@@ -247,20 +246,20 @@ algebra_of-shaped : (tokens : List Token) → IfSome (algebra_of tokens) IsShape
 algebra_of-shaped (Word name ∷ Word goal ∷ []) = algebra_says name (goal_of goal)
 algebra_of-shaped tokens = tt
 
-abbrev with_term : List ℕ → LetTokens → Option Declaration
-with_term sign found = option_map (λ parts. Let sign found.variables parts) (parts_of found.term)
+abbrev with_term : ℕ → List ℕ → LetTokens → Option Declaration
+with_term version sign found = option_map (λ term. Let sign found.variables term) (term_of_tokens version found.term)
 
-term_says : (sign : List ℕ) (variables : List (List ℕ)) (parts : Option (List Part)) → IfSome (option_map (λ p. Let sign variables p) parts) IsShaped
+term_says : (sign : List ℕ) (variables : List (List ℕ)) (parts : Option LetTerm) → IfSome (option_map (λ p. Let sign variables p) parts) IsShaped
 term_says sign variables None = tt
 term_says sign variables (Some parts) = tt
 
-let_says : (sign : List ℕ) (found : Option LetTokens) → IfSome (option_and_then (with_term sign) found) IsShaped
-let_says sign None = tt
-let_says sign (Some found) = term_says sign found.variables (parts_of found.term)
+let_says : (version : ℕ) (sign : List ℕ) (found : Option LetTokens) → IfSome (option_and_then (with_term version sign) found) IsShaped
+let_says version sign None = tt
+let_says version sign (Some found) = term_says sign found.variables (term_of_tokens version found.term)
 
-let_of-shaped : (tokens : List Token) → IfSome (let_of tokens) IsShaped
-let_of-shaped (Word sign ∷ OpenBracket ∷ tokens) = let_says sign (let_tokens tokens)
-let_of-shaped tokens = tt
+let_of-shaped : (version : ℕ) (tokens : List Token) → IfSome (let_of version tokens) IsShaped
+let_of-shaped version (Word sign ∷ OpenBracket ∷ tokens) = let_says version sign (let_tokens tokens)
+let_of-shaped version tokens = tt
 
 -- ---- rules
 
@@ -274,9 +273,17 @@ with_argument-shaped : (argument : Argument) (rest : Option RuleRest) → is_pri
 with_argument-shaped argument None h k = tt
 with_argument-shaped argument (Some rest) h k = (and_from (is_printable_argument argument) (list_all is_printable_argument rest.arguments) h k.0, k.1)
 
-at_close-shaped : (alternatives : Option (List Alternative)) → IfSome alternatives AreShaped → IfSome (at_close alternatives) IsShapedRest
-at_close-shaped None k = tt
-at_close-shaped (Some alternatives) k = (refl, k.1)
+at_close-shaped : (size : Option SizeWords) (alternatives : Option (List Alternative)) → IfSome alternatives (λ l. list_all is_printable_alternative l ≡ true) → IfSome (at_close size alternatives) IsShapedRest
+at_close-shaped size None k = tt
+at_close-shaped size (Some alternatives) k = (refl, k)
+
+some_shaped : (alternatives : Option (List Alternative)) → IfSome alternatives AreShaped → IfSome alternatives (λ l. list_all is_printable_alternative l ≡ true)
+some_shaped None k = tt
+some_shaped (Some alternatives) k = k.1
+
+at_size-shaped : (clause : Bool) (low : List ℕ) (high : Option (List ℕ)) (alternatives : Option (List Alternative)) → IfSome alternatives (λ l. list_all is_printable_alternative l ≡ true) → IfSome (at_size clause low high alternatives) IsShapedRest
+at_size-shaped true low high alternatives k = at_close-shaped (Some (record { low = low; high = high })) alternatives k
+at_size-shaped false low high alternatives k = tt
 
 with_sign-shaped : (sign : List ℕ) (rest : Option RuleRest) → IfSome rest IsShapedRest → IfSome (with_sign sign rest) AreShaped
 with_sign-shaped sign None k = tt
@@ -301,17 +308,35 @@ mutual
 
   behind_argument-shaped : (tokens : List Token) → list_all is_printable_token tokens ≡ true → IfSome (behind_argument tokens) IsShapedRest
   behind_argument-shaped (Comma ∷ tokens) h = arguments_of-shaped tokens h
-  behind_argument-shaped (CloseBracket ∷ []) h = (refl, refl)
-  behind_argument-shaped (CloseBracket ∷ Bar ∷ tokens) h = at_close-shaped (alternatives_of tokens) (alternatives_of-shaped tokens h)
+  behind_argument-shaped (CloseBracket ∷ tokens) h = behind_alternative-shaped tokens h
   behind_argument-shaped tokens h = tt
+
+  behind_alternative-shaped : (tokens : List Token) → list_all is_printable_token tokens ≡ true → IfSome (behind_alternative tokens) IsShapedRest
+  behind_alternative-shaped [] h = (refl, refl)
+  behind_alternative-shaped (Bar ∷ tokens) h = at_close-shaped None (alternatives_of tokens) (some_shaped (alternatives_of tokens) (alternatives_of-shaped tokens h))
+  behind_alternative-shaped (Word first ∷ Word second ∷ Word low ∷ Dots ∷ []) h = at_size-shaped (is_clause first second) low None (Some []) refl
+  behind_alternative-shaped (Word first ∷ Word second ∷ Word low ∷ Dots ∷ Bar ∷ tokens) h =
+      at_size-shaped (is_clause first second) low None (alternatives_of tokens) (some_shaped (alternatives_of tokens) (alternatives_of-shaped tokens h))
+  behind_alternative-shaped (Word first ∷ Word second ∷ Word low ∷ Dots ∷ Word high ∷ []) h = at_size-shaped (is_clause first second) low (Some high) (Some []) refl
+  behind_alternative-shaped (Word first ∷ Word second ∷ Word low ∷ Dots ∷ Word high ∷ Bar ∷ tokens) h =
+      at_size-shaped (is_clause first second) low (Some high) (alternatives_of tokens) (some_shaped (alternatives_of tokens) (alternatives_of-shaped tokens h))
+  behind_alternative-shaped tokens h = tt
 
 rule_says : (name : List ℕ) (alternatives : Option (List Alternative)) → IfSome alternatives AreShaped → IfSome (option_map (λ l. Rule name l) alternatives) IsShaped
 rule_says name None k = tt
 rule_says name (Some alternatives) k = k
 
-rule_of-shaped : (tokens : List Token) → list_all is_printable_token tokens ≡ true → IfSome (rule_of tokens) IsShaped
-rule_of-shaped (Word name ∷ Equals ∷ tokens) h = rule_says name (alternatives_of tokens) (alternatives_of-shaped tokens h)
-rule_of-shaped tokens h = tt
+allowed-shaped : (version : ℕ) (alternatives : Option (List Alternative)) → IfSome alternatives AreShaped → IfSome (option_and_then (allowed version) alternatives) AreShaped
+allowed-shaped version None k = tt
+allowed-shaped version (Some alternatives) k = either_way (is_second version || list_all (λ (alternative : Alternative). is_none alternative.size) alternatives) (Some alternatives) k
+  where
+    either_way : (b : Bool) (found : Option (List Alternative)) → IfSome found AreShaped → IfSome (cond b found None) AreShaped
+    either_way true found k = k
+    either_way false found k = tt
+
+rule_of-shaped : (version : ℕ) (tokens : List Token) → list_all is_printable_token tokens ≡ true → IfSome (rule_of version tokens) IsShaped
+rule_of-shaped version (Word name ∷ Equals ∷ tokens) h = rule_says name (option_and_then (allowed version) (alternatives_of tokens)) (allowed-shaped version (alternatives_of tokens) (alternatives_of-shaped tokens h))
+rule_of-shaped version tokens h = tt
 
 axiom_of-shaped : (tokens : List Token) → IfSome (axiom_of tokens) IsShaped
 axiom_of-shaped (Word rule ∷ []) = tt
@@ -325,52 +350,59 @@ either_shape : (b : Bool) (says other : Option Declaration) → IfSome says IsSh
 either_shape true says other h k = h
 either_shape false says other h k = k
 
-behind_word-shaped : (word : List ℕ) (tokens : List Token) → list_all is_printable_token tokens ≡ true → IfSome (behind_word word tokens) IsShaped
-behind_word-shaped word tokens h =
-    either_shape (is_word (codes "class") word) (class_of tokens) _ (class_of-shaped tokens h)
-    (either_shape (is_word (codes "sign") word) (sign_of tokens) _ (sign_of-shaped tokens)
-    (either_shape (is_word (codes "algebra") word) (algebra_of tokens) _ (algebra_of-shaped tokens)
-    (either_shape (is_word (codes "let") word) (let_of tokens) _ (let_of-shaped tokens)
-    (either_shape (is_word (codes "rule") word) (rule_of tokens) _ (rule_of-shaped tokens h)
-    (either_shape (is_word (codes "grammar") word) (axiom_of tokens) _ (axiom_of-shaped tokens)
-    (either_shape (is_word (codes "words") word) (nothing_more tokens) None (nothing_more-shaped tokens) tt))))))
+module _ (version : ℕ) where
+  behind_word-shaped : (word : List ℕ) (tokens : List Token) → list_all is_printable_token tokens ≡ true → IfSome ((behind_word version) word tokens) IsShaped
+  behind_word-shaped word tokens h =
+      either_shape (is_word (codes "class") word) (class_of tokens) _ (class_of-shaped tokens h)
+      (either_shape (is_word (codes "sign") word) (sign_of tokens) _ (sign_of-shaped tokens)
+      (either_shape (is_word (codes "algebra") word) (algebra_of tokens) _ (algebra_of-shaped tokens)
+      (either_shape (is_word (codes "let") word) ((let_of version) tokens) _ (let_of-shaped version tokens)
+      (either_shape (is_word (codes "rule") word) ((rule_of version) tokens) _ (rule_of-shaped version tokens h)
+      (either_shape (is_word (codes "grammar") word) (axiom_of tokens) _ (axiom_of-shaped tokens)
+      (either_shape (is_word (codes "words") word) (nothing_more tokens) None (nothing_more-shaped tokens) tt))))))
 
-declaration_of-shaped : (tokens : List Token) → list_all is_printable_token tokens ≡ true → IfSome (declaration_of tokens) IsShaped
-declaration_of-shaped (Word word ∷ tokens) h = behind_word-shaped word tokens h
-declaration_of-shaped tokens h = tt
+  declaration_of-shaped : (tokens : List Token) → list_all is_printable_token tokens ≡ true → IfSome ((declaration_of version) tokens) IsShaped
+  declaration_of-shaped (Word word ∷ tokens) h = behind_word-shaped word tokens h
+  declaration_of-shaped tokens h = tt
 
 -- ---- lines
 
-abbrev pub LineShaped : HeaderLine → Type 0
-LineShaped (Says declaration) = IsShaped declaration
-LineShaped other = Unit {0}
+-- what a line says, where it has form, keeps this
+abbrev pub LineKeeps : (Declaration → Type 0) → HeaderLine → Type 0
+LineKeeps Keeps (Says declaration) = Keeps declaration
+LineKeeps Keeps other = Unit {0}
 
 abbrev by_shape : Option Declaration → HeaderLine
 by_shape None = Shapeless
 by_shape (Some declaration) = Says declaration
 
-abbrev by_tokens : Result (List Token) Offence → HeaderLine
-by_tokens (Err OpenQuote) = Unclosed
-by_tokens (Err StrayByte) = Shapeless
-by_tokens (Ok tokens) = by_shape (declaration_of tokens)
+module _ (Keeps : Declaration → Type 0) (version : ℕ) (kept : (tokens : List Token) → list_all is_printable_token tokens ≡ true → IfSome (declaration_of version tokens) Keeps) where
+  abbrev by_tokens : Result (List Token) Offence → HeaderLine
+  by_tokens (Err OpenQuote) = Unclosed
+  by_tokens (Err StrayByte) = Shapeless
+  by_tokens (Ok tokens) = by_shape (declaration_of version tokens)
 
-by_shape-shaped : (says : Option Declaration) → IfSome says IsShaped → LineShaped (by_shape says)
-by_shape-shaped None k = tt
-by_shape-shaped (Some declaration) k = k
+  by_shape-keeps : (says : Option Declaration) → IfSome says Keeps → LineKeeps Keeps (by_shape says)
+  by_shape-keeps None k = tt
+  by_shape-keeps (Some declaration) k = k
 
-by_tokens-shaped : (tokens : Result (List Token) Offence) → TokensPrintable tokens → LineShaped (by_tokens tokens)
-by_tokens-shaped (Err OpenQuote) k = tt
-by_tokens-shaped (Err StrayByte) k = tt
-by_tokens-shaped (Ok tokens) k = by_shape-shaped (declaration_of tokens) (declaration_of-shaped tokens k)
+  by_tokens-keeps : (tokens : Result (List Token) Offence) → TokensPrintable tokens → LineKeeps Keeps (by_tokens tokens)
+  by_tokens-keeps (Err OpenQuote) k = tt
+  by_tokens-keeps (Err StrayByte) k = tt
+  by_tokens-keeps (Ok tokens) k = by_shape-keeps (declaration_of version tokens) (kept tokens k)
 
-by_printable : (line : List ℕ) (printable : Bool) → list_all is_printable_byte line ≡ printable → LineShaped (cond (not printable) Unprintable (by_tokens (tokens_of line)))
-by_printable line true h = by_tokens-shaped (tokens_of line) (tokens_of-printable line h)
-by_printable line false h = tt
+  by_printable : (line : List ℕ) (printable : Bool) → list_all is_printable_byte line ≡ printable → LineKeeps Keeps (cond (not printable) Unprintable (by_tokens (tokens_of line)))
+  by_printable line true h = by_tokens-keeps (tokens_of line) (tokens_of-printable line h)
+  by_printable line false h = tt
 
-unless_skipped : (skipped : Bool) (other : HeaderLine) → LineShaped other → LineShaped (cond skipped Skipped other)
-unless_skipped true other h = tt
-unless_skipped false other h = h
+  unless_skipped : (skipped : Bool) (other : HeaderLine) → LineKeeps Keeps other → LineKeeps Keeps (cond skipped Skipped other)
+  unless_skipped true other h = tt
+  unless_skipped false other h = h
 
-pub header_line-shaped : (line : List ℕ) → LineShaped (header_line line)
-header_line-shaped line =
-    unless_skipped (is_skipped line) (cond (not (list_all is_printable_byte line)) Unprintable (by_tokens (tokens_of line))) (by_printable line (list_all is_printable_byte line) refl)
+  -- what the shapes of a printable line keep, its line keeps
+  pub header_line-keeps : (line : List ℕ) → LineKeeps Keeps (header_line version line)
+  header_line-keeps line =
+      unless_skipped (is_skipped line) (cond (not (list_all is_printable_byte line)) Unprintable (by_tokens (tokens_of line))) (by_printable line (list_all is_printable_byte line) refl)
+
+pub header_line-shaped : (version : ℕ) (line : List ℕ) → LineKeeps IsShaped (header_line version line)
+header_line-shaped version line = header_line-keeps IsShaped version (declaration_of-shaped version) line

@@ -19,7 +19,7 @@ small_if true true n h = h
 small_if true false n h = tt
 small_if false small n h = tt
 
-number_small : (word : List ℕ) → IfSome (number_of word) (λ n. nat_lt n (2 ^ 62) ≡ true)
+pub number_small : (word : List ℕ) → IfSome (number_of word) (λ n. nat_lt n (2 ^ 62) ≡ true)
 number_small word = small_if (all_ascii_digits word) (nat_lt (digits_value 10 word) (2 ^ 62)) (digits_value 10 word) refl
 
 signed_in_range : (negative : Bool) (number : Option ℕ) → IfSome number (λ n. nat_lt n (2 ^ 62) ≡ true) → is_in_range (unwrap_or (signed negative number) (pos 0)) ≡ true

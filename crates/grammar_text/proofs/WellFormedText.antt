@@ -9,8 +9,9 @@ use Rattle.adp_model.specs.declared.grammar.Class as classes
 use Rattle.adp_model.specs.declared.grammar.Sign as signs
 use Rattle.adp_model.specs.declared.grammar.Algebra as algebras
 use Rattle.adp_model.specs.declared.grammar.Rule as rules
-use Rattle.adp_model.specs.WellFormed.{is_name, is_class, is_sign, is_algebra, is_alternative, is_rule, are_distinct, counts_fit, names_differ, parts_fit, is_well_formed}
-use Rattle.job_texts.specs.TermText.{Part, is_among, are_names, are_numbers, totals_fit, are_declared}
+use Rattle.adp_model.specs.WellFormed.{is_name, is_class, is_sign, is_algebra, is_alternative, is_rule, are_distinct, counts_fit, most_leaves, names_differ, parts_fit, is_well_formed}
+use Rattle.job_texts.specs.LetTerms as terms
+use Rattle.job_texts.specs.TermText.{is_among}
 use Rattle.adp_model.specs.declared.grammar.Grammar.{Grammar}
 use Rattle.job_texts.specs.Declarations.{Alternative, Declaration, Class, Sign, Algebra, Let, Rule, Axiom, Words}
 use Rattle.job_texts.specs.DeclaredNames.{class_name_of, sign_name_of, algebra_name_of, rule_name_of, class_names, sign_names, algebra_names, rule_names, is_algebra_line}
@@ -302,21 +303,23 @@ well_formed all h = and_from _ _ (and_from _ _ (kept_counts all h) (distinct_nam
 
 -- ---- building
 
-all_named : (sign : List ℕ) (variables : List (List ℕ)) (term : List Part) → misnames (Let sign variables term) ≡ false → (list_all is_name variables && are_names term) ≡ true
+all_named : (sign : List ℕ) (variables : List (List ℕ)) (term : terms.LetTerm) → misnames (Let sign variables term) ≡ false → (list_all is_name variables && terms.has_names term) ≡ true
 all_named sign variables term h =
     let named = list_all is_name variables in
-    let parts = and_parts (is_name sign && named) (are_names term) (not-false ((is_name sign && named) && are_names term) h) in
-    and_from named (are_names term) (and_parts (is_name sign) named parts.0).1 parts.1
+    let parts = and_parts (is_name sign && named) (terms.has_names term) (not-false ((is_name sign && named) && terms.has_names term) h) in
+    and_from named (terms.has_names term) (and_parts (is_name sign) named parts.0).1 parts.1
 
 sound_buildable : (all above : List Declaration) (d : Declaration) (below : List Declaration) → IsSound all above d below → is_buildable d ≡ true
 sound_buildable all above (Class name items) below h = one_name name h.faultless.named
 sound_buildable all above (Sign name kinds) below h = one_name name h.faultless.named
 sound_buildable all above (Algebra name goal) below h = one_name name h.faultless.named
 sound_buildable all above (Let sign variables term) below h =
-    let numbers = are_numbers term && totals_fit term in
-    let named = list_all is_name variables && are_names term in
-    let known = and_parts (is_among (sign_names all) sign) (are_declared variables term) (not-false (is_among (sign_names all) sign && are_declared variables term) h.faultless.known) in
-    and_from (named && numbers) (are_declared variables term) (and_from named numbers (all_named sign variables term h.faultless.named) (not-false numbers h.faultless.numbered)) known.1
+    let numbers = terms.has_numbers term in
+    let named = list_all is_name variables && terms.has_names term in
+    let known = and_parts (is_among (sign_names all) sign) (terms.has_variables variables term) (not-false (is_among (sign_names all) sign && terms.has_variables variables term) h.faultless.known) in
+    let few = le-leb (terms.counted_leaves term) most_leaves (ltb-false most_leaves (terms.counted_leaves term) (within (counts_of above (Let sign variables term)) 0 (limited 0 0) h.faultless.counted (lit< tt))) in
+    let once : not (terms.names_twice term) ≡ true = ap not h.faultless.once in
+    and_from _ _ (and_from _ _ (and_from (named && numbers) (terms.has_variables variables term) (and_from named numbers (all_named sign variables term h.faultless.named) (not-false numbers h.faultless.numbered)) known.1) few) once
 sound_buildable all above (Rule name alternatives) below h = and_from (is_name name) (list_all is_printable_alternative alternatives) (rule_named name alternatives h.faultless.named) h.shaped.1
 sound_buildable all above (Axiom rule) below h = refl
 sound_buildable all above Words below h = refl

@@ -8,7 +8,7 @@ use Rattle.std.proofs.lemmas.Bool.Decides.{nat_tests}
 use Rattle.adp_model.specs.WellFormed.{is_word_byte}
 use Rattle.adp_model.specs.Printable.{is_printable_byte}
 use Rattle.job_texts.specs.LineTokens.{Token, Word, Quoted, Equals, OpenBracket, Dots, PlacedToken, Offence, StrayByte, OpenQuote, ByteSort, SpaceByte, WordByte, QuoteByte, DotByte, MarkByte, OtherByte, byte_sort, Space, Begins, Stops, beginning, quoted_rest, QuotedRest, with_token, tokens_from, tokens_of, is_one_of}
-use Rattle.job_texts.specs.TermParts.{parts_of}
+use Rattle.job_texts.specs.LetTerms.{term_of_tokens}
 use Rattle.job_texts.specs.JobLines.{is_skipped, is_words_line}
 use Rattle.job_texts.specs.Declarations as forms
 use Rattle.grammar_text.specs.Collecting.{is_last}
@@ -23,10 +23,10 @@ abbrev by_shape : Option forms.Declaration → forms.HeaderLine
 by_shape None = forms.Shapeless
 by_shape (Some declaration) = forms.Says declaration
 
-abbrev by_tokens : Result (List Token) Offence → forms.HeaderLine
-by_tokens (Err OpenQuote) = forms.Unclosed
-by_tokens (Err StrayByte) = forms.Shapeless
-by_tokens (Ok tokens) = by_shape (forms.declaration_of tokens)
+abbrev by_tokens : ℕ → Result (List Token) Offence → forms.HeaderLine
+by_tokens version (Err OpenQuote) = forms.Unclosed
+by_tokens version (Err StrayByte) = forms.Shapeless
+by_tokens version (Ok tokens) = by_shape ((forms.declaration_of version) tokens)
 
 -- the shape is the `words` line's
 abbrev says_words : Option forms.Declaration → Bool
@@ -56,26 +56,26 @@ algebra_says_none : (tokens : List Token) → says_words (forms.algebra_of token
 algebra_says_none (Word name ∷ Word goal ∷ []) = made_says_none _ (forms.goal_of goal) (λ x. refl)
 algebra_says_none tokens = refl
 
-let_says_none : (tokens : List Token) → says_words (forms.let_of tokens) ≡ false
-let_says_none (Word sign ∷ OpenBracket ∷ tokens) = then_says_none _ (forms.let_tokens tokens) (λ found. made_says_none _ (parts_of found.term) (λ x. refl))
-let_says_none tokens = refl
+let_says_none : (version : ℕ) (tokens : List Token) → says_words ((forms.let_of version) tokens) ≡ false
+let_says_none version (Word sign ∷ OpenBracket ∷ tokens) = then_says_none _ (forms.let_tokens tokens) (λ found. made_says_none _ (term_of_tokens version found.term) (λ x. refl))
+let_says_none version tokens = refl
 
-rule_says_none : (tokens : List Token) → says_words (forms.rule_of tokens) ≡ false
-rule_says_none (Word name ∷ Equals ∷ tokens) = made_says_none _ (forms.alternatives_of tokens) (λ x. refl)
-rule_says_none tokens = refl
+rule_says_none : (version : ℕ) (tokens : List Token) → says_words ((forms.rule_of version) tokens) ≡ false
+rule_says_none version (Word name ∷ Equals ∷ tokens) = made_says_none _ (option_and_then (forms.allowed version) (forms.alternatives_of tokens)) (λ x. refl)
+rule_says_none version tokens = refl
 
 axiom_says_none : (tokens : List Token) → says_words (forms.axiom_of tokens) ≡ false
 axiom_says_none (Word rule ∷ []) = refl
 axiom_says_none tokens = refl
 
 -- another first word says no `words`
-other_says_none : (word : List ℕ) (tokens : List Token) → forms.is_word (codes "words") word ≡ false → says_words (forms.behind_word word tokens) ≡ false
-other_says_none word tokens other =
+other_says_none : (version : ℕ) (word : List ℕ) (tokens : List Token) → forms.is_word (codes "words") word ≡ false → says_words ((forms.behind_word version) word tokens) ≡ false
+other_says_none version word tokens other =
     either_says_none (forms.is_word (codes "class") word) _ _ (class_says_none tokens)
     (either_says_none (forms.is_word (codes "sign") word) _ _ (sign_says_none tokens)
     (either_says_none (forms.is_word (codes "algebra") word) _ _ (algebra_says_none tokens)
-    (either_says_none (forms.is_word (codes "let") word) _ _ (let_says_none tokens)
-    (either_says_none (forms.is_word (codes "rule") word) _ _ (rule_says_none tokens)
+    (either_says_none (forms.is_word (codes "let") word) _ _ (let_says_none version tokens)
+    (either_says_none (forms.is_word (codes "rule") word) _ _ (rule_says_none version tokens)
     (either_says_none (forms.is_word (codes "grammar") word) _ _ (axiom_says_none tokens)
     (rw other refl))))))
 
@@ -93,9 +93,9 @@ same_text (x ∷ xs) (y ∷ ys) h =
     let others : xs ≡ ys = same_text xs ys each.1 in
     cc
 
-words_say : (tokens : List Token) → says_words (forms.behind_word (codes "words") tokens) ≡ only_words (Ok (Word (codes "words") ∷ tokens))
-words_say [] = refl
-words_say (token ∷ tokens) = refl
+words_say : (version : ℕ) (tokens : List Token) → says_words ((forms.behind_word version) (codes "words") tokens) ≡ only_words (Ok (Word (codes "words") ∷ tokens))
+words_say version [] = refl
+words_say version (token ∷ tokens) = refl
 
 is_no_words_line : (word : List ℕ) (tokens : List Token) → forms.is_word (codes "words") word ≡ false → only_words (Ok (Word word ∷ tokens)) ≡ false
 is_no_words_line word (token ∷ tokens) other = refl
@@ -107,20 +107,20 @@ is_no_words_line word [] other = step (pointwise nat_eq word (codes "words")) re
         let contrary : true ≡ false = subst (λ (w : List ℕ). forms.is_word (codes "words") w ≡ false) (same_text word (codes "words") e) other in
         cc
 
-word_says : (word : List ℕ) (tokens : List Token) → says_words (forms.behind_word word tokens) ≡ only_words (Ok (Word word ∷ tokens))
-word_says word tokens = step (forms.is_word (codes "words") word) refl
+word_says : (version : ℕ) (word : List ℕ) (tokens : List Token) → says_words ((forms.behind_word version) word tokens) ≡ only_words (Ok (Word word ∷ tokens))
+word_says version word tokens = step (forms.is_word (codes "words") word) refl
   where
-    step : (is : Bool) → forms.is_word (codes "words") word ≡ is → says_words (forms.behind_word word tokens) ≡ only_words (Ok (Word word ∷ tokens))
+    step : (is : Bool) → forms.is_word (codes "words") word ≡ is → says_words ((forms.behind_word version) word tokens) ≡ only_words (Ok (Word word ∷ tokens))
     step true e =
-        subst (λ (w : List ℕ). says_words (forms.behind_word w tokens) ≡ only_words (Ok (Word w ∷ tokens))) (same_text (codes "words") word e) (words_say tokens)
-    step false e = other_says_none word tokens e ∙ sym (is_no_words_line word tokens e)
+        subst (λ (w : List ℕ). says_words ((forms.behind_word version) w tokens) ≡ only_words (Ok (Word w ∷ tokens))) (same_text (codes "words") word e) (words_say version tokens)
+    step false e = other_says_none version word tokens e ∙ sym (is_no_words_line word tokens e)
 
-tokens_say : (tokens : Result (List Token) Offence) → is_last (by_tokens tokens) ≡ only_words tokens
-tokens_say (Err OpenQuote) = refl
-tokens_say (Err StrayByte) = refl
-tokens_say (Ok []) = refl
-tokens_say (Ok (Word word ∷ tokens)) = word_says word tokens
-tokens_say (Ok (token ∷ tokens)) = refl
+tokens_say : (version : ℕ) (tokens : Result (List Token) Offence) → is_last (by_tokens version tokens) ≡ only_words tokens
+tokens_say version (Err OpenQuote) = refl
+tokens_say version (Err StrayByte) = refl
+tokens_say version (Ok []) = refl
+tokens_say version (Ok (Word word ∷ tokens)) = word_says version word tokens
+tokens_say version (Ok (token ∷ tokens)) = refl
 
 -- ---- lines that are skipped
 
@@ -308,11 +308,11 @@ unprintable_says_none line h = step (tokens_from 0 0 line) refl
             cc
 
 -- a line says `words` just where it is the `words` line
-pub last_is_words : (line : List ℕ) → is_last (forms.header_line line) ≡ is_words_line line
-last_is_words line = step (is_skipped line) (list_all is_printable_byte line) refl refl
+pub last_is_words : (version : ℕ) (line : List ℕ) → is_last ((forms.header_line version) line) ≡ is_words_line line
+last_is_words version line = step (is_skipped line) (list_all is_printable_byte line) refl refl
   where
     step : (skipped printable : Bool) → is_skipped line ≡ skipped → list_all is_printable_byte line ≡ printable
-        → is_last (cond skipped forms.Skipped (cond (not printable) forms.Unprintable (by_tokens (tokens_of line)))) ≡ only_words (tokens_of line)
+        → is_last (cond skipped forms.Skipped (cond (not printable) forms.Unprintable (by_tokens version (tokens_of line)))) ≡ only_words (tokens_of line)
     step true printable s p = sym (skipped_says_none line s)
     step false false s p = sym (unprintable_says_none line p)
-    step false true s p = tokens_say (tokens_of line)
+    step false true s p = tokens_say version (tokens_of line)

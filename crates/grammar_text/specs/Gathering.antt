@@ -19,6 +19,7 @@ words_line_in header = if list_any is_last header then Some (length header) else
 
 abbrev pub text_seen : Gathered → TextLines
 text_seen text = record {
+  version = text.version;
   lines = words_seen text.lines.items;
   header = header_seen text.header;
   words_line = text.words_line;

@@ -15,4 +15,5 @@ joined alone form = record alone {
   crossed = form.has_crossed_run;
   lacks_let = form.lacks_let || alone.lacks_let;
   passing_count = option_or form.passing_count alone.passing_count;
+  twice = form.twice;
 }

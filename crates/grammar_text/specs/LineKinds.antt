@@ -1,5 +1,5 @@
 -- What stands wrong at a line, as the reader holds it.
-use Rattle.std.specs.Prelude.{◌≡◌, ℕ, Bool, true, false, ◌&&◌, not, List, [], ◌∷◌, if◌then◌else◌}
+use Rattle.std.specs.Prelude.{◌≡◌, ℕ, Bool, true, false, ◌&&◌, not, None, List, [], ◌∷◌, if◌then◌else◌}
 use Rattle.std.specs.List.{list_any}
 use Rattle.job_texts.specs.Declarations.{Declaration}
 use Rattle.job_texts.specs.DeclaredNames.{TextLines, is_algebra_line}
@@ -21,7 +21,8 @@ pub record AreLaterTests (text : TextLines) (line : ℕ) (tests : LineTests) : T
   pub misfit : tests.misfit ≡ faults.has_misfit text line
   pub crossed : tests.crossed ≡ faults.has_crossed_run text line
   pub lacks_let : tests.lacks_let ≡ faults.lacks_let text line
-  pub passing_count : tests.passing_count ≡ faults.passing_count text line
+  pub passing_count : tests.unknown ≡ false → tests.passing_count ≡ faults.passing_count text line
+  pub twice : tests.unknown ≡ false → tests.passing_count ≡ None → tests.twice ≡ faults.has_variable_twice text line
 
 -- the tests of a line; behind a wrong name or number no other needs be known
 pub record AreLineTests (text : TextLines) (line : ℕ) (tests : LineTests) : Type 0 where
@@ -48,6 +49,7 @@ pub record AreTestsAlone (text : TextLines) (all : List Declaration) (line : ℕ
       tests.not_one_axiom ≡ (faults.is_words_line_number text line && not (list_any faults.is_axiom_line all))
   pub lacks_let : tests.lacks_let ≡ (faults.is_words_line_number text line && not (list_any is_algebra_line all))
   pub passing_count : tests.passing_count ≡ first_passing (word_counts text line)
+  pub twice : tests.twice ≡ false
   pub no_name : tests.no_name ≡ false
   pub no_number : tests.no_number ≡ false
   pub repeated : tests.repeated ≡ false

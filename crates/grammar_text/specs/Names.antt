@@ -1,5 +1,5 @@
 -- The names that the declarations of a text give, as the reader holds them, and what the tests of a line ask of them.
-use Rattle.std.specs.Prelude.{◌≡◌, ℕ, Bool, true, false, not, ◌&&◌, ◌||◌, ◌==◌, nat_eq, nat_lt, Option, is_some, List, length}
+use Rattle.std.specs.Prelude.{◌≡◌, ℕ, Bool, true, false, not, ◌&&◌, ◌||◌, ◌==◌, nat_eq, nat_lt, Option, is_some, List, [], ◌∷◌, length}
 use Rattle.std.specs.List.{filter_map, find, list_all, position, zip}
 use Rattle.std.specs.Option.{option_map, option_map_or}
 use Rattle.std.specs.Borrow.{Bor}
@@ -9,10 +9,12 @@ use Rattle.std.specs.BTreeMap.{BTreeMap, get_by}
 use Rattle.std.specs.BTreeSet.{BTreeSet, contains_by}
 use Rattle.adp_model.specs.declared.grammar.Kind.{Kind}
 use lib.Pointwise.{pointwise}
-use Rattle.job_texts.specs.TermText.{are_declared, is_among}
+use Rattle.job_texts.specs.TermText.{is_among}
+use Rattle.job_texts.specs.LetTerms.{counted_leaves, has_variables}
 use Rattle.job_texts.specs.Declarations.{Argument, Declaration, Sign, Algebra, Let, Rule}
 use Rattle.job_texts.specs.DeclaredNames.{class_name_of, sign_name_of, algebra_name_of, rule_name_of, class_names, sign_names, rule_names, kinds_given, let_signs, since_algebra}
-use Rattle.job_texts.specs.TextFaults.{Counted, fits_kind}
+use Rattle.adp_model.specs.WellFormed.{most_leaves}
+use Rattle.job_texts.specs.TextFaults.{Counted, counts_of, fits_kind, limited}
 use Rattle.grammar_text.specs.declared.reader.names.Names.{Names}
 use Rattle.grammar_text.specs.declared.reader.names.Sort.{Sort}
 use Rattle.grammar_text.specs.declared.reader.names.Sort.TheVariants as sorts
@@ -55,7 +57,7 @@ pub record AreNames (names : Names) (declared : List Declaration) : Type 0 where
 
 -- each variable of a `let`'s term is one of its variables; so for a line that is no `let`
 abbrev pub declares_its_variables : Declaration → Bool
-declares_its_variables (Let sign variables term) = are_declared variables term
+declares_its_variables (Let sign variables term) = has_variables variables term
 declares_its_variables declaration = true
 
 -- the kinds of a sign or the alternatives of a rule, counted
@@ -70,6 +72,16 @@ first_passing counts =
     option_map
     (λ (counted : Counted). counted.count)
     (find (λ (counted : Counted). nat_lt counted.limit counted.count) counts)
+
+-- the leaves of a `let`'s term, with their limit
+abbrev pub leaf_counts : Declaration → List Counted
+leaf_counts (Let sign variables term) = limited (counted_leaves term) most_leaves ∷ []
+leaf_counts declaration = []
+
+-- the counts of a line, but for leaves of terms
+abbrev pub line_counts : List Declaration → Declaration → List Counted
+line_counts declared (Let sign variables term) = []
+line_counts declared declaration = counts_of declared declaration
 
 -- there is an argument for each of these kinds, and each fits its kind
 abbrev pub fit_kinds : List Kind → List Argument → Bool

@@ -1,9 +1,8 @@
 -- What the reader has in its hands, seen as what the lines of a text declare.
-use Rattle.std.specs.Prelude.{◌≡◌, ℕ, Bool, true, false, take, ◌+◌, ◌*◌, ◌<◌, ◌≤◌, Option, Some, None, unwrap_or, List, [], ◌∷◌, ◌++◌, map, length, drop, MatchOption}
+use Rattle.std.specs.Prelude.{◌≡◌, ℕ, Bool, true, false, take, ◌+◌, ◌*◌, ◌<◌, ◌≤◌, Option, Some, None, unwrap_or, List, [], ◌∷◌, ◌++◌, map, length, drop, codes, MatchOption}
 use Rattle.std.specs.Borrow.{Bor}
 use Rattle.std.specs.Option.{option_map, option_and_then, option_copied}
-use Rattle.job_texts.specs.TermText.{Part}
-use Rattle.job_texts.specs.TermParts.{term_parts}
+use Rattle.job_texts.specs.LetTerms.{LetTerm, Parts, term_of_text}
 use Rattle.job_texts.specs.LineTokens.{Token, QuotedRest, Bar, CloseBracket, CloseSquare, Comma, Dots, Word}
 use Rattle.job_texts.specs.Declarations as forms
 use Rattle.algebra_terms.specs.declared.symbols.Symbol.{Symbol}
@@ -15,6 +14,7 @@ use Rattle.grammar_text.specs.declared.reader.declaration.Item.{Item}
 use Rattle.grammar_text.specs.declared.reader.declaration.Argument.{Argument}
 use Rattle.grammar_text.specs.declared.reader.declaration.Argument.TheVariants as arguments
 use Rattle.grammar_text.specs.declared.reader.declaration.Alternative.{Alternative}
+use Rattle.grammar_text.specs.declared.reader.declaration.SizeWords.{SizeWords}
 use Rattle.grammar_text.specs.declared.reader.declaration.Declaration.{Declaration}
 use Rattle.grammar_text.specs.declared.reader.declaration.Declaration.TheVariants as declarations
 use Rattle.grammar_text.specs.declared.reader.declaration.HeaderLine.{HeaderLine}
@@ -43,24 +43,29 @@ argument_seen (arguments.Spelled letters) = forms.Spelled (letters_behind letter
 argument_seen (arguments.OneOf class) = forms.OneOf class.now
 argument_seen (arguments.RunOf class low high) = forms.RunOf class.now low.now (option_copied high)
 
--- an alternative with its arguments
+-- a size, without where its words lie in memory
+abbrev pub size_seen : SizeWords → forms.SizeWords
+size_seen size = record { low = size.low.now; high = option_copied size.high }
+
+-- an alternative with its arguments and its size
 abbrev pub alternative_seen : Alternative → forms.Alternative
 alternative_seen alternative = record {
   sign = alternative.sign.now;
   arguments = map argument_seen alternative.arguments.items;
+  size = option_map size_seen alternative.size;
 }
 
--- the parts of the term that these bytes spell; none where they spell none
-abbrev pub parts_of_text : List ℕ → List Part
-parts_of_text text = unwrap_or (term_parts text) []
+-- the term that these bytes spell in a text of this format; one without parts where they spell none
+abbrev pub term_seen : ℕ → List ℕ → LetTerm
+term_seen version text = unwrap_or (term_of_text version text) (Parts [])
 
--- what a line says; of a `let`'s bytes the parts of its term
+-- what a line says; of a `let`'s bytes the term that they spell
 abbrev pub declaration_seen : Declaration → forms.Declaration
 declaration_seen (declarations.Class name items) = forms.Class name.now (map item_seen items.items)
 declaration_seen (declarations.Sign name kinds) = forms.Sign name.now kinds.items
 declaration_seen (declarations.Algebra name goal) = forms.Algebra name.now goal
 declaration_seen (declarations.Let sign variables term) =
-    forms.Let sign.now (words_seen variables.items) (parts_of_text term.bytes.now)
+    forms.Let sign.now (words_seen variables.items) (term_seen term.version term.bytes.now)
 declaration_seen (declarations.Rule name alternatives) = forms.Rule name.now (map alternative_seen alternatives.items)
 declaration_seen (declarations.Axiom rule) = forms.Axiom rule.now
 declaration_seen declarations.Words = forms.Words
@@ -121,11 +126,37 @@ IsFirstSign symbols found =
     ≡ forms.with_sign sign.now (forms.arguments_of (tokens_seen (drop 2 symbols))))
     × (2 ≤ length symbols))
 
--- what follows behind the closing bracket of an alternative
-abbrev pub IsBehindAlternative : List Symbol → Option Next → Type 0
-IsBehindAlternative symbols None = forms.behind_argument (CloseBracket ∷ tokens_seen symbols) ≡ None
-IsBehindAlternative symbols (Some next.End) = symbols ≡ []
-IsBehindAlternative symbols (Some next.Another) = tokens_seen symbols ≡ Bar ∷ tokens_seen (drop 1 symbols)
+-- what the alternatives are behind one, by the mark behind that
+abbrev pub further_alternatives : Next → List Token → Option (List forms.Alternative)
+further_alternatives next.Another tokens = forms.alternatives_of tokens
+further_alternatives next.End tokens = Some []
+
+-- a size or none behind the closing bracket of an alternative, what follows it, and the number of its symbols
+abbrev pub IsBehindAlternative : List Symbol → Option (Option SizeWords × Next × ℕ) → Type 0
+IsBehindAlternative symbols found =
+    MatchOption found (forms.behind_alternative (tokens_seen symbols) ≡ None)
+    (λ behind.
+    (forms.behind_alternative (tokens_seen symbols)
+    ≡ forms.at_close (option_map size_seen behind.0) (further_alternatives behind.1 (tokens_seen (drop behind.2 symbols))))
+    × (behind.2 ≤ length symbols))
+
+-- what stands behind `with size`
+abbrev pub behind_clause : List Token → Option forms.RuleRest
+behind_clause tokens = forms.behind_alternative (Word (codes "with") ∷ Word (codes "size") ∷ tokens)
+
+-- what stands behind `with size`, the word of a low bound and dots
+abbrev pub behind_low : List ℕ → List Token → Option forms.RuleRest
+behind_low low tokens = behind_clause (Word low ∷ Dots ∷ tokens)
+
+-- the size that these symbols spell to its end, by what it reads, what follows it, and the number of its symbols; or there
+-- is none
+abbrev pub IsSizeEnd : (List Token → Option forms.RuleRest) → List Symbol → Option (SizeWords × Next × ℕ) → Type 0
+IsSizeEnd rest symbols found =
+    MatchOption found (rest (tokens_seen symbols) ≡ None)
+    (λ end.
+    (rest (tokens_seen symbols)
+    ≡ forms.at_close (Some (size_seen end.0)) (further_alternatives end.1 (tokens_seen (drop end.2 symbols))))
+    × (end.2 ≤ length symbols))
 
 -- what follows behind an argument
 abbrev pub IsBehindArgument : List Symbol → Option Next → Type 0
@@ -195,10 +226,7 @@ IsArgumentEnd rest symbols found =
 abbrev pub with_arguments : List forms.Argument → Option forms.RuleRest → Option forms.RuleRest
 with_arguments arguments rest =
     option_map
-    (λ (found : forms.RuleRest). record {
-      arguments = arguments ++ found.arguments;
-      alternatives = found.alternatives;
-    }) rest
+    (λ (found : forms.RuleRest). record found { arguments = arguments ++ found.arguments }) rest
 
 -- the arguments up to the first closing bracket, and the number of the symbols up to and with it; or there are none
 abbrev pub AreArguments : List Symbol → Option (List Argument × ℕ) → Type 0

@@ -1,4 +1,4 @@
-//! The text format `adp 1` of jobs.
+//! The text formats of jobs, `adp 1` and `adp 2`.
 #![tactic(auto)]
 
 mod error;

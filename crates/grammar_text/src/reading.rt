@@ -26,7 +26,14 @@ pub fn read_text(alloc: Global, bytes: &[u8]) -> Result<Job, TextError>
     if let Some(fault) = first_fault(alloc, &text, &names)? {
         return Err(TextError::Fault(fault));
     }
-    let job = job_of(alloc, bytes, &text.header.declared, &names, words_of(&text))?;
+    let job = job_of(
+        alloc,
+        bytes,
+        text.version,
+        &text.header.declared,
+        &names,
+        words_of(&text),
+    )?;
     Ok(job)
 }
 

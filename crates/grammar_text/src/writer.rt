@@ -12,7 +12,7 @@ ghost use Rattle.job_texts.specs.JobText.{IsText};
 ghost use Rattle.adp_model.specs.Report.{line};
 ghost use Rattle.job_texts.specs.Spelling.{grammar_lines, spelling};
 
-use adp_model::{Grammar, Job, Text};
+use adp_model::{Grammar, Job, Text, push_decimal};
 use spelled_texts::spellings_are_read_back;
 use std::alloc::{AllocError, Global};
 
@@ -23,7 +23,9 @@ pub fn write_text(alloc: Global, job: &Job) -> Result<Vec<u8>, AllocError>
 {
     spellings_are_read_back();
     let mut out = Vec::new(alloc);
-    out.extend_from_slice(b"adp 1\n")?;
+    out.extend_from_slice(b"adp ")?;
+    push_decimal(&mut out, u64::from(job.version))?;
+    out.extend_from_slice(b"\n")?;
     push_grammar(&mut out, &job.grammar)?;
     out.extend_from_slice(b"words\n")?;
     push_words(&mut out, job.words.as_slice())?;

@@ -1,6 +1,6 @@
 -- What a header line says: the shapes that its tokens can match, and what a line of each shape declares. The words at
 -- the places of names, numbers and bounds are any words here; whether they are of the right form is judged apart.
-use Rattle.std.specs.Prelude.{ℕ, Bool, true, false, nat_eq, Option, Some, None, Result, Ok, Err, List, [], ◌∷◌, codes, if◌then◌else◌, not}
+use Rattle.std.specs.Prelude.{ℕ, Bool, true, false, nat_eq, Option, Some, None, Result, Ok, Err, List, [], ◌∷◌, codes, if◌then◌else◌, not, ◌&&◌, ◌||◌, is_none}
 use Rattle.std.specs.List.{list_all}
 use Rattle.std.specs.Option.{option_map, option_and_then}
 use lib.Pointwise.{pointwise}
@@ -11,8 +11,8 @@ use Rattle.adp_model.specs.declared.grammar.Goal.TheVariants.{Least, Greatest}
 use Rattle.adp_model.specs.Printable.{is_printable_byte}
 use Rattle.job_texts.specs.LineTokens.{Token, Word, Quoted, Equals, OpenBracket, CloseBracket, Comma, OpenSquare, CloseSquare, Bar, Minus, Dots, Offence, StrayByte, OpenQuote, tokens_of}
 use Rattle.job_texts.specs.JobLines.{is_skipped}
-use Rattle.job_texts.specs.TermText.{Part}
-use Rattle.job_texts.specs.TermParts.{parts_of}
+pub use Rattle.job_texts.specs.TermText.{is_word}
+use Rattle.job_texts.specs.LetTerms.{LetTerm, is_second, term_of_tokens}
 
 -- `"ab" 5` or `"ab" - 5` of a class: letters, and the number that each of them weighs
 pub record Item : Type 0 where
@@ -27,24 +27,26 @@ pub data Argument : Type 0 where
   OneOf : (class : List ℕ) → Argument
   RunOf : (class : List ℕ) → (low : List ℕ) → (high : Option (List ℕ)) → Argument
 
--- `NAME ( ARG , ARG .. )`
+-- `with size LOW .. HIGH`, whose high bound may be left out
+pub record SizeWords : Type 0 where
+  pub low : List ℕ
+  pub high : Option (List ℕ)
+
+-- `NAME ( ARG , ARG .. )`, and behind it, in the second format, a size or none
 pub record Alternative : Type 0 where
   pub sign : List ℕ
   pub arguments : List Argument
+  pub size : Option SizeWords
 
--- what a line of each shape says; of a `let`'s term its parts
+-- what a line of each shape says; of a `let`'s term what its tokens spell
 pub data Declaration : Type 0 where
   Class : (name : List ℕ) → (items : List Item) → Declaration
   Sign : (name : List ℕ) → (kinds : List Kind) → Declaration
   Algebra : (name : List ℕ) → (goal : Goal) → Declaration
-  Let : (sign : List ℕ) → (variables : List (List ℕ)) → (term : List Part) → Declaration
+  Let : (sign : List ℕ) → (variables : List (List ℕ)) → (term : LetTerm) → Declaration
   Rule : (name : List ℕ) → (alternatives : List Alternative) → Declaration
   Axiom : (rule : List ℕ) → Declaration
   Words : Declaration
-
--- the word is this one
-abbrev pub is_word : List ℕ → List ℕ → Bool
-is_word keyword word = pointwise nat_eq keyword word
 
 -- one more in front, where the others are there
 abbrev pub and_before : {X : Type 0} → X → Option (List X) → Option (List X)
@@ -121,32 +123,44 @@ let_tokens (Word variable ∷ Comma ∷ tokens) = with_variable variable (let_to
 let_tokens (Word variable ∷ CloseBracket ∷ Equals ∷ tokens) = Some (record { variables = variable ∷ []; term = tokens })
 let_tokens tokens = None
 
-abbrev pub let_of : List Token → Option Declaration
-let_of (Word sign ∷ OpenBracket ∷ tokens) = option_and_then with_term (let_tokens tokens)
+abbrev pub let_of : ℕ → List Token → Option Declaration
+let_of version (Word sign ∷ OpenBracket ∷ tokens) = option_and_then with_term (let_tokens tokens)
   where
     with_term : LetTokens → Option Declaration
-    with_term found = option_map (λ parts. Let sign found.variables parts) (parts_of found.term)
-let_of tokens = None
+    with_term found = option_map (λ term. Let sign found.variables term) (term_of_tokens version found.term)
+let_of version tokens = None
 
 -- ---- `rule NAME = ALT | ALT ..`
 
--- the arguments of an alternative from one on, and the alternatives behind it
+-- the arguments of an alternative from one on, its size, and the alternatives behind it
 pub record RuleRest : Type 0 where
   pub arguments : List Argument
+  pub size : Option SizeWords
   pub alternatives : List Alternative
 
 abbrev pub with_argument : Argument → Option RuleRest → Option RuleRest
 with_argument argument rest =
     option_map
-    (λ (found : RuleRest). record { arguments = argument ∷ found.arguments; alternatives = found.alternatives }) rest
+    (λ (found : RuleRest). record found { arguments = argument ∷ found.arguments }) rest
 
--- the closing bracket is behind the last argument
-abbrev pub at_close : Option (List Alternative) → Option RuleRest
-at_close alternatives = option_map (λ found. record { arguments = []; alternatives = found }) alternatives
+-- the closing bracket is behind the last argument, and behind it this size and these alternatives
+abbrev pub at_close : Option SizeWords → Option (List Alternative) → Option RuleRest
+at_close size alternatives =
+    option_map (λ found. record { arguments = []; size = size; alternatives = found }) alternatives
+
+-- the words `with size`
+abbrev pub is_clause : List ℕ → List ℕ → Bool
+is_clause first second = is_word (codes "with") first && is_word (codes "size") second
+
+-- the same behind a size, where the words before its bounds are `with size`
+abbrev pub at_size : Bool → List ℕ → Option (List ℕ) → Option (List Alternative) → Option RuleRest
+at_size clause low high alternatives =
+    if clause then at_close (Some (record { low = low; high = high })) alternatives else None
 
 abbrev pub with_sign : List ℕ → Option RuleRest → Option (List Alternative)
 with_sign sign rest =
-    option_map (λ (found : RuleRest). record { sign = sign; arguments = found.arguments } ∷ found.alternatives) rest
+    option_map (λ (found : RuleRest).
+    record { sign = sign; arguments = found.arguments; size = found.size } ∷ found.alternatives) rest
 
 abbrev mutual
   -- alternatives with a `|` between two, the last up to the end of the line
@@ -165,16 +179,36 @@ abbrev mutual
       with_argument (RunOf class low (Some high)) (behind_argument tokens)
   arguments_of tokens = None
 
-  -- a comma and a further argument, or the closing bracket, behind which the line ends or a further alternative stands
+  -- a comma and a further argument, or the closing bracket
   pub behind_argument : List Token → Option RuleRest
   behind_argument (Comma ∷ tokens) = arguments_of tokens
-  behind_argument (CloseBracket ∷ []) = at_close (Some [])
-  behind_argument (CloseBracket ∷ Bar ∷ tokens) = at_close (alternatives_of tokens)
+  behind_argument (CloseBracket ∷ tokens) = behind_alternative tokens
   behind_argument tokens = None
 
-abbrev pub rule_of : List Token → Option Declaration
-rule_of (Word name ∷ Equals ∷ tokens) = option_map (λ alternatives. Rule name alternatives) (alternatives_of tokens)
-rule_of tokens = None
+  -- a size or none, behind which the line ends or a further alternative stands
+  pub behind_alternative : List Token → Option RuleRest
+  behind_alternative [] = at_close None (Some [])
+  behind_alternative (Bar ∷ tokens) = at_close None (alternatives_of tokens)
+  behind_alternative (Word first ∷ Word second ∷ Word low ∷ Dots ∷ []) =
+      at_size (is_clause first second) low None (Some [])
+  behind_alternative (Word first ∷ Word second ∷ Word low ∷ Dots ∷ Bar ∷ tokens) =
+      at_size (is_clause first second) low None (alternatives_of tokens)
+  behind_alternative (Word first ∷ Word second ∷ Word low ∷ Dots ∷ Word high ∷ []) =
+      at_size (is_clause first second) low (Some high) (Some [])
+  behind_alternative (Word first ∷ Word second ∷ Word low ∷ Dots ∷ Word high ∷ Bar ∷ tokens) =
+      at_size (is_clause first second) low (Some high) (alternatives_of tokens)
+  behind_alternative tokens = None
+
+-- these alternatives, where the format has sizes or none of them has one
+abbrev pub allowed : ℕ → List Alternative → Option (List Alternative)
+allowed version alternatives =
+    if is_second version || list_all (λ (alternative : Alternative). is_none alternative.size) alternatives
+    then Some alternatives else None
+
+abbrev pub rule_of : ℕ → List Token → Option Declaration
+rule_of version (Word name ∷ Equals ∷ tokens) =
+    option_map (λ alternatives. Rule name alternatives) (option_and_then (allowed version) (alternatives_of tokens))
+rule_of version tokens = None
 
 -- ---- `grammar NAME` and `words`
 
@@ -189,21 +223,21 @@ nothing_more tokens = None
 -- ---- all shapes
 
 -- what the tokens behind a first word say
-abbrev pub behind_word : List ℕ → List Token → Option Declaration
-behind_word word tokens =
+abbrev pub behind_word : ℕ → List ℕ → List Token → Option Declaration
+behind_word version word tokens =
     if is_word (codes "class") word then class_of tokens
     else (if is_word (codes "sign") word then sign_of tokens
     else (if is_word (codes "algebra") word then algebra_of tokens
-    else (if is_word (codes "let") word then let_of tokens
-    else (if is_word (codes "rule") word then rule_of tokens
+    else (if is_word (codes "let") word then let_of version tokens
+    else (if is_word (codes "rule") word then rule_of version tokens
     else (if is_word (codes "grammar") word then axiom_of tokens
     else (if is_word (codes "words") word then nothing_more tokens
     else None))))))
 
--- what the tokens of a line say; nothing where they match no shape
-abbrev pub declaration_of : List Token → Option Declaration
-declaration_of (Word word ∷ tokens) = behind_word word tokens
-declaration_of tokens = None
+-- what the tokens of a line of this format say; nothing where they match no shape
+abbrev pub declaration_of : ℕ → List Token → Option Declaration
+declaration_of version (Word word ∷ tokens) = behind_word version word tokens
+declaration_of version tokens = None
 
 -- ---- header lines
 
@@ -216,9 +250,9 @@ pub data HeaderLine : Type 0 where
   Shapeless : HeaderLine
   Says : (declaration : Declaration) → HeaderLine
 
--- what a header line is, the first that holds
-abbrev pub header_line : List ℕ → HeaderLine
-header_line line =
+-- what a header line of this format is, the first that holds
+abbrev pub header_line : ℕ → List ℕ → HeaderLine
+header_line version line =
     if is_skipped line then Skipped
     else (if not (list_all is_printable_byte line) then Unprintable
     else by_tokens (tokens_of line))
@@ -230,4 +264,4 @@ header_line line =
     by_tokens : Result (List Token) Offence → HeaderLine
     by_tokens (Err OpenQuote) = Unclosed
     by_tokens (Err StrayByte) = Shapeless
-    by_tokens (Ok tokens) = by_shape (declaration_of tokens)
+    by_tokens (Ok tokens) = by_shape (declaration_of version tokens)

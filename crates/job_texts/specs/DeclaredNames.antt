@@ -5,14 +5,15 @@ use Rattle.std.specs.List.{filter_map, before_first}
 use Rattle.std.specs.Option.{option_or}
 use lib.Pointwise.{pointwise}
 use Rattle.adp_model.specs.declared.grammar.Kind.{Kind}
-use Rattle.job_texts.specs.JobLines.{job_lines, header_of, words_line_of, words_of}
+use Rattle.job_texts.specs.JobLines.{job_lines, header_of, version_of, words_line_of, words_of}
 use Rattle.job_texts.specs.Declarations.{Declaration, Class, Sign, Algebra, Let, Rule, HeaderLine, Skipped, Says, header_line}
 
 -- ---- a text, line by line
 
--- the lines of a text; what each line up to the `words` line is, where line 1, which declares nothing, counts as
+-- the format of a text; its lines; what each line up to the `words` line is, where line 1, which declares nothing, counts as
 -- skipped; the number of the `words` line, where there is one; and the words
 pub record TextLines : Type 0 where
+  pub version : ℕ
   pub lines : List (List ℕ)
   pub header : List HeaderLine
   pub words_line : Option ℕ
@@ -23,8 +24,9 @@ text_lines bytes = of_lines (job_lines bytes)
   where
     of_lines : List (List ℕ) → TextLines
     of_lines lines = record {
+      version = version_of lines;
       lines = lines;
-      header = Skipped ∷ map header_line (header_of lines);
+      header = Skipped ∷ map (header_line (version_of lines)) (header_of lines);
       words_line = words_line_of lines;
       words = words_of lines;
     }

@@ -16,9 +16,20 @@ job_lines bytes = lines bytes
 abbrev pub line_at : List (List ℕ) → ℕ → List ℕ
 line_at lines number = slice_index_or ([] ∷ lines) number []
 
+-- line 1 of a job's text in the first format, and in the second
+abbrev pub is_first_format : List ℕ → Bool
+is_first_format line = pointwise nat_eq line (codes "adp 1")
+
+abbrev pub is_second_format : List ℕ → Bool
+is_second_format line = pointwise nat_eq line (codes "adp 2")
+
 -- line 1 of a job's text
 abbrev pub is_first_line : List ℕ → Bool
-is_first_line line = pointwise nat_eq line (codes "adp 1")
+is_first_line line = is_first_format line || is_second_format line
+
+-- the format of a text, by its line 1; of a text with another line 1 it says nothing
+abbrev pub version_of : List (List ℕ) → ℕ
+version_of lines = if is_second_format (line_at lines 1) then 2 else 1
 
 -- a line that is empty, has only spaces, or begins with `#`
 abbrev pub is_skipped : List ℕ → Bool

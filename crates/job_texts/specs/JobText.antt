@@ -5,7 +5,9 @@ use Rattle.std.specs.Option.{option_map, option_or, option_and_then}
 use lib.Pointwise.{pointwise}
 use Rattle.adp_model.specs.declared.grammar.Class as classes
 use Rattle.adp_model.specs.declared.grammar.Sign as signs
-use Rattle.adp_model.specs.declared.grammar.Linear.{Linear}
+use Rattle.adp_model.specs.declared.grammar.Term.{Term}
+use Rattle.adp_model.specs.declared.grammar.Term.TheVariants.{Linear}
+use Rattle.adp_model.specs.declared.grammar.Size.{Size}
 use Rattle.adp_model.specs.declared.grammar.Algebra as algebras
 use Rattle.adp_model.specs.declared.grammar.Arg.{Arg}
 use Rattle.adp_model.specs.declared.grammar.Arg.TheVariants as args
@@ -14,16 +16,13 @@ use Rattle.adp_model.specs.declared.grammar.Rule as rules
 use Rattle.adp_model.specs.declared.grammar.Grammar.{Grammar}
 use Rattle.adp_model.specs.declared.job.Job.{Job}
 use Rattle.adp_model.specs.declared.fault.TextFault.{TextFault}
-use Rattle.job_texts.specs.TermText.{linear_of}
-use Rattle.job_texts.specs.Declarations.{Argument, Named, Spelled, OneOf, RunOf, Alternative, Declaration, Class, Sign, Algebra, Let, Rule, Axiom}
+pub use Rattle.job_texts.specs.TermText.{number_among}
+use Rattle.job_texts.specs.LetTerms.{term_of}
+use Rattle.job_texts.specs.Declarations.{Argument, Named, Spelled, OneOf, RunOf, SizeWords, Alternative, Declaration, Class, Sign, Algebra, Let, Rule, Axiom}
 use Rattle.job_texts.specs.DeclaredNames.{TextLines, text_lines, declarations, class_names, sign_names, rule_names, section_of, first_of_list}
 use Rattle.job_texts.specs.TextFaults.{bound_of, class_letters, FaultKind, fault_kinds}
 
 -- ---- what the lines declare
-
--- the number of a name: the place of the first of this name
-abbrev pub number_among : List (List ℕ) → List ℕ → ℕ
-number_among names name = unwrap_or (position (pointwise nat_eq name) names) 0
 
 abbrev pub declared_class : Declaration → Option classes.Class
 declared_class (Class name items) = Some (record { name = name; letters = class_letters items })
@@ -34,14 +33,14 @@ declared_sign (Sign name kinds) = Some (record { name = name; kinds = kinds })
 declared_sign declaration = None
 
 -- the term that a `let` gives to this sign
-abbrev pub term_given : List ℕ → Declaration → Option Linear
-term_given sign (Let name variables term) = if pointwise nat_eq sign name then Some (linear_of variables term) else None
+abbrev pub term_given : List ℕ → Declaration → Option Term
+term_given sign (Let name variables term) = if pointwise nat_eq sign name then Some (term_of variables term) else None
 term_given sign declaration = None
 
 -- the term of a sign in a section: the first `let` of it counts
-abbrev pub term_in : List Declaration → List ℕ → Linear
+abbrev pub term_in : List Declaration → List ℕ → Term
 term_in section sign =
-    unwrap_or (first_of_list (filter_map (term_given sign) section)) (record { constant = pos 0; factors = [] })
+    unwrap_or (first_of_list (filter_map (term_given sign) section)) (Linear (record { constant = pos 0; factors = [] }))
 
 -- the algebras, each with a term for each of these signs
 abbrev pub declared_algebras : List (List ℕ) → List Declaration → List algebras.Algebra
@@ -58,10 +57,16 @@ argument_of declared (OneOf class) = args.Letter (number_among (class_names decl
 argument_of declared (RunOf class low high) =
     args.Run (number_among (class_names declared) class) (unwrap_or (bound_of low) 0) (option_and_then bound_of high)
 
+-- the lengths that a size says
+abbrev pub size_of : SizeWords → Size
+size_of size =
+    record { low = unwrap_or (bound_of size.low) 0; high = option_and_then bound_of size.high }
+
 abbrev pub alternative_of : List Declaration → Alternative → Alt
 alternative_of declared alternative = record {
   sign = number_among (sign_names declared) alternative.sign;
   args = map (argument_of declared) alternative.arguments;
+  size = option_map size_of alternative.size;
 }
 
 abbrev pub declared_rule : List Declaration → Declaration → Option rules.Rule
@@ -106,11 +111,13 @@ first_fault text = first_fault_at text (range_with_len 1 (length text.lines + 1)
 
 -- the parts of a job
 pub record Accepted : Type 0 where
+  pub version : ℕ
   pub grammar : Grammar
   pub words : List (List ℕ)
 
 abbrev pub accepted_of : TextLines → Accepted
-accepted_of text = record { grammar = declared_grammar (declarations text); words = text.words }
+accepted_of text =
+    record { version = text.version; grammar = declared_grammar (declarations text); words = text.words }
 
 -- what the lines declare where no line has a fault, else the first fault
 abbrev pub lines_verdict : TextLines → Result Accepted TextFault
@@ -125,7 +132,8 @@ text_verdict bytes = lines_verdict (text_lines bytes)
 
 -- the bytes are an accepted text, of this job
 abbrev pub IsText : List ℕ → Job → Type 0
-IsText bytes job = text_verdict bytes ≡ Ok (record { grammar = job.grammar; words = job.words })
+IsText bytes job =
+    text_verdict bytes ≡ Ok (record { version = job.version; grammar = job.grammar; words = job.words })
 
 -- the bytes are no accepted text, and this is their fault
 abbrev pub IsFaultOf : List ℕ → TextFault → Type 0

@@ -2,6 +2,8 @@ pub mod LineTokens
 pub mod JobLines
 pub mod TermText
 pub mod TermParts
+pub mod WideText
+pub mod LetTerms
 pub mod Declarations
 pub mod DeclaredNames
 pub mod TextFaults

@@ -1,4 +1,4 @@
--- The canonical spelling of a job, in the text format `adp 1`.
+-- The canonical spelling of a job, in its text format.
 use Rattle.std.specs.Prelude.{ℕ, ◌+◌, ℤ, pos, negsuc, zero, suc, Option, Some, None, List, [], ◌∷◌, ◌++◌, codes, if◌then◌else◌}
 use Rattle.std.specs.Ordering.{int_eq}
 use Rattle.std.specs.Fmt.{decimal, signed_decimal}
@@ -8,7 +8,11 @@ use Rattle.adp_model.specs.declared.grammar.Class.{Class}
 use Rattle.adp_model.specs.declared.grammar.Kind.{Kind}
 use Rattle.adp_model.specs.declared.grammar.Kind.TheVariants.{Score, Token}
 use Rattle.adp_model.specs.declared.grammar.Sign.{Sign}
-use Rattle.adp_model.specs.declared.grammar.Linear.{Linear}
+use Rattle.adp_model.specs.declared.grammar.Linear as linear
+use Rattle.adp_model.specs.WideForm.{WideForm, Number, Value, Sum, Difference, Product, Greater, Lesser}
+use Rattle.adp_model.specs.declared.grammar.Term.{Term}
+use Rattle.adp_model.specs.declared.grammar.Term.TheVariants.{Linear, Wide}
+use Rattle.adp_model.specs.declared.grammar.Size.{Size}
 use Rattle.adp_model.specs.declared.grammar.Goal.{Goal}
 use Rattle.adp_model.specs.declared.grammar.Goal.TheVariants.{Least, Greatest}
 use Rattle.adp_model.specs.declared.grammar.Algebra.{Algebra}
@@ -74,11 +78,32 @@ factors_text number [] = []
 factors_text number (factor ∷ factors) = factor_text number factor ++ factors_text (number + 1) factors
 
 -- `1 + 1*x2`
-abbrev pub term_text : Linear → List ℕ
-term_text term = signed_decimal term.constant ++ factors_text 1 term.factors
+abbrev pub linear_text : linear.Linear → List ℕ
+linear_text term = signed_decimal term.constant ++ factors_text 1 term.factors
+
+-- a wide term as a part of another: `x1`, `(1 + x1)`, `max(x1, x2)`
+abbrev pub part_text : WideForm → List ℕ
+part_text (Number number) = signed_decimal number
+part_text (Value place) = small_x ∷ decimal (place + 1)
+part_text (Sum left right) = codes "(" ++ part_text left ++ codes " + " ++ part_text right ++ codes ")"
+part_text (Difference left right) = codes "(" ++ part_text left ++ codes " - " ++ part_text right ++ codes ")"
+part_text (Product left right) = codes "(" ++ part_text left ++ codes " * " ++ part_text right ++ codes ")"
+part_text (Greater left right) = codes "max(" ++ part_text left ++ codes ", " ++ part_text right ++ codes ")"
+part_text (Lesser left right) = codes "min(" ++ part_text left ++ codes ", " ++ part_text right ++ codes ")"
+
+-- a wide term: only its root goes without brackets
+abbrev pub wide_text : WideForm → List ℕ
+wide_text (Sum left right) = part_text left ++ codes " + " ++ part_text right
+wide_text (Difference left right) = part_text left ++ codes " - " ++ part_text right
+wide_text (Product left right) = part_text left ++ codes " * " ++ part_text right
+wide_text term = part_text term
+
+abbrev pub term_text : Term → List ℕ
+term_text (Linear term) = linear_text term
+term_text (Wide term) = wide_text term
 
 -- `let NAME(x1, x2) = 1 + 1*x2`
-abbrev pub let_line : Sign × Linear → List ℕ
+abbrev pub let_line : Sign × Term → List ℕ
 let_line entry =
     line (
     codes "let " ++ entry.0.name ++ codes "(" ++ separated (λ name. name) (codes ", ") (variables 1 entry.0.kinds)
@@ -109,11 +134,16 @@ argument_text grammar (Letter class) = codes "[" ++ class_name grammar class ++ 
 argument_text grammar (Run class low high) =
     codes "[" ++ class_name grammar class ++ codes " " ++ decimal low ++ codes ".." ++ high_text high ++ codes "]"
 
--- `name(arg, arg)`
+-- ` with size 2..5`, or nothing where no size is given
+abbrev pub size_text : Option Size → List ℕ
+size_text None = []
+size_text (Some size) = codes " with size " ++ decimal size.low ++ codes ".." ++ high_text size.high
+
+-- `name(arg, arg)`, and the size behind it
 abbrev pub alternative_text : Grammar → Alt → List ℕ
 alternative_text grammar alternative =
     (sign_at grammar alternative.sign).name ++ codes "("
-    ++ separated (argument_text grammar) (codes ", ") alternative.args ++ codes ")"
+    ++ separated (argument_text grammar) (codes ", ") alternative.args ++ codes ")" ++ size_text alternative.size
 
 -- `rule NAME = ALT | ALT`
 abbrev pub rule_line : Grammar → rules.Rule → List ℕ
@@ -129,4 +159,4 @@ grammar_lines grammar =
 
 -- the canonical spelling of a job
 abbrev pub spelling : Job → List ℕ
-spelling job = line (codes "adp 1") ++ grammar_lines job.grammar ++ line (codes "words") ++ flat_map line job.words
+spelling job = line (codes "adp " ++ decimal job.version) ++ grammar_lines job.grammar ++ line (codes "words") ++ flat_map line job.words

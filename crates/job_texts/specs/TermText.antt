@@ -1,6 +1,6 @@
 -- The parts of a term's text, and the term that they sum to or what is wrong with it.
 use Rattle.std.specs.Prelude.{ℕ, ◌^◌, ℤ, pos, neg_ℤ, ◌+ℤ◌, Bool, true, false, ◌&&◌, not, nat_eq, nat_lt, Option, Some, None, is_some, unwrap_or, Result, Ok, Err, List, [], ◌∷◌, ◌++◌, if◌then◌else◌}
-use Rattle.std.specs.List.{list_all, list_any}
+use Rattle.std.specs.List.{list_all, list_any, position}
 use Rattle.std.specs.Option.{option_map, option_map_or, option_eq}
 use Rattle.std.specs.Char.{is_ascii_digit}
 use Rattle.std.specs.Str.{all_ascii_digits}
@@ -61,6 +61,14 @@ are_numbers parts = list_all (λ (part : Part). is_some part.amount) parts
 -- the constant and the factor of every variable are in range
 abbrev pub totals_fit : List Part → Bool
 totals_fit parts = list_all (λ (part : Part). is_in_range (total part.variable parts)) parts
+
+-- the word is this one
+abbrev pub is_word : List ℕ → List ℕ → Bool
+is_word keyword word = pointwise nat_eq keyword word
+
+-- the number of a name: the place of the first of this name
+abbrev pub number_among : List (List ℕ) → List ℕ → ℕ
+number_among names name = unwrap_or (position (pointwise nat_eq name) names) 0
 
 abbrev pub is_among : List (List ℕ) → List ℕ → Bool
 is_among texts text = list_any (λ other. pointwise nat_eq other text) texts

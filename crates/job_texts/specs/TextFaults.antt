@@ -7,10 +7,11 @@ use Rattle.std.specs.Str.Parse.{digits_value}
 use Rattle.adp_model.specs.declared.grammar.Kind.{Kind}
 use Rattle.adp_model.specs.declared.grammar.Kind.TheVariants as kinds
 use Rattle.adp_model.specs.Printable.{is_printable_byte}
-use Rattle.adp_model.specs.WellFormed.{are_distinct, greatest_bound, is_name, letters_are_distinct}
-use Rattle.job_texts.specs.TermText.{Part, number_of, signed, are_names, are_numbers, totals_fit, are_declared, is_among}
+use Rattle.adp_model.specs.WellFormed.{are_distinct, greatest_bound, is_name, letters_are_distinct, most_leaves}
+use Rattle.job_texts.specs.TermText.{number_of, signed, is_among}
+use Rattle.job_texts.specs.LetTerms.{counted_leaves, has_names, has_numbers, has_variables, names_twice}
 use Rattle.job_texts.specs.JobLines.{is_first_line, line_at}
-use Rattle.job_texts.specs.Declarations.{Item, Argument, Named, Spelled, OneOf, RunOf, Alternative, Declaration, Class, Sign, Algebra, Let, Rule, Axiom, Words, HeaderLine, Unclosed, Shapeless}
+use Rattle.job_texts.specs.Declarations.{Item, Argument, Named, Spelled, OneOf, RunOf, SizeWords, Alternative, Declaration, Class, Sign, Algebra, Let, Rule, Axiom, Words, HeaderLine, Unclosed, Shapeless}
 use Rattle.job_texts.specs.DeclaredNames.{TextLines, header_at, form_at, declarations, above, below, class_names, sign_names, algebra_names, rule_names, kinds_of_sign, is_algebra_line, since_algebra, section_of, let_signs}
 
 -- the test of what a line declares; a line without form passes none
@@ -71,13 +72,14 @@ name_words (Rule name alternatives) = name ∷ flat_map alternative_names altern
 name_words (Axiom rule) = rule ∷ []
 name_words Words = []
 
-abbrev pub term_of_line : Declaration → List Part
-term_of_line (Let sign variables term) = term
-term_of_line declaration = []
+-- every variable of the line's term, where it has one, is a name
+abbrev pub has_names_in_term : Declaration → Bool
+has_names_in_term (Let sign variables term) = has_names term
+has_names_in_term declaration = true
 
 -- a word at the place of a name, or a variable of the term, is no name
 abbrev pub misnames : Declaration → Bool
-misnames declaration = not (list_all is_name (name_words declaration) && are_names (term_of_line declaration))
+misnames declaration = not (list_all is_name (name_words declaration) && has_names_in_term declaration)
 
 abbrev pub has_no_name : TextLines → ℕ → Bool
 has_no_name text line = holds_of_form misnames text line
@@ -97,15 +99,20 @@ argument_bounds (Spelled letters) = []
 argument_bounds (OneOf class) = []
 argument_bounds (RunOf class low high) = low ∷ option_to_list high
 
-abbrev pub alternative_bounds : Alternative → List (List ℕ)
-alternative_bounds alternative = flat_map argument_bounds alternative.arguments
+abbrev pub size_bounds : Option SizeWords → List (List ℕ)
+size_bounds None = []
+size_bounds (Some size) = size.low ∷ option_to_list size.high
 
--- a weight or a bound is none, a number of the term is none, or the constant or a factor of the term is out of range
+abbrev pub alternative_bounds : Alternative → List (List ℕ)
+alternative_bounds alternative = flat_map argument_bounds alternative.arguments ++ size_bounds alternative.size
+
+-- a weight or a bound is none, a number of the term is none, or the constant or a factor of a linear term is out of
+-- range
 abbrev pub misnumbers : Declaration → Bool
 misnumbers (Class name items) = not (list_all (λ item. is_some (weight_of item)) items)
 misnumbers (Rule name alternatives) =
     not (list_all (λ word. is_some (bound_of word)) (flat_map alternative_bounds alternatives))
-misnumbers (Let sign variables term) = not (are_numbers term && totals_fit term)
+misnumbers (Let sign variables term) = not (has_numbers term)
 misnumbers declaration = false
 
 abbrev pub has_no_number : TextLines → ℕ → Bool
@@ -177,7 +184,7 @@ is_unknown_alternative declared alternative =
 -- a sign, rule, class or variable that the line uses is not declared
 abbrev pub uses_unknown : List Declaration → Declaration → Bool
 uses_unknown declared (Let sign variables term) =
-    not (is_among (sign_names declared) sign && are_declared variables term)
+    not (is_among (sign_names declared) sign && has_variables variables term)
 uses_unknown declared (Rule name alternatives) = list_any (is_unknown_alternative declared) alternatives
 uses_unknown declared (Axiom rule) = not (is_among (rule_names declared) rule)
 uses_unknown declared declaration = false
@@ -211,18 +218,28 @@ misfits declared declaration = false
 abbrev pub has_misfit : TextLines → ℕ → Bool
 has_misfit text line = holds_of_form (misfits (declarations text)) text line
 
+-- a high bound is below its low bound
+abbrev pub are_crossed : List ℕ → Option (List ℕ) → Bool
+are_crossed low None = false
+are_crossed low (Some high) =
+    option_map_or (λ least. option_map_or (λ most. nat_lt most least) (bound_of high) false) (bound_of low) false
+
 -- the high bound of a run is below its low bound
 abbrev pub has_crossed_bounds : Argument → Bool
-has_crossed_bounds (RunOf class low (Some high)) =
-    option_map_or (λ least. option_map_or (λ most. nat_lt most least) (bound_of high) false) (bound_of low) false
+has_crossed_bounds (RunOf class low high) = are_crossed low high
 has_crossed_bounds argument = false
+
+-- the high bound of a run of the alternative, or of its size, is below its low bound
+abbrev pub is_crossed_alternative : Alternative → Bool
+is_crossed_alternative alternative =
+    list_any has_crossed_bounds alternative.arguments
+    || option_map_or (λ (size : SizeWords). are_crossed size.low size.high) alternative.size false
 
 abbrev pub has_crossed_run : TextLines → ℕ → Bool
 has_crossed_run text line = holds_of_form crossed text line
   where
     crossed : Declaration → Bool
-    crossed (Rule name alternatives) =
-        list_any (λ (alternative : Alternative). list_any has_crossed_bounds alternative.arguments) alternatives
+    crossed (Rule name alternatives) = list_any is_crossed_alternative alternatives
     crossed declaration = false
 
 -- the section of an algebra lacks a `let` for a declared sign; or the `words` line of a text without an algebra line
@@ -252,6 +269,7 @@ counts_of declared (Sign name kinds) = limited (length (sign_names declared) + 1
 counts_of declared (Algebra name goal) = limited (length (algebra_names declared) + 1) 16 ∷ []
 counts_of declared (Rule name alternatives) =
     limited (length (rule_names declared) + 1) 128 ∷ limited (length alternatives) 64 ∷ []
+counts_of declared (Let sign variables term) = limited (counted_leaves term) most_leaves ∷ []
 counts_of declared declaration = []
 
 -- the number of words up to this line
@@ -277,6 +295,16 @@ passing_count text line =
 
 abbrev pub passes_limit : TextLines → ℕ → Bool
 passes_limit text line = is_some (passing_count text line)
+
+-- ---- variables of terms
+
+-- a variable stands twice in a wide term
+abbrev pub is_twice : Declaration → Bool
+is_twice (Let sign variables term) = names_twice term
+is_twice declaration = false
+
+abbrev pub has_variable_twice : TextLines → ℕ → Bool
+has_variable_twice text line = holds_of_form is_twice text line
 
 -- ---- all kinds
 
@@ -309,6 +337,7 @@ fault_kinds =
     ∷ plain_kind 14 has_crossed_run
     ∷ plain_kind 15 lacks_let
     ∷ record { number = 16; stands = passes_limit; count = λ text line. unwrap_or (passing_count text line) 0 }
+    ∷ plain_kind 17 has_variable_twice
     ∷ []
 
 -- the kinds that stand at a line, by their numbers

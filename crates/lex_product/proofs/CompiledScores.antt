@@ -5,7 +5,8 @@ use Rattle.adp_model.specs.declared.grammar.Kind.{Kind}
 use Rattle.adp_model.specs.declared.grammar.Kind.TheVariants.{Score, Token}
 use Rattle.adp_model.specs.declared.grammar.Arg.{Arg}
 use Rattle.adp_model.specs.declared.grammar.Arg.TheVariants.{Rule, Literal, Letter, Run}
-use Rattle.adp_model.specs.declared.grammar.Linear.{Linear}
+use Rattle.adp_model.specs.declared.grammar.Term.{Term}
+use Rattle.adp_model.specs.declared.grammar.Term.TheVariants.{Linear, Wide}
 use Rattle.adp_model.specs.declared.cell.Cell.{Cell}
 use Rattle.adp_model.specs.PosedProblem.{PosedProblem}
 use Rattle.adp_model.specs.Parts.{alternatives_of, alternative_at, arguments_of, algebra_at, sign_at, term_for}
@@ -14,10 +15,10 @@ use Rattle.adp_model.specs.Tokens.{token_value, letters_between}
 use Rattle.adp_model.specs.Tree.{Tree, Leaf, Node, Trees, Nil, Cons, start_of, end_of}
 use Rattle.adp_model.specs.Derivation.{Derives, DeriveArguments}
 use Rattle.adp_model.specs.Scores.{score_of, values_of}
-use Rattle.lex_product.specs.CompiledTerms.{joined, joined_factors}
+use Rattle.lex_product.specs.CompiledTerms.{joined, joined_factors, joined_term}
 use Rattle.lex_product.specs.CompiledGrammar.{compiled_problem, has_same_goal}
-use Rattle.lex_product.specs.FittingTerms.{AreTermsOf}
-use Rattle.lex_product.specs.PairFaults.{HaveUnitScores, AllAddScores}
+use Rattle.lex_product.specs.FittingTerms.{AreFactorsOf, AreTermsOf}
+use Rattle.lex_product.specs.PairFaults.{HaveUnitScores, IsAdding, AllAddScores}
 use Rattle.lex_product.specs.PairOrder.{under}
 use Rattle.lex_product.proofs.Joined.{sum_joined, times_joined, none_joined}
 use Rattle.lex_product.proofs.Compiled.{compiled_term}
@@ -36,6 +37,18 @@ score_step m same f f' sc sp sq rc rp rq u u' s r =
 token_step : (m : ℕ) (same : Bool) (f f' v rc rp rq : ℤ) → rc ≡ joined m same (rp, rq) → (joined m same (f, f') *ℤ v) +ℤ rc ≡ joined m same ((f *ℤ v) +ℤ rp, (f' *ℤ v) +ℤ rq)
 token_step m same f f' v rc rp rq r =
     ap (λ x. x +ℤ rc) (times_joined m same f f' v) ∙ ap (λ x. joined m same (f *ℤ v, f' *ℤ v) +ℤ x) r ∙ sum_joined m same (f *ℤ v) (f' *ℤ v) rp rq
+
+-- two terms as one have both values in one, where their sums do
+terms_joined : (m : ℕ) (same : Bool) (kinds : List Kind) (term term' : Term) (values values' both : List ℤ) → AreFactorsOf kinds term → AreFactorsOf kinds term'
+    → IsAdding term kinds → IsAdding term' kinds
+    → ((factors factors' : List ℤ) → HaveUnitScores factors kinds → HaveUnitScores factors' kinds → length factors ≡ length kinds → length factors' ≡ length kinds
+    → weighted_sum (joined_factors m same kinds factors factors') both ≡ joined m same (weighted_sum factors values, weighted_sum factors' values'))
+    → term_value (joined_term m same kinds term term') both ≡ joined m same (term_value term values, term_value term' values')
+terms_joined m same kinds (Linear term) (Linear term') values values' both fit fit' u u' sums =
+    ap (λ x. joined m same (term.constant, term'.constant) +ℤ x) (sums term.factors term'.factors u u' fit fit')
+    ∙ sum_joined m same term.constant term'.constant (weighted_sum term.factors values) (weighted_sum term'.factors values')
+terms_joined m same kinds (Linear term) (Wide term') values values' both fit fit' u u' sums = absurd fit'
+terms_joined m same kinds (Wide term) term' values values' both fit fit' u u' sums = absurd fit
 
 -- what is known of the grammar and its two algebras
 pub record ArePaired (p : PosedProblem) (second : ℕ) : Type 0 where
@@ -69,12 +82,11 @@ module _ (p : PosedProblem) (second m : ℕ) (paired : ArePaired p second) where
         let term = term_for g p.algebra sign in
         let term' = term_for g second sign in
         let below = subst (λ r. DeriveArguments p (arguments_of g r alternative) cell.from cell.to children) (sym derived.0) derived.5 in
-        let sums = values_joined kinds (arguments_of g rule alternative) term.factors term'.factors cell.from cell.to children (paired.fit rule alternative inside)
-        (paired.adding sign known).0 (paired.adding sign known).1 (paired.terms.fit sign known) (paired.terms'.fit sign known) below in
-        ap (λ (t : Linear). term_value t (values_of c (arguments_of g rule alternative) children)) (compiled_term g p.algebra second m paired.known paired.terms paired.terms' sign known)
-        ∙ ap (λ x. joined m same (term.constant, term'.constant) +ℤ x) sums
-        ∙ sum_joined m same term.constant term'.constant (weighted_sum term.factors (values_of p (arguments_of g rule alternative) children))
-        (weighted_sum term'.factors (values_of q (arguments_of g rule alternative) children))
+        let arguments = arguments_of g rule alternative in
+        ap (λ (t : Term). term_value t (values_of c arguments children)) (compiled_term g p.algebra second m paired.known paired.terms paired.terms' sign known)
+        ∙ terms_joined m same kinds term term' (values_of p arguments children) (values_of q arguments children) (values_of c arguments children)
+        (paired.terms.fit sign known) (paired.terms'.fit sign known) (paired.adding sign known).0 (paired.adding sign known).1
+        (λ factors factors' u u' e e'. values_joined kinds arguments factors factors' cell.from cell.to children (paired.fit rule alternative inside) u u' e e' below)
 
     values_joined : (kinds : List Kind) (arguments : List Arg) (factors factors' : List ℤ) (from to : ℕ) (children : Trees) → AreFit p.grammar kinds arguments
         → HaveUnitScores factors kinds → HaveUnitScores factors' kinds → length factors ≡ length kinds → length factors' ≡ length kinds → DeriveArguments p arguments from to children

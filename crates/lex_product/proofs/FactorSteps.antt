@@ -3,11 +3,12 @@ use Rattle.std.proofs.Common.{◌≡◌, ◌↔◌, ℕ, ◌+◌, ◌<◌, List,
 use Rattle.std.proofs.lemmas.List.{drop_more}
 use Rattle.adp_model.specs.declared.grammar.Kind.{Kind}
 use Rattle.adp_model.specs.declared.grammar.Kind.TheVariants.{Score, Token}
-use Rattle.adp_model.specs.declared.grammar.Linear.{Linear}
 use Rattle.adp_model.specs.declared.grammar.Sign.{Sign}
+use Rattle.adp_model.specs.declared.grammar.Term.{Term}
+use Rattle.adp_model.specs.declared.grammar.Term.TheVariants.{Linear}
 use Rattle.lex_product.specs.CompiledTerms.{joined, joined_factors, joined_term, joined_terms}
 use Rattle.lex_product.specs.CompiledGrammar.{greatest_factor, greatest_of_term, greatest_number}
-use Rattle.lex_product.specs.FittingTerms.{kinds_at, linear_at}
+use Rattle.lex_product.specs.FittingTerms.{kinds_at, term_in}
 use Rattle.lex_product.specs.PairFaults.{HaveUnitScores}
 
 pub unit_score : (factors : List ℤ) (kinds : List Kind) (i : ℕ) → i < length factors → i < length kinds → get_or kinds i Score ≡ Score
@@ -43,23 +44,23 @@ module _ (m : ℕ) (same : Bool) (kinds : List Kind) (factors factors' : List �
   factors_token_step is =
       rw (drop_more kinds i Score in_kinds, drop_more factors i (pos 0) in_factors, drop_more factors' i (pos 0) in_factors', is)
 
-module _ (m : ℕ) (same : Bool) (signs : List Sign) (terms terms' : List Linear) (i : ℕ) (in_signs : i < length signs) (in_terms : i < length terms) (in_terms' : i < length terms') where
+module _ (m : ℕ) (same : Bool) (signs : List Sign) (terms terms' : List Term) (i : ℕ) (in_signs : i < length signs) (in_terms : i < length terms) (in_terms' : i < length terms') where
   pub greatest_step : greatest_number m same (drop i signs) (drop i terms) (drop i terms')
-      ≡ max (greatest_of_term m same (kinds_at signs i) (linear_at terms i) (linear_at terms' i)) (greatest_number m same (drop (i + 1) signs) (drop (i + 1) terms) (drop (i + 1) terms'))
+      ≡ max (greatest_of_term m same (kinds_at signs i) (term_in terms i) (term_in terms' i)) (greatest_number m same (drop (i + 1) signs) (drop (i + 1) terms) (drop (i + 1) terms'))
   greatest_step =
       rw (
         drop_more signs i (record { name = []; kinds = [] }) in_signs,
-        drop_more terms i (record { constant = pos 0; factors = [] }) in_terms,
+        drop_more terms i (Linear (record { constant = pos 0; factors = [] })) in_terms,
         drop_more terms' i
-            (record { constant = pos 0; factors = [] }) in_terms',
+            (Linear (record { constant = pos 0; factors = [] })) in_terms',
       )
 
   pub terms_step : joined_terms m same (drop i signs) (drop i terms) (drop i terms')
-      ≡ joined_term m same (kinds_at signs i) (linear_at terms i) (linear_at terms' i) ∷ joined_terms m same (drop (i + 1) signs) (drop (i + 1) terms) (drop (i + 1) terms')
+      ≡ joined_term m same (kinds_at signs i) (term_in terms i) (term_in terms' i) ∷ joined_terms m same (drop (i + 1) signs) (drop (i + 1) terms) (drop (i + 1) terms')
   terms_step =
       rw (
         drop_more signs i (record { name = []; kinds = [] }) in_signs,
-        drop_more terms i (record { constant = pos 0; factors = [] }) in_terms,
+        drop_more terms i (Linear (record { constant = pos 0; factors = [] })) in_terms,
         drop_more terms' i
-            (record { constant = pos 0; factors = [] }) in_terms',
+            (Linear (record { constant = pos 0; factors = [] })) in_terms',
       )

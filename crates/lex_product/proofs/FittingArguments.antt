@@ -1,11 +1,11 @@
 -- Arguments of a well-formed grammar fit the kinds of their sign.
-use Rattle.std.proofs.Common.{◌≡◌, ◌<◌, ◌&&◌, ◌==◌, ℕ, true, nat_lt, nat_le, IsTrue, List, [], ◌∷◌, length, arith, eqb-true}
+use Rattle.std.proofs.Common.{None, ◌≡◌, ◌<◌, ◌&&◌, ◌==◌, ℕ, true, nat_lt, nat_le, IsTrue, List, [], ◌∷◌, length, arith, eqb-true}
 use Rattle.std.specs.List.{list_all, zip}
 use Rattle.adp_model.specs.declared.grammar.Kind.{Kind}
 use Rattle.adp_model.specs.declared.grammar.Arg.{Arg}
 use Rattle.adp_model.specs.declared.grammar.Grammar.{Grammar}
 use Rattle.adp_model.specs.Parts.{sign_at, rule_at, alternatives_of, alternative_at, arguments_of}
-use Rattle.adp_model.specs.WellFormed.{is_name, is_class, is_sign, is_algebra, is_argument, is_alternative, is_rule, counts_fit, names_differ, parts_fit, is_well_formed}
+use Rattle.adp_model.specs.WellFormed.{is_name, is_class, is_sign, is_algebra, is_argument, is_size, is_alternative, is_rule, counts_fit, names_differ, parts_fit, is_well_formed}
 use Rattle.lex_product.proofs.Compiled.{and_first, and_second, all_at}
 
 -- kinds that arguments fit
@@ -32,9 +32,9 @@ AreFit-formed grammar formed rule alternative known inside =
     let formed_rule = all_at (is_rule grammar) grammar.rules rule (record { name = []; alts = [] }) each known in
     let alternatives = and_second (is_name own.name && nat_le 1 (length own.alts) && nat_le (length own.alts) 64) (list_all (is_alternative grammar) own.alts) formed_rule in
     let one = alternative_at grammar rule alternative in
-    let formed_one = all_at (is_alternative grammar) own.alts alternative (record { sign = 0; args = [] }) alternatives inside in
+    let formed_one = all_at (is_alternative grammar) own.alts alternative (record { sign = 0; args = []; size = None }) alternatives inside in
     let kinds = (sign_at grammar one.sign).kinds in
-    let in_signs = nat_lt one.sign (length grammar.signs) in
+    let in_signs = is_size one.size && nat_lt one.sign (length grammar.signs) in
     let counted = length one.args == length kinds in
     record {
       count = eqb-true _ _ (and_second in_signs counted (and_first (in_signs && counted) (list_all (is_argument grammar) (zip kinds one.args)) formed_one));

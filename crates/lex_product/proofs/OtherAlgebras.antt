@@ -1,6 +1,6 @@
 -- Grammars that differ in their algebras alone have the same lengths, sizes, edges and anchors, and derive the same
 -- trees.
-use Rattle.std.proofs.Common.{inl, inr, ℕ, Bool, true, false, MatchBool, Option, Some, None, List, [], ◌∷◌, ◌≡◌, ◌-◌, ◌++◌, length, refl, ap, ◌∙◌}
+use Rattle.std.proofs.Common.{inl, inr, ℕ, Bool, true, false, MatchBool, Option, Some, List, [], ◌∷◌, ◌≡◌, ◌-◌, ◌++◌, length, refl, ap, ◌∙◌}
 use Rattle.std.specs.List.{AllByRecursion}
 use Rattle.adp_model.specs.declared.grammar.Algebra.{Algebra}
 use Rattle.adp_model.specs.declared.grammar.Arg.{Arg}
@@ -14,7 +14,7 @@ use Rattle.adp_model.specs.Ascii.{closing_bracket, comma, opening_bracket}
 use Rattle.adp_model.specs.Demand.{IsDemanded, Axiom, Child, IsDemandedCount}
 use Rattle.adp_model.specs.Splits.{Placed, placed, FitsSpan, IsViable}
 use Rattle.adp_model.specs.TreeText.{tree_text, children_text, further_text}
-use Rattle.adp_model.specs.Sizes.{IsWithinSizes, Reaches, AtOnce, Through, IsUnbounded, IsLeastSize, IsGreatestSize}
+use Rattle.adp_model.specs.Sizes.{IsWithinSizes, IsLeastSize, AreStableSizes, AreGreatestSizes, IsGreatestSize}
 use Rattle.adp_model.specs.Loops.{CanBeEmpty, AreEmptyBut, IsEdge}
 use Rattle.adp_model.specs.Anchors.{IsReachedRule, TheAxiom, Named, CanBeNonempty, IsNamedBehind, SomeCanBeNonempty, IsNamedBefore, IsLeftFree, Behind, LeftOf, IsRightFree, Before, RightOf, IsLeftAnchored, IsRightAnchored}
 use Rattle.adp_model.specs.ProblemFields.{AreLeftAnchors, AreRightAnchors}
@@ -27,8 +27,8 @@ with_algebras g xs = record { classes = g.classes; signs = g.signs; algebras = x
 
 mutual
   pub length_moved : (g : Grammar) (ys : List Algebra) (rule len : ℕ) → HasLength g rule len → HasLength (with_algebras g ys) rule len
-  length_moved g ys _ _ (ByAlternative rule alternative len known lengths allowed) =
-      ByAlternative rule alternative len known (lengths_moved g ys (arguments_of g rule alternative) len lengths) allowed
+  length_moved g ys _ _ (ByAlternative rule alternative sum len known lengths within is) =
+      ByAlternative rule alternative sum len known (lengths_moved g ys (arguments_of g rule alternative) sum lengths) within is
 
   pub lengths_moved : (g : Grammar) (ys : List Algebra) (arguments : List Arg) (len : ℕ) → HaveLength g arguments len → HaveLength (with_algebras g ys) arguments len
   lengths_moved g ys _ _ NoArguments = NoArguments
@@ -37,23 +37,20 @@ mutual
   lengths_moved g ys _ _ (FirstToken token len arguments others admits have) =
       FirstToken token len arguments others admits (lengths_moved g ys arguments others have)
 
-pub reaches_moved : (g : Grammar) (ys : List Algebra) (rule other : ℕ) → Reaches g rule other → Reaches (with_algebras g ys) rule other
-reaches_moved g ys _ _ (AtOnce rule other names) = AtOnce rule other names
-reaches_moved g ys _ _ (Through rule between other names rest) = Through rule between other names (reaches_moved g ys between other rest)
-
-pub unbounded_moved : (g : Grammar) (ys : List Algebra) (rule : ℕ) → IsUnbounded g rule → IsUnbounded (with_algebras g ys) rule
-unbounded_moved g ys rule (inl itself) = inl (reaches_moved g ys rule rule itself)
-unbounded_moved g ys rule (inr (inl open_run)) = inr (inl open_run)
-unbounded_moved g ys rule (inr (inr (other, reached, inl itself))) = inr (inr (other, reaches_moved g ys rule other reached, inl (reaches_moved g ys other other itself)))
-unbounded_moved g ys rule (inr (inr (other, reached, inr open_run))) = inr (inr (other, reaches_moved g ys rule other reached, inr open_run))
-
 pub least_moved : (g : Grammar) (ys : List Algebra) (rule size : ℕ) → IsLeastSize g rule size → IsLeastSize (with_algebras g ys) rule size
 least_moved g ys rule size h = (h.0, length_moved g ys rule h.0 h.1, (λ len has. h.2 len (length_moved (with_algebras g ys) g.algebras rule len has)), h.3)
 
+stable_moved : (g : Grammar) (ys : List Algebra) (sizes : List (Option ℕ)) → AreStableSizes g sizes → AreStableSizes (with_algebras g ys) sizes
+stable_moved g ys sizes h = record { each = h.each; stable = h.stable }
+
+greatest_sizes_moved : (g : Grammar) (ys : List Algebra) (sizes : List (Option ℕ)) → AreGreatestSizes g sizes → AreGreatestSizes (with_algebras g ys) sizes
+greatest_sizes_moved g ys sizes h = record {
+  are = stable_moved g ys sizes h.are;
+  least = λ others stable. h.least others (stable_moved (with_algebras g ys) g.algebras others stable);
+}
+
 pub greatest_moved : (g : Grammar) (ys : List Algebra) (rule : ℕ) (size : Option ℕ) → IsGreatestSize g rule size → IsGreatestSize (with_algebras g ys) rule size
-greatest_moved g ys rule None h = unbounded_moved g ys rule h
-greatest_moved g ys rule (Some size) h =
-    ((λ u. h.0 (unbounded_moved (with_algebras g ys) g.algebras rule u)), h.1, length_moved g ys rule h.1 h.2, (λ len has. h.3 len (length_moved (with_algebras g ys) g.algebras rule len has)), h.4)
+greatest_moved g ys rule size h = (h.0, greatest_sizes_moved g ys h.0 h.1, h.2, h.3)
 
 -- ---- edges
 

@@ -21,7 +21,7 @@ use Rattle.lex_product.specs.CompiledGrammar.{compiled_problem, has_same_goal, m
 use Rattle.lex_product.specs.Compilable.{IsCompilable}
 use Rattle.lex_product.specs.PairOrder.{under, scores_of, IsBetterPair, IsPairBefore, IsPairPreferred}
 use Rattle.lex_product.proofs.Joined.{part_of, nat_abs-part_of, joined-parts, sums_apart, sums_less, wholes_less, parts_less}
-use Rattle.lex_product.proofs.Compiled.{compiled_at, fitting_terms, TermsFit, FactorsFit}
+use Rattle.lex_product.proofs.Compiled.{compiled_at, fitting_terms, TermsFit, EachFits}
 use Rattle.lex_product.proofs.FittingArguments.{AreFit-formed}
 use Rattle.lex_product.proofs.CompiledScores.{ArePaired, score_joined}
 use Rattle.lex_product.proofs.OtherAlgebras.{derived_moved}
@@ -96,7 +96,7 @@ pub record ModelLaws : Type 0 where
   pub signs : (grammar : Grammar) → IsTrue (is_well_formed grammar) → (rule alternative : ℕ) → alternative < length (alternatives_of grammar rule)
       → (alternative_at grammar rule alternative).sign < length grammar.signs
   pub terms : TermsFit
-  pub factors : FactorsFit
+  pub fits : EachFits
 
 module _ (laws : ModelLaws) (p : PosedProblem) (second bound : ℕ) (can : IsCompilable p second bound) where
   abbrev m : ℕ
@@ -113,8 +113,8 @@ module _ (laws : ModelLaws) (p : PosedProblem) (second bound : ℕ) (can : IsCom
       let formed = can.checked.well_formed in
       record {
         known = can.checked.algebra_known;
-        terms = fitting_terms laws.terms laws.factors p.grammar formed p.algebra can.checked.algebra_known;
-        terms' = fitting_terms laws.terms laws.factors p.grammar formed second can.second_checked.algebra_known;
+        terms = fitting_terms laws.terms laws.fits p.grammar formed p.algebra can.checked.algebra_known (λ sign inside. (can.adding sign inside).0);
+        terms' = fitting_terms laws.terms laws.fits p.grammar formed second can.second_checked.algebra_known (λ sign inside. (can.adding sign inside).1);
         adding = can.adding;
         signs = laws.signs p.grammar formed;
         fit = λ rule alternative inside. AreFit-formed p.grammar formed rule alternative (laws.rules p.grammar rule alternative inside) inside;

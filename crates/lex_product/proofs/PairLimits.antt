@@ -1,5 +1,5 @@
 -- The limits of a word by two algebras in order are kept, or passed in one way.
-use Rattle.std.proofs.Common.{◌≡◌, ℕ, ◌≤◌, Option, List, length, sym, ap, subst, ◌∙◌, arith}
+use Rattle.std.proofs.Common.{◌≡◌, ℕ, Option, List, sym, ap, subst, ◌∙◌, arith}
 use Rattle.adp_model.specs.declared.fault.LimitFault.{LimitFault}
 use Rattle.adp_model.specs.declared.grammar.Grammar.{Grammar}
 use Rattle.adp_model.specs.PosedProblem.{PosedProblem}

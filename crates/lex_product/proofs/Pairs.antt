@@ -1,18 +1,21 @@
 -- The second grammar of a pair passes the checks that the first one passed, and a pair's faults by their names.
-use Rattle.std.proofs.Common.{◌≡◌, ◌<◌, ℕ, ℤ, pos, Option, List, [], ◌∷◌, length, slice_index_or, sym, ap, subst, ◌∙◌, arith}
+use Rattle.std.proofs.Common.{◌≡◌, ◌<◌, ℕ, ℤ, pos, Bool, Option, List, [], ◌∷◌, length, slice_index_or, sym, ap, subst, ◌∙◌, arith}
 use Rattle.std.proofs.lemmas.Int.{ints}
 use Rattle.adp_model.specs.declared.fault.GrammarFault.{GrammarFault}
 use Rattle.adp_model.specs.declared.grammar.Grammar.{Grammar}
 use Rattle.adp_model.specs.declared.grammar.Kind.{Kind}
 use Rattle.adp_model.specs.declared.grammar.Kind.TheVariants.{Score, Token}
-use Rattle.adp_model.specs.declared.grammar.Linear.{Linear}
 use Rattle.adp_model.specs.declared.grammar.Sign.{Sign}
+use Rattle.adp_model.specs.declared.grammar.Term.{Term}
+use Rattle.adp_model.specs.declared.grammar.Term.TheVariants.{Linear, Wide}
 use Rattle.adp_model.specs.Parts.{sign_at, term_for}
-use Rattle.adp_model.specs.Terms.{ScoreFactorsFrom, IsMonotone, CanHaveAny, KeepsOrder}
+use Rattle.adp_model.specs.Terms.{KeepsOrder}
+use Rattle.adp_model.specs.TermSigns.{HasKnownSign, IsMonotone, ScoreFactorsFrom}
+use Rattle.adp_model.specs.GrammarSigns.{known_signs}
 use Rattle.adp_model.specs.Checks.{IsChecked}
 use Rattle.adp_model.specs.GrammarFaults.{IsNamed, IsFirstFaulty}
 use Rattle.grammar_check.specs.CheckedGrammar.{CheckedGrammar, PassesChecks}
-use Rattle.lex_product.specs.PairFaults.{HaveUnitScores, AllAddScores, BothAddScores, HasOtherFactor, IsPairFault, NoAlgebra, OtherFactor}
+use Rattle.lex_product.specs.PairFaults.{HaveUnitScores, IsAdding, AllAddScores, BothAddScores, HasOtherFactor, IsPairFault, NoAlgebra, OtherFactor}
 use Rattle.lex_product.specs.PairAnswers.{IsPair}
 
 -- a factor 1 is not negative
@@ -22,10 +25,19 @@ units_monotone (factor ∷ factors) [] h = tt
 units_monotone (factor ∷ factors) (Score ∷ kinds) h = (omega (arith, ints, h.0), units_monotone factors kinds h.1)
 units_monotone (factor ∷ factors) (Token ∷ kinds) h = units_monotone factors kinds h
 
+-- so a term that adds scores as they are is monotone, whatever is known of signs
+adding_monotone : (known : Kind → Bool) (term : Term) (kinds : List Kind) → IsAdding term kinds → IsMonotone known term kinds
+adding_monotone known (Linear term) kinds h = units_monotone term.factors kinds h
+adding_monotone known (Wide term) kinds h = absurd h
+
+-- what the law on monotone terms says
+abbrev pub MonotoneKeeps : Type 0
+MonotoneKeeps = (known : Kind → Bool) (term : Term) (kinds : List Kind) → IsMonotone known term kinds → KeepsOrder (HasKnownSign known) term kinds
+
 -- what the checks find is the same under the other algebra
 pub IsChecked-other : (grammar : Grammar) (first second : ℕ) (least : List ℕ) (greatest : List (Option ℕ)) (ranks : List ℕ)
     → IsChecked grammar first least greatest ranks → second < length grammar.algebras
-    → ((term : Linear) (kinds : List Kind) → IsMonotone term kinds → KeepsOrder CanHaveAny term kinds)
+    → MonotoneKeeps
     → AllAddScores grammar first second → IsChecked grammar second least greatest ranks
 IsChecked-other grammar first second least greatest ranks found known keeps adding = record {
   well_formed = found.well_formed;
@@ -37,13 +49,14 @@ IsChecked-other grammar first second least greatest ranks found known keeps addi
   greatest_are = found.greatest_are;
   ranks_fall = found.ranks_fall;
   ranks_fit = found.ranks_fit;
-  orderly = λ sign inside. keeps (term_for grammar second sign) (sign_at grammar sign).kinds
-      (units_monotone (term_for grammar second sign).factors (sign_at grammar sign).kinds (adding sign inside).1);
+  possible = found.possible;
+  orderly = λ sign inside. keeps (known_signs grammar second) (term_for grammar second sign) (sign_at grammar sign).kinds
+      (adding_monotone (known_signs grammar second) (term_for grammar second sign) (sign_at grammar sign).kinds (adding sign inside).1);
 }
 
 -- the checks under the other algebra
 pub PassesChecks-other : (first : CheckedGrammar) (copy : Grammar) (algebra : ℕ) → PassesChecks first → copy ≡ first.grammar → algebra < length first.grammar.algebras
-    → ((term : Linear) (kinds : List Kind) → IsMonotone term kinds → KeepsOrder CanHaveAny term kinds)
+    → MonotoneKeeps
     → AllAddScores first.grammar first.algebra algebra → PassesChecks (record first { grammar = copy; algebra = algebra })
 PassesChecks-other first copy algebra passes same known keeps adding =
     subst (λ g. PassesChecks (record first { grammar = g; algebra = algebra })) (sym same) (record {

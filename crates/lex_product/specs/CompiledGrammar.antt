@@ -2,8 +2,10 @@
 use Rattle.std.specs.Prelude.{ℕ, ◌+◌, ◌*◌, ℤ, nat_abs, Bool, max, List, [], ◌∷◌, slice_set}
 use Rattle.adp_model.specs.declared.grammar.Kind.{Kind}
 use Rattle.adp_model.specs.declared.grammar.Kind.TheVariants.{Score, Token}
-use Rattle.adp_model.specs.declared.grammar.Linear.{Linear}
+use Rattle.adp_model.specs.declared.grammar.Linear as linear
 use Rattle.adp_model.specs.declared.grammar.Sign.{Sign}
+use Rattle.adp_model.specs.declared.grammar.Term.{Term}
+use Rattle.adp_model.specs.declared.grammar.Term.TheVariants.{Linear}
 use Rattle.adp_model.specs.declared.grammar.Algebra.{Algebra}
 use Rattle.adp_model.specs.declared.grammar.Grammar.{Grammar}
 use Rattle.adp_model.specs.PosedProblem.{PosedProblem}
@@ -52,14 +54,20 @@ greatest_factor multiplier same (Score ∷ kinds) (factor ∷ factors) (factor' 
 greatest_factor multiplier same (Token ∷ kinds) (factor ∷ factors) (factor' ∷ factors') =
     max (nat_abs (joined multiplier same (factor, factor'))) (greatest_factor multiplier same kinds factors factors')
 
--- the greatest absolute value of the constant and the token factors of two terms as one
-abbrev pub greatest_of_term : ℕ → Bool → List Kind → Linear → Linear → ℕ
-greatest_of_term multiplier same kinds term term' =
+-- the greatest absolute value of the constant and the token factors of two linear terms as one
+abbrev pub greatest_of_linear : ℕ → Bool → List Kind → linear.Linear → linear.Linear → ℕ
+greatest_of_linear multiplier same kinds term term' =
     max (nat_abs (joined multiplier same (term.constant, term'.constant)))
     (greatest_factor multiplier same kinds term.factors term'.factors)
 
+-- the same of two terms; those of a pair are linear
+abbrev pub greatest_of_term : ℕ → Bool → List Kind → Term → Term → ℕ
+greatest_of_term multiplier same kinds (Linear term) (Linear term') =
+    greatest_of_linear multiplier same kinds term term'
+greatest_of_term multiplier same kinds term term' = 0
+
 -- the greatest over all signs' terms
-abbrev pub greatest_number : ℕ → Bool → List Sign → List Linear → List Linear → ℕ
+abbrev pub greatest_number : ℕ → Bool → List Sign → List Term → List Term → ℕ
 greatest_number multiplier same [] terms terms' = 0
 greatest_number multiplier same (sign ∷ signs) [] terms' = 0
 greatest_number multiplier same (sign ∷ signs) (term ∷ terms) [] = 0

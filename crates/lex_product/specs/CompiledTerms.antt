@@ -4,8 +4,10 @@ use Rattle.adp_model.specs.declared.grammar.Kind.{Kind}
 use Rattle.adp_model.specs.declared.grammar.Kind.TheVariants.{Score, Token}
 use Rattle.adp_model.specs.declared.grammar.Goal.{Goal}
 use Rattle.adp_model.specs.declared.grammar.Goal.TheVariants.{Least, Greatest}
-use Rattle.adp_model.specs.declared.grammar.Linear.{Linear}
+use Rattle.adp_model.specs.declared.grammar.Linear as linear
 use Rattle.adp_model.specs.declared.grammar.Sign.{Sign}
+use Rattle.adp_model.specs.declared.grammar.Term.{Term}
+use Rattle.adp_model.specs.declared.grammar.Term.TheVariants.{Linear}
 
 -- the first number so many times, and to it the second added, or taken from it
 abbrev pub joined : ℕ → Bool → ℤ × ℤ → ℤ
@@ -34,15 +36,20 @@ joined_factors multiplier same (Score ∷ kinds) (factor ∷ factors) (factor' �
 joined_factors multiplier same (Token ∷ kinds) (factor ∷ factors) (factor' ∷ factors') =
     joined multiplier same (factor, factor') ∷ joined_factors multiplier same kinds factors factors'
 
--- two terms for a sign with these kinds as one
-abbrev pub joined_term : ℕ → Bool → List Kind → Linear → Linear → Linear
-joined_term multiplier same kinds term term' = record {
+-- two linear terms for a sign with these kinds as one
+abbrev pub joined_linear : ℕ → Bool → List Kind → linear.Linear → linear.Linear → linear.Linear
+joined_linear multiplier same kinds term term' = record {
   constant = joined multiplier same (term.constant, term'.constant);
   factors = joined_factors multiplier same kinds term.factors term'.factors;
 }
 
+-- two terms as one; those of a pair are linear
+abbrev pub joined_term : ℕ → Bool → List Kind → Term → Term → Term
+joined_term multiplier same kinds (Linear term) (Linear term') = Linear (joined_linear multiplier same kinds term term')
+joined_term multiplier same kinds term term' = term
+
 -- for each sign both terms as one
-abbrev pub joined_terms : ℕ → Bool → List Sign → List Linear → List Linear → List Linear
+abbrev pub joined_terms : ℕ → Bool → List Sign → List Term → List Term → List Term
 joined_terms multiplier same [] terms terms' = []
 joined_terms multiplier same (sign ∷ signs) [] terms' = []
 joined_terms multiplier same (sign ∷ signs) (term ∷ terms) [] = []

@@ -1,5 +1,6 @@
 -- What checking and compiling a pair of algebras answer.
-use Rattle.std.specs.Prelude.{◌≡◌, ℕ, Result, Ok, Err, List}
+use Rattle.std.specs.Prelude.{◌≡◌, ℕ, Result, Ok, Err, List, slice_set}
+use Rattle.adp_model.specs.declared.grammar.Algebra.{Algebra}
 use Rattle.adp_model.specs.GrammarFaults.{IsNamed}
 use Rattle.adp_model.specs.Bounds.{IsScoreBound}
 use Rattle.grammar_check.specs.CheckedGrammar.{CheckedGrammar}
@@ -27,6 +28,16 @@ abbrev pub compiled_pair : CheckedGrammar → CheckedGrammar → ℕ → Checked
 compiled_pair first second bound = record first {
   grammar = compiled_grammar first.grammar first.algebra second.algebra (multiplier_of bound);
 }
+
+-- the checked grammar with another algebra in its own algebra's place
+abbrev pub with_algebra : CheckedGrammar → Algebra → CheckedGrammar
+with_algebra checked algebra = record checked {
+  grammar = record checked.grammar { algebras = slice_set checked.grammar.algebras checked.algebra algebra };
+}
+
+-- it is the first but for that algebra
+abbrev pub IsButForAlgebra : CheckedGrammar → CheckedGrammar → Type 0
+IsButForAlgebra first other = (algebra : Algebra) × (other ≡ with_algebra first algebra)
 
 -- the compiled numbers are no greater than a score may be
 abbrev pub HasLowNumbers : CheckedGrammar → CheckedGrammar → ℕ → Type 0

@@ -5,6 +5,8 @@ use Rattle.adp_model.specs.declared.fault.LimitFault.{LimitFault}
 use Rattle.adp_model.specs.declared.grammar.Grammar.{Grammar}
 use Rattle.adp_model.specs.declared.grammar.Kind.{Kind}
 use Rattle.adp_model.specs.declared.grammar.Kind.TheVariants.{Score, Token}
+use Rattle.adp_model.specs.declared.grammar.Term.{Term}
+use Rattle.adp_model.specs.declared.grammar.Term.TheVariants.{Linear, Wide}
 use Rattle.adp_model.specs.Parts.{sign_at, term_for}
 use Rattle.adp_model.specs.GrammarFaults.{IsNamed, IsFirstFaulty}
 use Rattle.adp_model.specs.LimitFaults.{told}
@@ -18,9 +20,14 @@ HaveUnitScores (factor ∷ factors) [] = Unit {0}
 HaveUnitScores (factor ∷ factors) (Score ∷ kinds) = (factor ≡ pos 1) × HaveUnitScores factors kinds
 HaveUnitScores (factor ∷ factors) (Token ∷ kinds) = HaveUnitScores factors kinds
 
--- the algebra's term for the sign adds its arguments' scores as they are
+-- the term adds its arguments' scores as they are: it is linear, and no wide term counts as one that does
+abbrev pub IsAdding : Term → List Kind → Type 0
+IsAdding (Linear term) kinds = HaveUnitScores term.factors kinds
+IsAdding (Wide term) kinds = ⊥
+
+-- the algebra's term for the sign does
 abbrev pub AddsScores : Grammar → ℕ → ℕ → Type 0
-AddsScores grammar algebra sign = HaveUnitScores (term_for grammar algebra sign).factors (sign_at grammar sign).kinds
+AddsScores grammar algebra sign = IsAdding (term_for grammar algebra sign) (sign_at grammar sign).kinds
 
 -- both algebras' terms do
 abbrev pub BothAddScores : Grammar → ℕ → ℕ → ℕ → Type 0

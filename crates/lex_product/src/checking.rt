@@ -1,15 +1,16 @@
 ghost use Rattle.std.specs.Prelude.{◌≡◌, ◌↔◌, ◌<◌, IfOk, IsTrue, MatchOption, ℕ, length};
 ghost use Rattle.adp_model.specs.GrammarFaults.{IsFirstFaulty};
+ghost use Rattle.adp_model.specs.TermForms.{IsTermFor};
 ghost use Rattle.adp_model.specs.WellFormed.{is_well_formed};
 ghost use Rattle.grammar_check.specs.CheckedGrammar.{PassesChecks};
-ghost use Rattle.lex_product.specs.PairFaults.{HaveUnitScores, AddsScores, AllAddScores, BothAddScores, HasOtherFactor};
+ghost use Rattle.lex_product.specs.PairFaults.{HaveUnitScores, IsAdding, AddsScores, AllAddScores, BothAddScores, HasOtherFactor};
 ghost use Rattle.lex_product.specs.PairAnswers.{MatchPair};
 
 use crate::copying::Copied;
 use crate::error::PairError;
 use adp_model::laws::terms::monotone_terms_keep_order;
 use adp_model::laws::well_formed::terms_fit_their_signs;
-use adp_model::{Grammar, GrammarFault, Kind, Text};
+use adp_model::{Grammar, GrammarFault, Kind, Term, Text};
 use grammar_check::{Checked, algebra_named};
 use std::alloc::{AllocError, Global};
 
@@ -31,7 +32,18 @@ fn have_unit_scores(factors: &[i64], kinds: &[Kind]) -> bool
     true
 }
 
-/// Whether the algebra's term for the sign adds its arguments' scores as they are.
+/// Whether the term adds its arguments' scores as they are: no wide one counts as one that does.
+fn is_adding(term: &Term, kinds: &[Kind]) -> bool
+    requires { IsTermFor (length kinds.now) term.now }
+    ensures { IsTrue result ↔ IsAdding term.now kinds.now }
+{
+    match term {
+        Term::Linear(term) => have_unit_scores(term.factors.as_slice(), kinds),
+        Term::Wide(_) => false,
+    }
+}
+
+/// Whether the algebra's term for the sign does.
 fn adds_scores(grammar: &Grammar, algebra: u32, sign: usize) -> bool
     requires well_formed { IsTrue (is_well_formed grammar.now) }
     requires algebra { algebra < length grammar.now.algebras }
@@ -42,7 +54,7 @@ fn adds_scores(grammar: &Grammar, algebra: u32, sign: usize) -> bool
     let algebra = &grammar.algebras.as_slice()[algebra as usize];
     let term = &algebra.terms.as_slice()[sign];
     let kinds = grammar.signs.as_slice()[sign].kinds.as_slice();
-    have_unit_scores(term.factors.as_slice(), kinds)
+    is_adding(term, kinds)
 }
 
 /// Whether both algebras' terms for the sign do.
@@ -56,7 +68,7 @@ fn both_add_scores(grammar: &Grammar, first: u32, second: u32, sign: usize) -> b
     adds_scores(grammar, first, sign) && adds_scores(grammar, second, sign)
 }
 
-/// The first sign whose term in one of the algebras has a score with a factor other than 1.
+/// The first sign whose term in one of the algebras is wide, or has a score with a factor other than 1.
 fn first_other_factor(grammar: &Grammar, first: u32, second: u32) -> Option<usize>
     requires well_formed { IsTrue (is_well_formed grammar.now) }
     requires first { first < length grammar.now.algebras }
@@ -103,8 +115,9 @@ pub fn with_grammar(
 }
 
 /// The checked grammar with its algebra of this name in the place of its own, where both can be made one: in each
-/// algebra every score argument of every sign has the factor 1. A refusal is the first that holds: no algebra has the
-/// name; a sign's term in one of them has another factor. It carries the asked name, or that of the first such sign.
+/// algebra all terms are linear, and every score argument of every sign has the factor 1. A refusal is the first that
+/// holds: no algebra has the name; a sign's term in one of them is wide or has another factor. It carries the asked
+/// name, or that of the first such sign.
 pub fn check_pair(alloc: Global, first: &Checked, second: &Text) -> Result<Checked, PairError>
     ensures { MatchPair first.now second.now result }
 {

@@ -1,9 +1,11 @@
-ghost use Rattle.std.specs.Prelude.{◌≡◌, ◌<◌, ◌≤◌, ◌^◌, IfOk, ℕ, IsTrue, length, slice_set};
+ghost use Rattle.std.specs.Prelude.{◌≡◌, ◌<◌, ◌≤◌, ◌^◌, IfOk, ℕ, IsTrue, length};
 ghost use Rattle.adp_model.specs.Bounds.{IsScoreBound};
 ghost use Rattle.adp_model.specs.ProblemFields.{greatest_score};
 ghost use Rattle.adp_model.specs.WellFormed.{is_well_formed};
+ghost use Rattle.grammar_check.specs.CheckedGrammar.{PassesChecks};
 ghost use Rattle.lex_product.specs.CompiledGrammar.{compiled_algebra, compiled_grammar, greatest_compiled, has_same_goal, multiplier_of};
-ghost use Rattle.lex_product.specs.PairAnswers.{IsPair, MatchCompiled, MatchCompiledBy};
+ghost use Rattle.lex_product.specs.PairFaults.{AllAddScores};
+ghost use Rattle.lex_product.specs.PairAnswers.{IsButForAlgebra, IsPair, MatchCompiled, MatchCompiledBy, with_algebra};
 
 use crate::checking::with_grammar;
 use crate::copying::Copied;
@@ -57,6 +59,7 @@ fn greatest_compiled(joining: &Joining, grammar: &Grammar, first: u32, second: u
     requires well_formed { IsTrue (is_well_formed grammar.now) }
     requires first { first < length grammar.now.algebras }
     requires second { second < length grammar.now.algebras }
+    requires adding { AllAddScores grammar.now first second }
     requires multiplier { joining.now.multiplier ≤ 2 ^ 63 }
     requires same { joining.now.same ≡ has_same_goal grammar.now first second }
     ensures { result ≡ greatest_compiled grammar.now first second joining.now.multiplier }
@@ -82,6 +85,7 @@ fn compiled_algebra(
     requires well_formed { IsTrue (is_well_formed grammar.now) }
     requires first { first < length grammar.now.algebras }
     requires second { second < length grammar.now.algebras }
+    requires adding { AllAddScores grammar.now first second }
     requires multiplier { joining.now.multiplier ≤ 2 ^ 63 }
     requires same { joining.now.same ≡ has_same_goal grammar.now first second }
     requires low { greatest_compiled grammar.now first second joining.now.multiplier ≤ greatest_score }
@@ -104,26 +108,41 @@ fn compiled_algebra(
     })
 }
 
-/// The grammar with another algebra in this place.
-fn with_algebra(
-    alloc: Global,
-    grammar: &Grammar,
-    place: u32,
-    algebra: Algebra,
-) -> Result<Grammar, AllocError>
-    requires { place < length grammar.now.algebras }
-    ensures { IfOk result (λ copy.
-        copy ≡ record grammar.now { algebras = slice_set grammar.now.algebras place algebra }) }
+/// The checked grammar with another algebra in its own algebra's place.
+fn with_algebra(checked: Checked, algebra: Algebra) -> Checked
+    requires known { checked.algebra < length checked.grammar.algebras }
+    requires passes { PassesChecks (with_algebra checked algebra) }
+    ensures { result ≡ with_algebra checked algebra }
 {
-    let mut algebras = grammar.algebras.copied(alloc)?.into_vec();
+    let Checked {
+        grammar,
+        algebra: place,
+        sizes,
+        anchors,
+        ranks,
+    } = checked;
+    let Grammar {
+        classes,
+        signs,
+        algebras,
+        rules,
+        axiom,
+    } = grammar;
+    let mut algebras = algebras.into_vec();
     algebras[place as usize] = algebra;
-    Ok(Grammar {
-        classes: grammar.classes.copied(alloc)?,
-        signs: grammar.signs.copied(alloc)?,
-        algebras: Sequence::new(algebras),
-        rules: grammar.rules.copied(alloc)?,
-        axiom: grammar.axiom,
-    })
+    Checked {
+        grammar: Grammar {
+            classes,
+            signs,
+            algebras: Sequence::new(algebras),
+            rules,
+            axiom,
+        },
+        algebra: place,
+        sizes,
+        anchors,
+        ranks,
+    }
 }
 
 /// A pair's checked grammar with the compiled algebra of both in the first one's place and under its name, where the
@@ -143,7 +162,28 @@ pub fn compile_by(
     ensures { MatchCompiledBy first.now second.now bound result }
 {
     first.passes();
+    let grammar = first.grammar.copied(alloc)?;
+    let copy = with_grammar(alloc, first, grammar, first.algebra)?;
+    recompile_by(alloc, first, second, copy, bound)
+}
+
+/// The same, made of the first grammar with whatever algebra in its algebra's place, as that which was compiled by
+/// another bound: nothing is copied but what the algebra is made of.
+pub fn recompile_by(
+    alloc: Global,
+    first: &Checked,
+    second: &Checked,
+    compiled: Checked,
+    bound: u64,
+) -> Result<Checked, CompileError>
+    requires pair { IsPair first.now second.now }
+    requires compiled { IsButForAlgebra first.now compiled }
+    requires low { bound ≤ greatest_score }
+    ensures { MatchCompiledBy first.now second.now bound result }
+{
+    first.passes();
     second.passes();
+    compiled.passes();
     terms_fit_their_signs();
     monotone_terms_keep_order();
     let grammar = &first.grammar;
@@ -154,8 +194,7 @@ pub fn compile_by(
         return Err(CompileError::Fault(LimitFault { kind: 7, number }));
     }
     let algebra = compiled_algebra(alloc, &joining, grammar, first.algebra, second.algebra)?;
-    let compiled = with_algebra(alloc, grammar, first.algebra, algebra)?;
-    Ok(with_grammar(alloc, first, compiled, first.algebra)?)
+    Ok(with_algebra(compiled, algebra))
 }
 
 /// The same for words of `n` letters: by the second algebra's score bound of these, which keeps its limit.

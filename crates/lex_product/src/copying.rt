@@ -1,8 +1,12 @@
 //! Copies of grammars and of what the checks found of them.
 
 ghost use Rattle.std.specs.Prelude.{◌≡◌, IfOk};
+ghost use Rattle.adp_model.specs.WideTerms.{form_of};
 
-use adp_model::{Algebra, Alt, Arg, Class, Grammar, Kind, Linear, Rule, Sequence, Sign, Text};
+use adp_model::{
+    Algebra, Alt, Arg, Class, Grammar, Kind, Linear, Rule, Sequence, Sign, Term, Text, Wide,
+    WideTerm,
+};
 use std::alloc::{AllocError, Global};
 use yield_sizes::{Anchors, Sizes};
 
@@ -93,6 +97,52 @@ impl Copied for Linear {
     }
 }
 
+/// A copy of a wide term, node by node.
+fn copied_wide(alloc: Global, term: &Wide) -> Result<Wide, AllocError>
+    ensures { IfOk result (λ copy. form_of copy ≡ form_of term.now) }
+{
+    match term {
+        Wide::Number(number) => Ok(Wide::Number(*number)),
+        Wide::Value(place) => Ok(Wide::Value(*place)),
+        Wide::Sum(left, right) => Ok(Wide::Sum(
+            Box::new(alloc, copied_wide(alloc, left)?)?,
+            Box::new(alloc, copied_wide(alloc, right)?)?,
+        )),
+        Wide::Difference(left, right) => Ok(Wide::Difference(
+            Box::new(alloc, copied_wide(alloc, left)?)?,
+            Box::new(alloc, copied_wide(alloc, right)?)?,
+        )),
+        Wide::Product(left, right) => Ok(Wide::Product(
+            Box::new(alloc, copied_wide(alloc, left)?)?,
+            Box::new(alloc, copied_wide(alloc, right)?)?,
+        )),
+        Wide::Greater(left, right) => Ok(Wide::Greater(
+            Box::new(alloc, copied_wide(alloc, left)?)?,
+            Box::new(alloc, copied_wide(alloc, right)?)?,
+        )),
+        Wide::Lesser(left, right) => Ok(Wide::Lesser(
+            Box::new(alloc, copied_wide(alloc, left)?)?,
+            Box::new(alloc, copied_wide(alloc, right)?)?,
+        )),
+    }
+}
+
+impl Copied for WideTerm {
+    fn copied(&self, alloc: Global) -> Result<WideTerm, AllocError> {
+        Ok(WideTerm::new(copied_wide(alloc, self.root())?))
+    }
+}
+
+impl Copied for Term {
+    fn copied(&self, alloc: Global) -> Result<Term, AllocError> {
+        let copy = match self {
+            Term::Linear(term) => Term::Linear(term.copied(alloc)?),
+            Term::Wide(term) => Term::Wide(term.copied(alloc)?),
+        };
+        Ok(copy)
+    }
+}
+
 impl Copied for Algebra {
     fn copied(&self, alloc: Global) -> Result<Algebra, AllocError> {
         Ok(Algebra {
@@ -124,6 +174,7 @@ impl Copied for Alt {
         Ok(Alt {
             sign: self.sign,
             args: self.args.copied(alloc)?,
+            size: self.size,
         })
     }
 }

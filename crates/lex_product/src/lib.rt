@@ -10,6 +10,6 @@ pub mod laws;
 mod numbers;
 
 pub use checking::check_pair;
-pub use compiling::{compile, compile_by, have_same_goal};
+pub use compiling::{compile, compile_by, have_same_goal, recompile_by};
 pub use error::{CompileError, PairError};
 pub use joining::pair_of;

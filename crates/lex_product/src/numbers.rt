@@ -1,13 +1,14 @@
 //! The numbers of a compiled algebra.
 
 ghost use Rattle.std.specs.Prelude.{◌≡◌, ◌≤◌, ◌^◌, IfOk, length};
+ghost use Rattle.adp_model.specs.declared.grammar.Term.TheVariants as terms;
 ghost use Rattle.adp_model.specs.ProblemFields.{greatest_score};
 ghost use Rattle.lex_product.specs.CompiledTerms.{joined_factors, joined_term, joined_terms};
 ghost use Rattle.lex_product.specs.CompiledGrammar.{greatest_factor, greatest_of_term, greatest_number};
-ghost use Rattle.lex_product.specs.FittingTerms.{AreFactorsOf, AreTermsOf};
+ghost use Rattle.lex_product.specs.FittingTerms.{AreFactorsOf, AreTermsOf, IsLinear};
 
 use crate::joining::Joining;
-use adp_model::{Kind, Linear, Sequence, Sign};
+use adp_model::{Kind, Linear, Sequence, Sign, Term};
 use std::alloc::{AllocError, Global};
 
 /// The greatest absolute value of the token factors of two terms as one.
@@ -30,13 +31,25 @@ fn greatest_factor(joining: &Joining, kinds: &[Kind], factors: &[i64], others: &
     greatest
 }
 
+/// What a linear term holds.
+fn linear(term: &Term) -> &Linear
+    requires { IsLinear term.now }
+    ensures { term.now ≡ terms.Linear result.now }
+{
+    match term {
+        Term::Linear(term) => term,
+        Term::Wide(_) => unreachable!(),
+    }
+}
+
 /// The greatest absolute value of the constant and the token factors of two terms as one.
-fn greatest_of_term(joining: &Joining, kinds: &[Kind], term: &Linear, other: &Linear) -> u128
+fn greatest_of_term(joining: &Joining, kinds: &[Kind], term: &Term, other: &Term) -> u128
     requires multiplier { joining.now.multiplier ≤ 2 ^ 63 }
     requires term { AreFactorsOf kinds.now term.now }
     requires other { AreFactorsOf kinds.now other.now }
     ensures { result ≡ greatest_of_term joining.now.multiplier joining.now.same kinds.now term.now other.now }
 {
+    let (term, other) = (linear(term), linear(other));
     let constant = joining.join(term.constant, other.constant).unsigned_abs();
     constant.max(greatest_factor(
         joining,
@@ -47,12 +60,7 @@ fn greatest_of_term(joining: &Joining, kinds: &[Kind], term: &Linear, other: &Li
 }
 
 /// The greatest absolute value of the constants and the token factors of two algebras' terms as one.
-pub fn greatest_number(
-    joining: &Joining,
-    signs: &[Sign],
-    terms: &[Linear],
-    others: &[Linear],
-) -> u128
+pub fn greatest_number(joining: &Joining, signs: &[Sign], terms: &[Term], others: &[Term]) -> u128
     requires multiplier { joining.now.multiplier ≤ 2 ^ 63 }
     requires terms { AreTermsOf signs.now terms.now }
     requires others { AreTermsOf signs.now others.now }
@@ -99,9 +107,9 @@ fn joined_term(
     alloc: Global,
     joining: &Joining,
     kinds: &[Kind],
-    term: &Linear,
-    other: &Linear,
-) -> Result<Linear, AllocError>
+    term: &Term,
+    other: &Term,
+) -> Result<Term, AllocError>
     requires multiplier { joining.now.multiplier ≤ 2 ^ 63 }
     requires term { AreFactorsOf kinds.now term.now }
     requires other { AreFactorsOf kinds.now other.now }
@@ -110,6 +118,7 @@ fn joined_term(
     ensures { IfOk result (λ joined. joined
         ≡ joined_term joining.now.multiplier joining.now.same kinds.now term.now other.now) }
 {
+    let (term, other) = (linear(term), linear(other));
     let constant = joining.join(term.constant, other.constant) as i64;
     let factors = joined_factors(
         alloc,
@@ -118,10 +127,10 @@ fn joined_term(
         term.factors.as_slice(),
         other.factors.as_slice(),
     )?;
-    Ok(Linear {
+    Ok(Term::Linear(Linear {
         constant,
         factors: Sequence::new(factors),
-    })
+    }))
 }
 
 /// Both terms of each sign as one.
@@ -129,9 +138,9 @@ pub fn joined_terms(
     alloc: Global,
     joining: &Joining,
     signs: &[Sign],
-    terms: &[Linear],
-    others: &[Linear],
-) -> Result<Vec<Linear>, AllocError>
+    terms: &[Term],
+    others: &[Term],
+) -> Result<Vec<Term>, AllocError>
     requires multiplier { joining.now.multiplier ≤ 2 ^ 63 }
     requires terms { AreTermsOf signs.now terms.now }
     requires others { AreTermsOf signs.now others.now }

@@ -25,6 +25,11 @@ impl Model for Closed {
 
     ghost Value = { ClosedTable };
 
+    ghost use Rattle.adp_model.specs.WideForm.{form_code};
+    ghost use Rattle.std.specs.Coded.{codes};
+
+    ghost coded = { Prim.hlevel (codes, form_code) };
+
     ghost view = { closed_table };
 
     ghost invariant = { IsClosedTable };

@@ -22,6 +22,11 @@ impl Model for Table {
 
     ghost Value = { Words };
 
+    ghost use Rattle.adp_model.specs.WideForm.{form_code};
+    ghost use Rattle.std.specs.Coded.{codes};
+
+    ghost coded = { Prim.hlevel (codes, form_code) };
+
     ghost view = { λ table. table.words };
 
     ghost invariant = { λ table. IsAdmissible (problem_of table.words) × IsPlanned (plan_of table.words) };

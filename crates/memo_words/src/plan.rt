@@ -19,6 +19,11 @@ impl Model for Key {
 
     ghost Value = { Plan };
 
+    ghost use Rattle.adp_model.specs.WideForm.{form_code};
+    ghost use Rattle.std.specs.Coded.{codes};
+
+    ghost coded = { Prim.hlevel (codes, form_code) };
+
     ghost view = { λ key. record {
       problem = record { grammar = key.grammar.value; algebra = key.algebra; word = key.word.value };
       cells = key.cells;

@@ -1,9 +1,11 @@
 pub mod Entries
 pub mod FirstPositions
 pub mod Greatest
+pub mod Lanes
 pub mod Limits
 pub mod Packing
 pub mod Spaced
 pub mod Sums
+pub mod TermLines
 pub mod Turned
 pub mod Worthless

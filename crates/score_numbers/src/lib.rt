@@ -4,10 +4,12 @@
 #![tactic(auto)]
 
 mod first_sums;
+mod lanes;
 mod laws;
 mod numbers;
 mod packing;
 mod sums;
+mod term_lines;
 mod width;
 mod worthless;
 
@@ -20,4 +22,5 @@ pub use packing::{
     short_number,
 };
 pub use sums::{Positions, Scales, greatest_long, greatest_medium, greatest_short};
+pub use term_lines::{TermLine, greatest_long_value, greatest_medium_value, greatest_short_value};
 pub use worthless::are_worthless;

@@ -92,7 +92,7 @@ fn greatest_scaled<N: Number>(
 }
 
 /// The sum that is the greatest one, where it is one of two scores.
-fn sum_of<N: Number>(greatest: N) -> Option<i64>
+pub fn sum_of<N: Number>(greatest: N) -> Option<i64>
     ensures { MatchOption result (N.value greatest <ℤ least_sum N.width)
         (λ sum. (sum ≡ N.value greatest) × (least_sum N.width ≤ℤ sum)) }
 {

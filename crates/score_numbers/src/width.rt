@@ -1,7 +1,7 @@
 //! Numbers of 16, of 32 and of 64 bits under one trait, so that their sums are written once.
 
-ghost use Rattle.std.specs.Prelude.{◌≡◌, ◌+ℤ◌, ℤ};
-ghost use Rattle.std.specs.Int.{int_max};
+ghost use Rattle.std.specs.Prelude.{◌≡◌, ◌↔◌, IsTrue, ◌≤◌, ◌+ℤ◌, ◌-ℤ◌, ◌*ℤ◌, ℤ, nat_abs};
+ghost use Rattle.std.specs.Int.{int_max, int_min};
 ghost use Rattle.score_numbers.specs.Packing.{IsProper, Width, long, medium, short};
 ghost use Rattle.score_numbers.specs.Spaced.{IsSpaced, least_sum};
 
@@ -35,9 +35,36 @@ pub trait Number: Copy {
     fn most(self, other: Self) -> Self
         ensures { value result ≡ int_max (value self) (value other) };
 
+    /// The lesser of two numbers.
+    fn least(self, other: Self) -> Self
+        ensures { value result ≡ int_min (value self) (value other) };
+
+    /// The sum of two numbers, where it is within the limit, and else any number.
+    fn sum_within(self, other: Self) -> Self
+        ensures { nat_abs (value self +ℤ value other) ≤ width.limit
+            → value result ≡ (value self +ℤ value other) };
+
+    /// The difference of two numbers, where it is within the limit, and else any number.
+    fn difference_within(self, other: Self) -> Self
+        ensures { nat_abs (value self -ℤ value other) ≤ width.limit
+            → value result ≡ (value self -ℤ value other) };
+
+    /// The product of two numbers, where it is within the limit, and else any number.
+    fn product_within(self, other: Self) -> Self
+        ensures { nat_abs (value self *ℤ value other) ≤ width.limit
+            → value result ≡ (value self *ℤ value other) };
+
+    /// Whether it is the mark.
+    fn is_mark(self) -> bool
+        ensures { IsTrue result ↔ (value self ≡ width.mark) };
+
     /// The number in 64 bits.
     fn wide(self) -> i64
         ensures { result ≡ value self };
+
+    /// A number of 64 bits in this width, where it is within the limit, and else any number.
+    fn narrow(number: i64) -> Self
+        ensures { nat_abs number ≤ width.limit → value result ≡ number };
 }
 
 impl Number for i16 {
@@ -63,8 +90,32 @@ impl Number for i16 {
         self.max(other)
     }
 
+    fn least(self, other: i16) -> i16 {
+        self.min(other)
+    }
+
+    fn sum_within(self, other: i16) -> i16 {
+        self.wrapping_add(other)
+    }
+
+    fn difference_within(self, other: i16) -> i16 {
+        self.wrapping_sub(other)
+    }
+
+    fn product_within(self, other: i16) -> i16 {
+        self.wrapping_mul(other)
+    }
+
+    fn is_mark(self) -> bool {
+        self == SHORT_MARK
+    }
+
     fn wide(self) -> i64 {
         i64::from(self)
+    }
+
+    fn narrow(number: i64) -> i16 {
+        i16::try_from(number).unwrap_or(0)
     }
 }
 
@@ -91,8 +142,32 @@ impl Number for i32 {
         self.max(other)
     }
 
+    fn least(self, other: i32) -> i32 {
+        self.min(other)
+    }
+
+    fn sum_within(self, other: i32) -> i32 {
+        self.wrapping_add(other)
+    }
+
+    fn difference_within(self, other: i32) -> i32 {
+        self.wrapping_sub(other)
+    }
+
+    fn product_within(self, other: i32) -> i32 {
+        self.wrapping_mul(other)
+    }
+
+    fn is_mark(self) -> bool {
+        self == MEDIUM_MARK
+    }
+
     fn wide(self) -> i64 {
         i64::from(self)
+    }
+
+    fn narrow(number: i64) -> i32 {
+        i32::try_from(number).unwrap_or(0)
     }
 }
 
@@ -119,7 +194,31 @@ impl Number for i64 {
         self.max(other)
     }
 
+    fn least(self, other: i64) -> i64 {
+        self.min(other)
+    }
+
+    fn sum_within(self, other: i64) -> i64 {
+        self.wrapping_add(other)
+    }
+
+    fn difference_within(self, other: i64) -> i64 {
+        self.wrapping_sub(other)
+    }
+
+    fn product_within(self, other: i64) -> i64 {
+        self.wrapping_mul(other)
+    }
+
+    fn is_mark(self) -> bool {
+        self == LONG_MARK
+    }
+
     fn wide(self) -> i64 {
         self
+    }
+
+    fn narrow(number: i64) -> i64 {
+        number
     }
 }

@@ -26,6 +26,11 @@ impl<'a> Model for Solved<'a> {
 
     ghost Value = { PosedProblem };
 
+    ghost use Rattle.adp_model.specs.WideForm.{form_code};
+    ghost use Rattle.std.specs.Coded.{codes};
+
+    ghost coded = { Prim.hlevel (codes, form_code) };
+
     ghost use Rattle.seq_reference.specs.SolvedFields.{AreSolved};
 
     ghost view = { λ solved. solved.lines };

@@ -5,7 +5,7 @@ use Rattle.std.proofs.lemmas.Bool.{and_parts, or_right, or_left, le-ltb}
 use Rattle.std.proofs.lemmas.List.Elements.{filter_map-append}
 use lib.Pointwise.{pointwise}
 use Rattle.adp_model.specs.declared.grammar.Sign.{Sign}
-use Rattle.adp_model.specs.declared.grammar.Linear.{Linear}
+use Rattle.adp_model.specs.declared.grammar.Term.{Term}
 use Rattle.adp_model.specs.declared.grammar.Algebra.{Algebra}
 use Rattle.adp_model.specs.WellFormed.{is_sign, is_algebra}
 use Rattle.job_texts.specs.TermText.{is_among}
@@ -13,8 +13,8 @@ use Rattle.job_texts.specs.Declarations.{Declaration}
 use Rattle.job_texts.specs.DeclaredNames.{algebra_name_of, algebra_names, sign_names, section_of, let_sign_of, let_signs}
 use Rattle.spelled_texts.proofs.Contents.{algebra_declaration, let_declaration, algebra_declarations}
 use Rattle.spelled_texts.proofs.Names.{same_bytes, among-append}
-use Rattle.spelled_texts.proofs.Terms.{TermLaw}
-use Rattle.spelled_texts.proofs.GrammarParts.{name_of_sign, name_of_algebra, algebra_parts}
+use Rattle.spelled_texts.proofs.Terms.{TermLaws}
+use Rattle.spelled_texts.proofs.GrammarParts.{name_of_sign, name_of_algebra, algebra_parts, has_form}
 use Rattle.spelled_texts.proofs.Sorted.{none_of}
 use Rattle.spelled_texts.proofs.DeclaredTerms.{section-append}
 use Rattle.spelled_texts.proofs.DeclaredSigns.{IsDeclared}
@@ -24,7 +24,7 @@ use Rattle.spelled_texts.proofs.LetFaults.{since_start, lets_faultless}
 
 -- ---- the signs that have a term
 
-let_names : (signs : List Sign) (terms : List Linear) → length terms ≡ length signs → filter_map let_sign_of (map let_declaration (zip signs terms)) ≡ map name_of_sign signs
+let_names : (signs : List Sign) (terms : List Term) → length terms ≡ length signs → filter_map let_sign_of (map let_declaration (zip signs terms)) ≡ map name_of_sign signs
 let_names [] terms counted = refl
 let_names (sign ∷ signs) [] counted = absurd (omega arith)
 let_names (sign ∷ signs) (term ∷ terms) counted = ap (λ (names : List (List ℕ)). sign.name ∷ names) (let_names signs terms (omega arith))
@@ -41,7 +41,7 @@ all_among front (name ∷ names) others =
     ap (λ (known : List (List ℕ)). list_all (is_among known) names) (sym (append_assoc front (name ∷ []) (names ++ others))) ∙ all_among (front ++ name ∷ []) names others in
     rw (among_behind front name (names ++ others), behind) refl
 
-section_complete : (signs : List Sign) (terms : List Linear) (rest tail : List Declaration) → length terms ≡ length signs
+section_complete : (signs : List Sign) (terms : List Term) (rest tail : List Declaration) → length terms ≡ length signs
     → list_all (is_among (let_signs (section_of ((map let_declaration (zip signs terms) ++ rest) ++ tail)))) (map name_of_sign signs) ≡ true
 section_complete signs terms rest tail counted =
     let lets = map let_declaration (zip signs terms) in
@@ -54,7 +54,7 @@ section_complete signs terms rest tail counted =
 
 -- ---- algebras
 
-module _ (law : TermLaw) (all : List Declaration) (signs : List Sign) (names_are : sign_names all ≡ map name_of_sign signs) (sign_fits : list_all is_sign signs ≡ true)
+module _ (term_laws : TermLaws) (version : ℕ) (all : List Declaration) (signs : List Sign) (names_are : sign_names all ≡ map name_of_sign signs) (sign_fits : list_all is_sign signs ≡ true)
     (declared : AllByRecursion (IsDeclared all) signs) (fresh_signs : AreFresh [] (map name_of_sign signs) 256)
   where
     algebra_faultless : (above rest tail : List Declaration) (algebra : Algebra) → is_algebra signs algebra ≡ true → IsFresh (algebra_names above) algebra.name 16
@@ -76,14 +76,16 @@ module _ (law : TermLaw) (all : List Declaration) (signs : List Sign) (names_are
           uncrossed = refl;
           complete = ap not complete;
           counted = rw (le-ltb 16 (length (algebra_names above) + 1) fresh.few) refl;
+          once = refl;
         }
 
-    pub algebras_faultless : (above : List Declaration) (algebras : List Algebra) (tail : List Declaration) → list_all (is_algebra signs) algebras ≡ true
+    pub algebras_faultless : (above : List Declaration) (algebras : List Algebra) (tail : List Declaration) → list_all (is_algebra signs) algebras ≡ true → list_all (has_form version) algebras ≡ true
         → AreFresh (algebra_names above) (map name_of_algebra algebras) 16 → AreFaultless all above (flat_map (algebra_declarations signs) algebras) tail
-    algebras_faultless above [] tail h fresh = tt
-    algebras_faultless above (algebra ∷ algebras) tail h fresh =
+    algebras_faultless above [] tail h formed fresh = tt
+    algebras_faultless above (algebra ∷ algebras) tail h formed fresh =
         let fits = and_parts (is_algebra signs algebra) (list_all (is_algebra signs) algebras) h in
         let is = algebra_parts signs algebra fits.0 in
+        let forms = and_parts (has_form version algebra) (list_all (has_form version) algebras) formed in
         let own = first_fresh (algebra_names above) algebra.name (map name_of_algebra algebras) 16 fresh in
         let lets = map let_declaration (zip signs algebra.terms) in
         let rest = flat_map (algebra_declarations signs) algebras in
@@ -96,6 +98,7 @@ module _ (law : TermLaw) (all : List Declaration) (signs : List Sign) (names_are
         let fresh_more : AreFresh (algebra_names (with_line ++ lets)) (map name_of_algebra algebras) 16 = rw same_names more in (
           algebra_faultless above rest tail algebra fits.0 own,
           faultless-append all with_line lets rest tail
-              (lets_faultless law all with_line [] signs algebra.terms (rest ++ tail) sign_fits is.terms declared (since_start above (algebra_declaration algebra) refl) fresh_signs)
-              (algebras_faultless (with_line ++ lets) algebras tail fits.1 fresh_more),
+              (lets_faultless term_laws version all with_line [] signs algebra.terms (rest ++ tail) sign_fits is.terms forms.0 declared
+              (since_start above (algebra_declaration algebra) refl) fresh_signs)
+              (algebras_faultless (with_line ++ lets) algebras tail fits.1 forms.1 fresh_more),
         )

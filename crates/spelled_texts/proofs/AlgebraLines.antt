@@ -17,9 +17,10 @@ goal_is_word : (goal : Goal) → IsWord (goal_text goal)
 goal_is_word Least = record { nonempty = omega arith; in_word = refl }
 goal_is_word Greatest = record { nonempty = omega arith; in_word = refl }
 
-goal_declares : (name : List ℕ) (goal : Goal) → declaration_of (Word (codes "algebra") ∷ Word name ∷ Word (goal_text goal) ∷ []) ≡ Some (algebra_declaration (record { name = name; goal = goal; terms = [] }))
-goal_declares name Least = refl
-goal_declares name Greatest = refl
+goal_declares : (version : ℕ) (name : List ℕ) (goal : Goal) → declaration_of version (Word (codes "algebra") ∷ Word name ∷ Word (goal_text goal) ∷ [])
+    ≡ Some (algebra_declaration (record { name = name; goal = goal; terms = [] }))
+goal_declares version name Least = refl
+goal_declares version name Greatest = refl
 
 module _ (laws : TokenLaws) where
   last_word : (word : List ℕ) → IsWord word → Reads word (Word word ∷ [])
@@ -32,15 +33,15 @@ module _ (laws : TokenLaws) where
       (space_then laws (word_then laws algebra.name (name_is_word algebra.name named) refl
       (space_then laws (last_word (goal_text algebra.goal) (goal_is_word algebra.goal))))))
 
-  pub algebra_line_declares : (algebra : Algebra) → is_name algebra.name ≡ true → Declares (algebra_content algebra) (algebra_declaration algebra)
-  algebra_line_declares algebra named =
+  pub algebra_line_declares : (version : ℕ) (algebra : Algebra) → is_name algebra.name ≡ true → Declares version (algebra_content algebra) (algebra_declaration algebra)
+  algebra_line_declares version algebra named =
       let prints : Prints (algebra_content algebra) =
       prints-append (prints-append (prints-append (literal_prints (codes "algebra ") refl) (word_prints algebra.name (name_is_word algebra.name named))) (literal_prints (codes " ") refl))
       (word_prints (goal_text algebra.goal) (goal_is_word algebra.goal)) in
       let reads = algebra_reads algebra named in
       record {
         printable = prints.all;
-        says = says_declaration (algebra_content algebra) _ (algebra_declaration algebra) refl prints.all reads (goal_declares algebra.name algebra.goal);
+        says = says_declaration version (algebra_content algebra) _ (algebra_declaration algebra) refl prints.all reads (goal_declares version algebra.name algebra.goal);
         other = rw reads.are refl;
       }
 
@@ -49,12 +50,13 @@ module _ (laws : TokenLaws) where
       word_then laws (codes "grammar") (record { nonempty = omega arith; in_word = refl }) refl
       (space_then laws (last_word (rule_name grammar grammar.axiom) (name_is_word (rule_name grammar grammar.axiom) named)))
 
-  pub axiom_line_declares : (grammar : Grammar) → is_name (rule_name grammar grammar.axiom) ≡ true → Declares (axiom_content grammar) (axiom_declaration grammar)
-  axiom_line_declares grammar named =
-      let prints : Prints (axiom_content grammar) = prints-append (literal_prints (codes "grammar ") refl) (word_prints (rule_name grammar grammar.axiom) (name_is_word (rule_name grammar grammar.axiom) named)) in
+  pub axiom_line_declares : (version : ℕ) (grammar : Grammar) → is_name (rule_name grammar grammar.axiom) ≡ true → Declares version (axiom_content grammar) (axiom_declaration grammar)
+  axiom_line_declares version grammar named =
+      let prints : Prints (axiom_content grammar) = prints-append (literal_prints (codes "grammar ") refl)
+      (word_prints (rule_name grammar grammar.axiom) (name_is_word (rule_name grammar grammar.axiom) named)) in
       let reads = axiom_reads grammar named in
       record {
         printable = prints.all;
-        says = says_declaration (axiom_content grammar) _ (axiom_declaration grammar) refl prints.all reads refl;
+        says = says_declaration version (axiom_content grammar) _ (axiom_declaration grammar) refl prints.all reads refl;
         other = rw reads.are refl;
       }

@@ -1,6 +1,6 @@
 -- No kind of fault stands at any declaration of a spelling.
 use Rattle.std.proofs.Common.{◌≡◌, ℕ, ◌≤◌, Bool, true, false, List, [], ◌∷◌, ◌++◌, length, map, refl, ◌∙◌, arith}
-use Rattle.std.specs.List.{list_any, flat_map, zip}
+use Rattle.std.specs.List.{list_all, list_any, flat_map, zip}
 use Rattle.std.proofs.lemmas.Bool.{or_from, or_right, or_left}
 use Rattle.std.proofs.lemmas.List.{length-map}
 use Rattle.std.proofs.lemmas.List.Elements.{filter_map-append}
@@ -13,8 +13,8 @@ use Rattle.job_texts.specs.DeclaredNames.{sign_name_of, algebra_name_of, rule_na
 use Rattle.job_texts.specs.TextFaults.{is_axiom_line}
 use Rattle.adp_model.specs.WellFormed.{are_distinct}
 use Rattle.spelled_texts.proofs.Contents.{class_declaration, sign_declaration, let_declaration, algebra_declarations, rule_declaration, axiom_declaration}
-use Rattle.spelled_texts.proofs.Terms.{TermLaw}
-use Rattle.spelled_texts.proofs.GrammarParts.{IsFormed, name_of_class, name_of_sign, name_of_algebra, name_of_rule, rule_named}
+use Rattle.spelled_texts.proofs.Terms.{TermLaws}
+use Rattle.spelled_texts.proofs.GrammarParts.{IsFormed, name_of_class, name_of_sign, name_of_algebra, name_of_rule, rule_named, has_form}
 use Rattle.spelled_texts.proofs.Sorted.{all_declarations, none_of, none_of_algebras}
 use Rattle.spelled_texts.proofs.DeclaredNumbers.{sign_names_are}
 use Rattle.spelled_texts.proofs.DeclaredSigns.{signs_declared, rule_declared}
@@ -40,12 +40,13 @@ no_axiom_in_algebras signs (algebra ∷ algebras) =
 -- ---- the sorts, one after the other
 
 -- names that are the first of their sort
-first_names : {X : Type 0} (name_of : X → List ℕ) (parts : List X) (above : List (List ℕ)) (limit : ℕ) → above ≡ [] → are_distinct (map name_of parts) ≡ true → length parts ≤ limit → AreFresh above (map name_of parts) limit
+first_names : {X : Type 0} (name_of : X → List ℕ) (parts : List X) (above : List (List ℕ)) (limit : ℕ) → above ≡ [] → are_distinct (map name_of parts) ≡ true → length parts ≤ limit
+    → AreFresh above (map name_of parts) limit
 first_names name_of parts above limit none distinct few =
     let count : length (map name_of parts) ≤ limit = simp length-map few in
     rw none (record { distinct = distinct; few = omega arith })
 
-module _ (law : TermLaw) (grammar : Grammar) (formed : IsFormed grammar) where
+module _ (term_laws : TermLaws) (version : ℕ) (grammar : Grammar) (formed : IsFormed grammar) (terms : list_all (has_form version) grammar.algebras ≡ true) where
   abbrev class_lines : List Declaration
   class_lines = map class_declaration grammar.classes
 
@@ -104,6 +105,7 @@ module _ (law : TermLaw) (grammar : Grammar) (formed : IsFormed grammar) where
     uncrossed = refl;
     complete = refl;
     counted = refl;
+    once = refl;
   }
 
   words_faultless : (above below : List Declaration) → IsFaultless all above Words below
@@ -119,6 +121,7 @@ module _ (law : TermLaw) (grammar : Grammar) (formed : IsFormed grammar) where
     uncrossed = refl;
     complete = refl;
     counted = refl;
+    once = refl;
   }
 
   pub all_faultless : AreFaultless all [] all []
@@ -130,8 +133,8 @@ module _ (law : TermLaw) (grammar : Grammar) (formed : IsFormed grammar) where
       let fresh_rules = first_names name_of_rule grammar.rules (rule_names (class_lines ++ sign_lines ++ algebra_part)) 128 no_rule_names formed.rule_names formed.few_rules in
       let classes = classes_faultless all [] grammar.classes (sign_lines ++ (algebra_part ++ (rule_lines ++ (axiom_part ++ Words ∷ [])))) formed.classes fresh_classes in
       let signs = signs_faultless all class_lines grammar.signs (algebra_part ++ (rule_lines ++ (axiom_part ++ Words ∷ []))) formed.signs fresh_signs in
-      let algebras = algebras_faultless law all grammar.signs (sign_names_are grammar) formed.signs (signs_declared grammar formed) fresh_lets
-      (class_lines ++ sign_lines) grammar.algebras (rule_lines ++ (axiom_part ++ Words ∷ [])) formed.algebras fresh_algebras in
+      let algebras = algebras_faultless term_laws version all grammar.signs (sign_names_are grammar) formed.signs (signs_declared grammar formed) fresh_lets
+      (class_lines ++ sign_lines) grammar.algebras (rule_lines ++ (axiom_part ++ Words ∷ [])) formed.algebras terms fresh_algebras in
       let rules = rules_faultless grammar formed (class_lines ++ sign_lines ++ algebra_part) grammar.rules (axiom_part ++ Words ∷ []) formed.rules fresh_rules in
       faultless-append all [] (class_lines ++ sign_lines ++ algebra_part ++ rule_lines ++ axiom_part) (Words ∷ []) []
       (faultless-append all [] (class_lines ++ sign_lines ++ algebra_part ++ rule_lines) axiom_part (Words ∷ [])

@@ -36,6 +36,7 @@ class_faultless all above below class h fresh =
       uncrossed = refl;
       complete = refl;
       counted = rw (le-ltb 64 (length (class_names above) + 1) fresh.few) refl;
+      once = refl;
     }
 
 pub classes_faultless : (all above : List Declaration) (classes : List Class) (tail : List Declaration) → list_all is_class classes ≡ true

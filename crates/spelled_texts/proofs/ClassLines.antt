@@ -67,9 +67,9 @@ some_items : (runs : List (List ℕ × ℤ)) → SomeRuns runs → items_of (fla
 some_items [] some = cc (some.are)
 some_items (run ∷ runs) some = items_back (run ∷ runs)
 
-class_declares : (class : Class) → SomeRuns (runs_of class.letters)
-    → declaration_of (Word (codes "class") ∷ Word class.name ∷ Equals ∷ flat_map run_tokens (runs_of class.letters)) ≡ Some (class_declaration class)
-class_declares class some = rw (some_items (runs_of class.letters) some) refl
+class_declares : (version : ℕ) (class : Class) → SomeRuns (runs_of class.letters)
+    → declaration_of version (Word (codes "class") ∷ Word class.name ∷ Equals ∷ flat_map run_tokens (runs_of class.letters)) ≡ Some (class_declaration class)
+class_declares version class some = rw (some_items (runs_of class.letters) some) refl
 
 -- ---- bytes
 
@@ -103,13 +103,14 @@ runs_of_some : (letters : List (ℕ × ℤ)) → 1 ≤ length letters → SomeRu
 runs_of_some [] some = absurd (omega arith)
 runs_of_some (entry ∷ letters) some = some_runs entry (runs_of letters)
 
-pub class_line_declares : (laws : TokenLaws) (class : Class) → is_class class ≡ true → Declares (class_content class) (class_declaration class)
-class_line_declares laws class h =
+pub class_line_declares : (laws : TokenLaws) (version : ℕ) (class : Class) → is_class class ≡ true → Declares version (class_content class) (class_declaration class)
+class_line_declares laws version class h =
     let is = class_parts class h in
     let good = good_runs class.letters is.entries in
     let prints = class_prints class is.named good in
     record {
       printable = prints.all;
-      says = says_declaration (class_content class) _ (class_declaration class) refl prints.all (class_reads laws class is.named good) (class_declares class (runs_of_some class.letters is.some_letters));
+      says = says_declaration version (class_content class) _ (class_declaration class) refl prints.all (class_reads laws class is.named good)
+          (class_declares version class (runs_of_some class.letters is.some_letters));
       other = rw (class_reads laws class is.named good).are refl;
     }

@@ -5,7 +5,9 @@ use Rattle.std.specs.Fmt.{decimal}
 use Rattle.std.specs.Option.{option_map}
 use Rattle.adp_model.specs.declared.grammar.Class.{Class}
 use Rattle.adp_model.specs.declared.grammar.Sign.{Sign}
-use Rattle.adp_model.specs.declared.grammar.Linear.{Linear}
+use Rattle.adp_model.specs.declared.grammar.Term.{Term}
+use Rattle.adp_model.specs.declared.grammar.Term.TheVariants.{Linear, Wide}
+use Rattle.adp_model.specs.declared.grammar.Size.{Size}
 use Rattle.adp_model.specs.declared.grammar.Algebra.{Algebra}
 use Rattle.adp_model.specs.declared.grammar.Arg.{Arg}
 use Rattle.adp_model.specs.declared.grammar.Arg.TheVariants as args
@@ -13,11 +15,12 @@ use Rattle.adp_model.specs.declared.grammar.Alt.{Alt}
 use Rattle.adp_model.specs.declared.grammar.Rule as rules
 use Rattle.adp_model.specs.declared.grammar.Grammar.{Grammar}
 use Rattle.adp_model.specs.Parts.{sign_at}
-use Rattle.job_texts.specs.Spelling.{separated, runs_of, run_text, kind_text, goal_text, variables, term_text, class_name, rule_name, alternative_text}
-use Rattle.job_texts.specs.TermText.{Part}
+use Rattle.job_texts.specs.Spelling.{separated, runs_of, run_text, kind_text, goal_text, variables, linear_text, wide_text, term_text, class_name, rule_name, alternative_text}
 use Rattle.job_texts.specs.TermParts.{term_parts}
+use Rattle.job_texts.specs.WideText.{nought, text_tree}
+use Rattle.job_texts.specs.LetTerms.{LetTerm, Parts, Tree}
 use Rattle.job_texts.specs.Declarations as forms
-use Rattle.job_texts.specs.Declarations.{Item, Argument, Named, Spelled, OneOf, RunOf, Alternative, Declaration}
+use Rattle.job_texts.specs.Declarations.{Item, Argument, Named, Spelled, OneOf, RunOf, SizeWords, Alternative, Declaration}
 
 -- ---- lines
 
@@ -30,7 +33,7 @@ sign_content sign = codes "sign " ++ sign.name ++ codes "(" ++ separated kind_te
 abbrev pub algebra_content : Algebra → List ℕ
 algebra_content algebra = codes "algebra " ++ algebra.name ++ codes " " ++ goal_text algebra.goal
 
-abbrev pub let_content : Sign × Linear → List ℕ
+abbrev pub let_content : Sign × Term → List ℕ
 let_content entry =
     codes "let " ++ entry.0.name ++ codes "(" ++ separated (λ name. name) (codes ", ") (variables 1 entry.0.kinds)
     ++ codes ") = " ++ term_text entry.1
@@ -71,12 +74,13 @@ sign_declaration sign = forms.Sign sign.name sign.kinds
 abbrev pub algebra_declaration : Algebra → Declaration
 algebra_declaration algebra = forms.Algebra algebra.name algebra.goal
 
--- the parts that the spelling of a term has
-abbrev pub parts_of_term : Linear → List Part
-parts_of_term term = unwrap_or (term_parts (term_text term)) []
+-- what the spelling of a term spells: parts, or a tree
+abbrev pub spelled_term : Term → LetTerm
+spelled_term (Linear term) = Parts (unwrap_or (term_parts (linear_text term)) [])
+spelled_term (Wide term) = Tree (unwrap_or (text_tree (wide_text term)) nought)
 
-abbrev pub let_declaration : Sign × Linear → Declaration
-let_declaration entry = forms.Let entry.0.name (variables 1 entry.0.kinds) (parts_of_term entry.1)
+abbrev pub let_declaration : Sign × Term → Declaration
+let_declaration entry = forms.Let entry.0.name (variables 1 entry.0.kinds) (spelled_term entry.1)
 
 abbrev pub algebra_declarations : List Sign → Algebra → List Declaration
 algebra_declarations signs algebra = algebra_declaration algebra ∷ map let_declaration (zip signs algebra.terms)
@@ -88,10 +92,14 @@ spelled_argument grammar (args.Letter class) = OneOf (class_name grammar class)
 spelled_argument grammar (args.Run class low high) =
     RunOf (class_name grammar class) (decimal low) (option_map decimal high)
 
+abbrev pub spelled_size : Size → SizeWords
+spelled_size size = record { low = decimal size.low; high = option_map decimal size.high }
+
 abbrev pub spelled_alternative : Grammar → Alt → Alternative
 spelled_alternative grammar alternative = record {
   sign = (sign_at grammar alternative.sign).name;
   arguments = map (spelled_argument grammar) alternative.args;
+  size = option_map spelled_size alternative.size;
 }
 
 abbrev pub rule_declaration : Grammar → rules.Rule → Declaration

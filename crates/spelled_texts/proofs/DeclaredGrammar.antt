@@ -1,5 +1,5 @@
 -- The grammar that a spelling declares is the grammar that is spelled.
-use Rattle.std.proofs.Common.{◌≡◌, ℕ, true, Option, Some, None, unwrap_or, List, [], ◌∷◌, ◌++◌, map, refl, ◌∙◌, ap, append_assoc, append-nil}
+use Rattle.std.proofs.Common.{◌≡◌, ◌≤◌, ℕ, true, Option, Some, None, unwrap_or, List, [], ◌∷◌, ◌++◌, map, refl, ◌∙◌, ap, append_assoc, append-nil}
 use Rattle.std.specs.List.{list_all, filter_map, flat_map, AllByRecursion}
 use Rattle.std.specs.Fmt.{decimal}
 use Rattle.std.specs.Option.{option_map, option_and_then}
@@ -11,6 +11,7 @@ use Rattle.adp_model.specs.declared.grammar.Algebra.{Algebra}
 use Rattle.adp_model.specs.declared.grammar.Arg.{Arg}
 use Rattle.adp_model.specs.declared.grammar.Arg.TheVariants as args
 use Rattle.adp_model.specs.declared.grammar.Alt.{Alt}
+use Rattle.adp_model.specs.declared.grammar.Size.{Size}
 use Rattle.adp_model.specs.declared.grammar.Rule as rules
 use Rattle.adp_model.specs.declared.grammar.Grammar.{Grammar}
 use Rattle.adp_model.specs.WellFormed.{is_class, is_rule}
@@ -18,14 +19,14 @@ use Rattle.job_texts.specs.Spelling.{runs_of, rule_name}
 use Rattle.job_texts.specs.Declarations.{Declaration, Words}
 use Rattle.job_texts.specs.DeclaredNames.{sign_names, rule_names, first_of_list}
 use Rattle.job_texts.specs.TextFaults.{bound_of, class_letters}
-use Rattle.job_texts.specs.JobText.{number_among, declared_class, declared_sign, declared_algebras, argument_of, alternative_of, declared_rule, axiom_name, declared_grammar}
+use Rattle.job_texts.specs.JobText.{number_among, declared_class, declared_sign, declared_algebras, argument_of, size_of, alternative_of, declared_rule, axiom_name, declared_grammar}
 use Rattle.spelled_texts.proofs.Numbers.{bound_of_decimal}
-use Rattle.spelled_texts.proofs.Contents.{run_item, class_declaration, sign_declaration, algebra_declarations, spelled_argument, spelled_alternative, rule_declaration, axiom_declaration}
+use Rattle.spelled_texts.proofs.Contents.{run_item, class_declaration, sign_declaration, algebra_declarations, spelled_argument, spelled_size, spelled_alternative, rule_declaration, axiom_declaration}
 use Rattle.spelled_texts.proofs.Runs.{letters_back}
 use Rattle.spelled_texts.proofs.ClassLines.{class_parts}
-use Rattle.spelled_texts.proofs.RuleLines.{IsHigh}
-use Rattle.spelled_texts.proofs.Terms.{TermLaw}
-use Rattle.spelled_texts.proofs.GrammarParts.{IsFormed, IsArgument, Fits, rule_fits, name_of_sign}
+use Rattle.spelled_texts.proofs.RuleLines.{IsHigh, IsSize}
+use Rattle.spelled_texts.proofs.Terms.{TermLaws}
+use Rattle.spelled_texts.proofs.GrammarParts.{IsFormed, IsArgument, Fits, rule_fits, name_of_sign, has_form}
 use Rattle.spelled_texts.proofs.Sorted.{all_declarations, each_of, of_classes, of_signs, of_rules, of_last}
 use Rattle.spelled_texts.proofs.DeclaredNumbers.{sign_names_are, class_number, sign_number, rule_number}
 use Rattle.spelled_texts.proofs.DeclaredTerms.{algebras_back}
@@ -59,6 +60,16 @@ high_back : (low : ℕ) (high : Option ℕ) → IsHigh low high → option_and_t
 high_back low None is = refl
 high_back low (Some high) is = bound_of_decimal high is.1
 
+bounds_back : (low : ℕ) (high : Option ℕ) → low ≤ 1000000 → IsHigh low high → size_of (record { low = decimal low; high = option_map decimal high }) ≡ record { low = low; high = high }
+bounds_back low high small is =
+    let low_is : unwrap_or (bound_of (decimal low)) 0 ≡ low = rw (bound_of_decimal low small) refl in
+    let high_is = high_back low high is in
+    λ i. record { low = low_is i; high = high_is i }
+
+size_back : (size : Option Size) → IsSize size → option_map size_of (option_map spelled_size size) ≡ size
+size_back None is = refl
+size_back (Some size) is = ap (λ (of : Size). Some of) (bounds_back size.low size.high is.0 is.1)
+
 module _ (grammar : Grammar) (formed : IsFormed grammar) where
   argument_again : (argument : Arg) → IsArgument grammar argument → argument_of (all_declarations grammar) (spelled_argument grammar argument) ≡ argument
   argument_again (args.Rule rule) is = ap args.Rule (rule_number grammar formed rule is)
@@ -77,13 +88,15 @@ module _ (grammar : Grammar) (formed : IsFormed grammar) where
       let others = arguments_again arguments are.1 in
       λ i. first i ∷ others i
 
-  alternatives_again : (alternatives : List Alt) → AllByRecursion (Fits grammar) alternatives → map (alternative_of (all_declarations grammar)) (map (spelled_alternative grammar) alternatives) ≡ alternatives
+  alternatives_again : (alternatives : List Alt) → AllByRecursion (Fits grammar) alternatives
+      → map (alternative_of (all_declarations grammar)) (map (spelled_alternative grammar) alternatives) ≡ alternatives
   alternatives_again [] are = refl
   alternatives_again (alternative ∷ alternatives) are =
       let sign = sign_number grammar formed alternative.sign are.0.known in
       let arguments = arguments_again alternative.args are.0.arguments in
+      let size = size_back alternative.size are.0.bounded in
       let others = alternatives_again alternatives are.1 in
-      λ i. record { sign = sign i; args = arguments i } ∷ others i
+      λ i. record { sign = sign i; args = arguments i; size = size i } ∷ others i
 
   abbrev rule_again : rules.Rule → rules.Rule
   rule_again rule = record { name = rule.name; alts = map (alternative_of (all_declarations grammar)) (map (spelled_alternative grammar) rule.alts) }
@@ -120,12 +133,14 @@ module _ (grammar : Grammar) (formed : IsFormed grammar) where
   signs_declare_none names [] more = refl
   signs_declare_none names (sign ∷ signs) more = signs_declare_none names signs more
 
-  rules_declare_none : (names : List (List ℕ)) (rules : List rules.Rule) (more : List Declaration) → declared_algebras names (map (rule_declaration grammar) rules ++ more) ≡ declared_algebras names more
+  rules_declare_none : (names : List (List ℕ)) (rules : List rules.Rule) (more : List Declaration)
+      → declared_algebras names (map (rule_declaration grammar) rules ++ more) ≡ declared_algebras names more
   rules_declare_none names [] more = refl
   rules_declare_none names (rule ∷ rules) more = rules_declare_none names rules more
 
-  all_algebras_back : TermLaw → declared_algebras (sign_names (all_declarations grammar)) (all_declarations grammar) ≡ grammar.algebras
-  all_algebras_back law =
+  all_algebras_back : TermLaws → (version : ℕ) → list_all (has_form version) grammar.algebras ≡ true
+      → declared_algebras (sign_names (all_declarations grammar)) (all_declarations grammar) ≡ grammar.algebras
+  all_algebras_back term_laws version forms =
       let names = map name_of_sign grammar.signs in
       let classes = map class_declaration grammar.classes in
       let signs = map sign_declaration grammar.signs in
@@ -137,16 +152,16 @@ module _ (grammar : Grammar) (formed : IsFormed grammar) where
       ∙ ap (declared_algebras names) regrouped
       ∙ classes_declare_none names grammar.classes (signs ++ (algebras ++ (rules ++ last)))
       ∙ signs_declare_none names grammar.signs (algebras ++ (rules ++ last))
-      ∙ algebras_back law grammar.signs formed.signs formed.sign_names grammar.algebras (rules ++ last) formed.algebras
+      ∙ algebras_back term_laws version grammar.signs formed.signs formed.sign_names grammar.algebras (rules ++ last) formed.algebras forms
       ∙ ap (λ (others : List Algebra). grammar.algebras ++ others) (rules_declare_none names grammar.rules last)
       ∙ append-nil grammar.algebras
 
   -- the grammar is read back
-  pub grammar_back : TermLaw → declared_grammar (all_declarations grammar) ≡ grammar
-  grammar_back law =
+  pub grammar_back : TermLaws → (version : ℕ) → list_all (has_form version) grammar.algebras ≡ true → declared_grammar (all_declarations grammar) ≡ grammar
+  grammar_back term_laws version forms =
       let classes = classes_back grammar formed in
       let signs = signs_back grammar in
-      let algebras = all_algebras_back law in
+      let algebras = all_algebras_back term_laws version forms in
       let rules = rules_back in
       let start = axiom_back in
       λ i. record { classes = classes i; signs = signs i; algebras = algebras i; rules = rules i; «axiom» = start i }

@@ -57,7 +57,8 @@ module _ (grammar : Grammar) (formed : IsFormed grammar) where
   pub sign_declared : (sign : ℕ) → sign < length grammar.signs → IsDeclared (all_declarations grammar) (sign_at grammar sign)
   sign_declared sign inside = record {
     among = ap (λ (names : List (List ℕ)). is_among names (sign_at grammar sign).name) (sign_names_are grammar) ∙ among_parts name_of_sign grammar.signs sign no_sign inside;
-    kinds = ap first_of_list (of_signs (kinds_given (sign_at grammar sign).name) (λ class. refl) (λ algebra. refl) (λ entry. refl) grammar (λ rule. refl) refl) ∙ kinds_at grammar.signs sign formed.sign_names inside;
+    kinds = ap first_of_list (of_signs (kinds_given (sign_at grammar sign).name) (λ class. refl) (λ algebra. refl) (λ entry. refl) grammar (λ rule. refl) refl)
+        ∙ kinds_at grammar.signs sign formed.sign_names inside;
   }
 
   pub signs_declared : AllByRecursion (IsDeclared (all_declarations grammar)) grammar.signs

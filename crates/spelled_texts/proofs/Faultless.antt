@@ -2,16 +2,16 @@
 use Rattle.std.proofs.Common.{◌≡◌, Bool, false, ◌&&◌, not, nat_lt, None, List, [], ◌∷◌, ◌++◌, sym, append_assoc, append-nil, subst}
 use Rattle.std.specs.List.{list_all, list_any, find}
 use Rattle.job_texts.specs.TermText.{is_among}
-use Rattle.job_texts.specs.Declarations.{Alternative, Declaration, Rule}
+use Rattle.job_texts.specs.Declarations.{Declaration, Rule}
 use Rattle.job_texts.specs.DeclaredNames.{sign_names, is_algebra_line, section_of, let_signs}
-use Rattle.job_texts.specs.TextFaults.{misnames, misnumbers, repeats, misletters, is_misplaced, is_axiom_line, uses_unknown, misfits, has_crossed_bounds, Counted, counts_of}
+use Rattle.job_texts.specs.TextFaults.{misnames, misnumbers, repeats, misletters, is_misplaced, is_axiom_line, uses_unknown, misfits, is_crossed_alternative, is_twice, Counted, counts_of}
 
 abbrev pub is_over : Counted → Bool
 is_over counted = nat_lt counted.limit counted.count
 
--- a run of the declaration has a high bound below its low one
+-- a run or a size of the declaration has a high bound below its low one
 abbrev pub crosses : Declaration → Bool
-crosses (Rule name alternatives) = list_any (λ (alternative : Alternative). list_any has_crossed_bounds alternative.arguments) alternatives
+crosses (Rule name alternatives) = list_any is_crossed_alternative alternatives
 crosses declaration = false
 
 -- the section of an algebra lacks a sign
@@ -30,6 +30,7 @@ pub record IsFaultless (all above : List Declaration) (declaration : Declaration
   pub uncrossed : crosses declaration ≡ false
   pub complete : lacks all below declaration ≡ false
   pub counted : find is_over (counts_of above declaration) ≡ None
+  pub once : is_twice declaration ≡ false
 
 -- no kind of fault stands at any of these declarations, which stand below some and above others
 abbrev pub AreFaultless : List Declaration → List Declaration → List Declaration → List Declaration → Type 0
@@ -42,5 +43,6 @@ pub faultless-append : (all above declared others tail : List Declaration) → A
 faultless-append all above [] others tail h h' = subst (λ (l : List Declaration). AreFaultless all l others tail) (append-nil above) h'
 faultless-append all above (declaration ∷ declared) others tail h h' = (
   subst (λ (l : List Declaration). IsFaultless all above declaration l) (sym (append_assoc declared others tail)) h.0,
-  faultless-append all (above ++ declaration ∷ []) declared others tail h.1 (subst (λ (l : List Declaration). AreFaultless all l others tail) (sym (append_assoc above (declaration ∷ []) declared)) h'),
+  faultless-append all (above ++ declaration ∷ []) declared others tail h.1
+      (subst (λ (l : List Declaration). AreFaultless all l others tail) (sym (append_assoc above (declaration ∷ []) declared)) h'),
 )

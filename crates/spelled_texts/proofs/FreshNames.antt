@@ -23,7 +23,8 @@ first_fresh earlier name later limit are =
     record { other = not_before earlier name later are.distinct; few = omega arith }
 
 -- of the others, where the first stands above with the names of this sort
-pub others_fresh : (name_of : Declaration → Option (List ℕ)) (above : List Declaration) (declaration : Declaration) (name : List ℕ) (later : List (List ℕ)) (limit : ℕ) → name_of declaration ≡ Some name
+pub others_fresh : (name_of : Declaration → Option (List ℕ)) (above : List Declaration) (declaration : Declaration) (name : List ℕ) (later : List (List ℕ)) (limit : ℕ)
+    → name_of declaration ≡ Some name
     → AreFresh (filter_map name_of above) (name ∷ later) limit → AreFresh (filter_map name_of (above ++ declaration ∷ [])) later limit
 others_fresh name_of above declaration name later limit named are =
     let more : filter_map name_of (above ++ declaration ∷ []) ≡ filter_map name_of above ++ name ∷ [] = filter_map-append name_of above (declaration ∷ []) ∙ rw named refl in

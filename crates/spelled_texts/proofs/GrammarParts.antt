@@ -10,15 +10,17 @@ use Rattle.adp_model.specs.declared.grammar.Algebra.{Algebra}
 use Rattle.adp_model.specs.declared.grammar.Arg.{Arg}
 use Rattle.adp_model.specs.declared.grammar.Arg.TheVariants as args
 use Rattle.adp_model.specs.declared.grammar.Alt.{Alt}
+use Rattle.adp_model.specs.declared.grammar.Size.{Size}
 use Rattle.adp_model.specs.declared.grammar.Rule as rules
 use Rattle.adp_model.specs.declared.grammar.Grammar.{Grammar}
 use Rattle.adp_model.specs.Printable.{is_printable_byte}
 use Rattle.adp_model.specs.Parts.{class_at, sign_at, rule_at}
 use Rattle.job_texts.specs.Spelling.{class_name, rule_name}
-use Rattle.adp_model.specs.WellFormed.{is_name, are_distinct, is_class, is_sign, is_algebra, is_term, is_argument, is_alternative, is_rule, is_high_bound, counts_fit, names_differ, parts_fit, is_well_formed}
+use Rattle.adp_model.specs.WellFormed.{is_name, are_distinct, is_class, is_sign, is_algebra, is_term, is_argument, is_alternative, is_rule, is_high_bound, is_size, counts_fit, names_differ, parts_fit, is_well_formed}
 use Rattle.spelled_texts.proofs.ClassLines.{class_parts}
 use Rattle.spelled_texts.proofs.SignLines.{sign_parts}
-use Rattle.spelled_texts.proofs.RuleLines.{IsHigh, IsSpellable, IsAlternative, IsRule}
+use Rattle.spelled_texts.proofs.Terms.{is_of_form}
+use Rattle.spelled_texts.proofs.RuleLines.{IsHigh, IsSize, IsSpellable, IsAlternative, IsRule}
 
 abbrev pub name_of_class : Class → List ℕ
 name_of_class class = class.name
@@ -106,6 +108,10 @@ pub record IsAlgebra (signs : List Sign) (algebra : Algebra) : Type 0 where
   pub counted : length algebra.terms ≡ length signs
   pub terms : list_all is_term (zip signs algebra.terms) ≡ true
 
+-- all terms of an algebra have the form of those of this format
+abbrev pub has_form : ℕ → Algebra → Bool
+has_form version algebra = list_all (is_of_form version) algebra.terms
+
 pub algebra_parts : (signs : List Sign) (algebra : Algebra) → is_algebra signs algebra ≡ true → IsAlgebra signs algebra
 algebra_parts signs algebra h =
     let last = and_parts (is_name algebra.name && length algebra.terms == length signs) (list_all is_term (zip signs algebra.terms)) h in
@@ -127,6 +133,12 @@ high_fits low (Some high) h =
     let parts = and_parts (nat_le low high) (nat_le high 1000000) h in
     (leb-true _ _ parts.0, leb-true _ _ parts.1)
 
+size_fits : (size : Option Size) → is_size size ≡ true → IsSize size
+size_fits None h = tt
+size_fits (Some size) h =
+    let parts = and_parts (nat_le size.low 1000000) (is_high_bound size.low size.high) h in
+    (leb-true _ _ parts.0, high_fits size.low size.high parts.1)
+
 argument_fits : (grammar : Grammar) (kind : Kind) (argument : Arg) → is_argument grammar (kind, argument) ≡ true → IsArgument grammar argument
 argument_fits grammar kinds.Score (args.Rule rule) h = ltb-true _ _ h
 argument_fits grammar kinds.Score (args.Literal text) h = absurd cc
@@ -140,7 +152,8 @@ argument_fits grammar kinds.Token (args.Run class low high) h =
     let first = and_parts (nat_lt class (length grammar.classes)) (nat_le low 1000000) last.0 in
     (ltb-true _ _ first.0, leb-true _ _ first.1, high_fits low high last.1)
 
-arguments_fit : (grammar : Grammar) (kinds : List Kind) (arguments : List Arg) → length arguments ≡ length kinds → list_all (is_argument grammar) (zip kinds arguments) ≡ true → AllByRecursion (IsArgument grammar) arguments
+arguments_fit : (grammar : Grammar) (kinds : List Kind) (arguments : List Arg) → length arguments ≡ length kinds → list_all (is_argument grammar) (zip kinds arguments) ≡ true
+    → AllByRecursion (IsArgument grammar) arguments
 arguments_fit grammar kinds [] counted h = tt
 arguments_fit grammar [] (argument ∷ arguments) counted h = absurd (omega arith)
 arguments_fit grammar (kind ∷ kinds) (argument ∷ arguments) counted h =
@@ -149,6 +162,7 @@ arguments_fit grammar (kind ∷ kinds) (argument ∷ arguments) counted h =
 
 -- what is known of an alternative
 pub record Fits (grammar : Grammar) (alternative : Alt) : Type 0 where
+  pub bounded : IsSize alternative.size
   pub known : alternative.sign < length grammar.signs
   pub counted : length alternative.args ≡ length (sign_at grammar alternative.sign).kinds
   pub fit : list_all (is_argument grammar) (zip (sign_at grammar alternative.sign).kinds alternative.args) ≡ true
@@ -158,10 +172,17 @@ alternative_fits : (grammar : Grammar) (alternative : Alt) → is_alternative gr
 alternative_fits grammar alternative h =
     let in_signs = nat_lt alternative.sign (length grammar.signs) in
     let kinds = (sign_at grammar alternative.sign).kinds in
-    let last = and_parts (in_signs && length alternative.args == length kinds) (list_all (is_argument grammar) (zip kinds alternative.args)) h in
-    let first = and_parts in_signs (length alternative.args == length kinds) last.0 in
-    let counted : length alternative.args ≡ length kinds = eqb-true _ _ first.1 in
-    record { known = ltb-true _ _ first.0; counted = counted; fit = last.1; arguments = arguments_fit grammar kinds alternative.args counted last.1 }
+    let last = and_parts (is_size alternative.size && in_signs && length alternative.args == length kinds) (list_all (is_argument grammar) (zip kinds alternative.args)) h in
+    let second = and_parts (is_size alternative.size && in_signs) (length alternative.args == length kinds) last.0 in
+    let first = and_parts (is_size alternative.size) in_signs second.0 in
+    let counted : length alternative.args ≡ length kinds = eqb-true _ _ second.1 in
+    record {
+      bounded = size_fits alternative.size first.0;
+      known = ltb-true _ _ first.1;
+      counted = counted;
+      fit = last.1;
+      arguments = arguments_fit grammar kinds alternative.args counted last.1;
+    }
 
 alternatives_fit : (grammar : Grammar) (alternatives : List Alt) → list_all (is_alternative grammar) alternatives ≡ true → AllByRecursion (Fits grammar) alternatives
 alternatives_fit grammar [] h = tt
@@ -207,7 +228,7 @@ module _ (grammar : Grammar) (formed : IsFormed grammar) where
       let sign = sign_parts (sign_at grammar alternative.sign) (kept_in is_sign grammar.signs alternative.sign (record { name = []; kinds = [] }) formed.signs is.known) in
       let some = sign.some in
       let counted = is.counted in
-      record { named = sign.named; some = omega arith; spellable = spellable_arguments alternative.args is.arguments }
+      record { named = sign.named; some = omega arith; spellable = spellable_arguments alternative.args is.arguments; bounded = is.bounded }
 
   spellable_alternatives : (alternatives : List Alt) → AllByRecursion (Fits grammar) alternatives → AllByRecursion (IsAlternative grammar) alternatives
   spellable_alternatives [] are = tt

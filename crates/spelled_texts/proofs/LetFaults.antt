@@ -2,19 +2,20 @@
 use Rattle.std.proofs.Common.{◌≡◌, ℕ, ◌+◌, ◌^◌, ◌<◌, Bool, true, false, ◌==◌, nat_eq, Option, Some, None, List, [], ◌∷◌, ◌++◌, length, map, cond, refl, sym, ◌∙◌, arith, eq-eqb}
 use Rattle.std.specs.List.{list_all, list_any, zip, AllByRecursion}
 use Rattle.std.specs.Option.{option_map, option_or}
-use Rattle.std.proofs.lemmas.Bool.{and_parts}
+use Rattle.std.proofs.lemmas.Bool.{and_parts, le-ltb}
 use lib.Pointwise.{pointwise}
 use Rattle.adp_model.specs.declared.grammar.Kind.{Kind}
 use Rattle.adp_model.specs.declared.grammar.Sign.{Sign}
-use Rattle.adp_model.specs.declared.grammar.Linear.{Linear}
+use Rattle.adp_model.specs.declared.grammar.Term.{Term}
 use Rattle.adp_model.specs.WellFormed.{is_name, are_distinct, is_sign, is_term}
 use Rattle.job_texts.specs.Spelling.{variables}
+use Rattle.job_texts.specs.LetTerms.{counted_leaves}
 use Rattle.job_texts.specs.Declarations.{Declaration}
 use Rattle.job_texts.specs.DeclaredNames.{is_algebra_line, since_algebra, let_sign_of, let_signs}
 use Rattle.spelled_texts.proofs.Numbers.{variable_word, variable_is_name, other_variable}
-use Rattle.spelled_texts.proofs.Contents.{parts_of_term, let_declaration}
+use Rattle.spelled_texts.proofs.Contents.{spelled_term, let_declaration}
 use Rattle.spelled_texts.proofs.SignLines.{IsSign, sign_parts}
-use Rattle.spelled_texts.proofs.Terms.{TermLaw, IsTerm, term_known, made_parts}
+use Rattle.spelled_texts.proofs.Terms.{TermLaws, IsTerm, is_of_form, term_known}
 use Rattle.spelled_texts.proofs.GrammarParts.{name_of_sign}
 use Rattle.spelled_texts.proofs.DeclaredSigns.{IsDeclared}
 use Rattle.spelled_texts.proofs.Faultless.{IsFaultless, AreFaultless}
@@ -61,39 +62,42 @@ since_start (first ∷ above) declaration starts = rw (since_start above declara
 
 -- ---- the lines of a section
 
-let_faultless : (all above below section : List Declaration) (entry : Sign × Linear) → IsSign entry.0 → IsTerm entry → IsDeclared all entry.0 → since_algebra above ≡ Some section
+let_faultless : (version : ℕ) (all above below section : List Declaration) (entry : Sign × Term) → IsSign entry.0 → IsTerm version entry → IsDeclared all entry.0 → since_algebra above ≡ Some section
     → IsFresh (let_signs section) entry.0.name 256 → IsFaultless all above (let_declaration entry) below
-let_faultless all above below section entry sign term declared since fresh =
+let_faultless version all above below section entry sign term declared since fresh =
     let few = sign.few in
     let kinds = entry.0.kinds in
-    let made = made_parts (variables 1 kinds) entry.1 (parts_of_term entry.1) term.text.made in
     let as_many : (length kinds == length (variables 1 kinds)) ≡ true = eq-eqb _ _ (sym (length-variables 1 kinds)) in
     record {
-      named = rw (sign.named, variables_named 1 kinds (omega arith), made.named) refl;
-      numbered = rw made.numbered refl;
+      named = rw (sign.named, variables_named 1 kinds (omega arith), term.text.named) refl;
+      numbered = rw term.text.numbered refl;
       fresh = rw (variables_distinct 1 kinds (omega arith)) refl;
       lettered = refl;
       placed = rw (since, fresh.other) refl;
       one_axiom = refl;
-      known = rw (declared.among, made.declared) refl;
+      known = rw (declared.among, term.text.declared) refl;
       fit = rw (declared.kinds, as_many) refl;
       uncrossed = refl;
       complete = refl;
-      counted = refl;
+      counted = rw (le-ltb 32 (counted_leaves (spelled_term entry.1)) term.text.counted) refl;
+      once = term.text.once;
     }
 
-pub lets_faultless : TermLaw → (all above section : List Declaration) (signs : List Sign) (terms : List Linear) (tail : List Declaration) → list_all is_sign signs ≡ true → list_all is_term (zip signs terms) ≡ true
+pub lets_faultless : TermLaws → (version : ℕ) (all above section : List Declaration) (signs : List Sign) (terms : List Term) (tail : List Declaration) → list_all is_sign signs ≡ true
+    → list_all is_term (zip signs terms) ≡ true → list_all (is_of_form version) terms ≡ true
     → AllByRecursion (IsDeclared all) signs → since_algebra above ≡ Some section → AreFresh (let_signs section) (map name_of_sign signs) 256
     → AreFaultless all above (map let_declaration (zip signs terms)) tail
-lets_faultless law all above section [] terms tail h fit declared since fresh = tt
-lets_faultless law all above section (sign ∷ signs) [] tail h fit declared since fresh = tt
-lets_faultless law all above section (sign ∷ signs) (term ∷ terms) tail h fit declared since fresh =
+lets_faultless term_laws version all above section [] terms tail h fit formed declared since fresh = tt
+lets_faultless term_laws version all above section (sign ∷ signs) [] tail h fit formed declared since fresh = tt
+lets_faultless term_laws version all above section (sign ∷ signs) (term ∷ terms) tail h fit formed declared since fresh =
     let parts = and_parts (is_sign sign) (list_all is_sign signs) h in
     let fits = and_parts (is_term (sign, term)) (list_all is_term (zip signs terms)) fit in
-    let entry : Sign × Linear = (sign, term) in
+    let forms = and_parts (is_of_form version term) (list_all (is_of_form version) terms) formed in
+    let entry : Sign × Term = (sign, term) in
     let own = first_fresh (let_signs section) sign.name (map name_of_sign signs) 256 fresh in
     let since_more : since_algebra (above ++ let_declaration entry ∷ []) ≡ Some (section ++ let_declaration entry ∷ []) = since-append above (let_declaration entry) refl ∙ rw since refl in (
-      let_faultless all above (map let_declaration (zip signs terms) ++ tail) section entry (sign_parts sign parts.0) (term_known law entry parts.0 fits.0) declared.0 since own,
-      lets_faultless law all (above ++ let_declaration entry ∷ []) (section ++ let_declaration entry ∷ []) signs terms tail parts.1 fits.1 declared.1 since_more
+      let_faultless version all above (map let_declaration (zip signs terms) ++ tail) section entry (sign_parts sign parts.0)
+          (term_known term_laws version entry parts.0 fits.0 forms.0) declared.0 since own,
+      lets_faultless term_laws version all (above ++ let_declaration entry ∷ []) (section ++ let_declaration entry ∷ []) signs terms tail parts.1 fits.1 forms.1 declared.1 since_more
           (others_fresh let_sign_of section (let_declaration entry) sign.name (map name_of_sign signs) 256 refl fresh),
     )

@@ -3,7 +3,7 @@ use Rattle.std.proofs.Common.{◌≡◌, ℕ, ◌+◌, ◌^◌, ◌<◌, ◌≤�
 use Rattle.std.specs.List.{flat_map, AllByRecursion}
 use Rattle.adp_model.specs.declared.grammar.Kind.{Kind}
 use Rattle.adp_model.specs.declared.grammar.Sign.{Sign}
-use Rattle.adp_model.specs.declared.grammar.Linear.{Linear}
+use Rattle.adp_model.specs.declared.grammar.Term.{Term}
 use Rattle.job_texts.specs.Spelling.{separated, variables, term_text}
 use Rattle.job_texts.specs.LineTokens.{Token, Word, OpenBracket, CloseBracket, Comma, Equals}
 use Rattle.job_texts.specs.Declarations.{let_tokens}
@@ -13,7 +13,7 @@ use Rattle.spelled_texts.proofs.Numbers.{variable_is_word}
 use Rattle.spelled_texts.proofs.Contents.{let_content, let_declaration}
 use Rattle.spelled_texts.proofs.Joined.{Begins, comma_separates, joined_read}
 use Rattle.spelled_texts.proofs.SignLines.{IsSign}
-use Rattle.spelled_texts.proofs.Terms.{IsTerm, term_prints}
+use Rattle.spelled_texts.proofs.Terms.{IsTerm}
 use Rattle.spelled_texts.proofs.HeaderOf.{Declares, says_declaration}
 
 abbrev own_text : List ℕ → List ℕ
@@ -47,7 +47,7 @@ module _ (laws : TokenLaws) where
       joined_read own_text name_tokens (codes ", ") Comma (comma_separates laws) name names (names_begin (name ∷ names) are) (codes ") = " ++ rest) (CloseBracket ∷ Equals ∷ tokens) refl
       (mark_then laws 41 CloseBracket refl (space_then laws (mark_then laws 61 Equals refl (space_then laws reads))))
 
-  let_reads : (entry : Sign × Linear) (tokens : List Token) → IsSign entry.0 → Reads (term_text entry.1) tokens
+  let_reads : (entry : Sign × Term) (tokens : List Token) → IsSign entry.0 → Reads (term_text entry.1) tokens
       → Reads (let_content entry) (Word (codes "let") ∷ Word entry.0.name ∷ OpenBracket ∷ names_tokens (variables 1 entry.0.kinds) tokens)
   let_reads entry tokens is reads =
       let few = is.few in
@@ -69,7 +69,7 @@ names_print : (names : List (List ℕ)) → AllByRecursion IsWord names → AllB
 names_print [] are = tt
 names_print (name ∷ names) are = (word_prints name are.0, names_print names are.1)
 
-let_prints : (entry : Sign × Linear) → IsSign entry.0 → Prints (term_text entry.1) → Prints (let_content entry)
+let_prints : (entry : Sign × Term) → IsSign entry.0 → Prints (term_text entry.1) → Prints (let_content entry)
 let_prints entry is term =
     let few = is.few in
     prints-append
@@ -79,13 +79,13 @@ let_prints entry is term =
     (literal_prints (codes ") = ") refl))
     term
 
-pub let_line_declares : (laws : TokenLaws) (entry : Sign × Linear) → IsSign entry.0 → IsTerm entry → Declares (let_content entry) (let_declaration entry)
-let_line_declares laws entry is term =
-    let prints = let_prints entry is (term_prints entry term is.few) in
+pub let_line_declares : (laws : TokenLaws) (version : ℕ) (entry : Sign × Term) → IsSign entry.0 → IsTerm version entry → Declares version (let_content entry) (let_declaration entry)
+let_line_declares laws version entry is term =
+    let prints = let_prints entry is term.prints in
     let reads = let_reads laws entry term.text.tokens is term.text.reads in
     record {
       printable = prints.all;
-      says = says_declaration (let_content entry) _ (let_declaration entry) refl prints.all reads
-          (rw (some_names_back (variables 1 entry.0.kinds) term.text.tokens (some_variables 1 entry.0.kinds is.some), term.text.parts_are) refl);
+      says = says_declaration version (let_content entry) _ (let_declaration entry) refl prints.all reads
+          (rw (some_names_back (variables 1 entry.0.kinds) term.text.tokens (some_variables 1 entry.0.kinds is.some), term.text.spells) refl);
       other = rw reads.are refl;
     }

@@ -9,6 +9,7 @@ pub mod DeclaredNumbers
 pub mod DeclaredSigns
 pub mod DeclaredTerms
 pub mod Faultless
+pub mod Formats
 pub mod FreshNames
 pub mod GrammarLines
 pub mod GrammarParts

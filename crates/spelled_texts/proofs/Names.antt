@@ -77,7 +77,8 @@ not_before [] name later h = refl
 not_before (first ∷ earlier) name later h =
     let is = first_is_other first (earlier ++ name ∷ later) h in
     let behind : (is_among earlier first || is_among (name ∷ later) first) ≡ false = sym (among-append first earlier (name ∷ later)) ∙ is.other in
-    let differs : pointwise nat_eq name first ≡ false = (or_parts (pointwise nat_eq name first) (is_among later first) (or_parts (is_among earlier first) (is_among (name ∷ later) first) behind).1).0 in
+    let differs : pointwise nat_eq name first ≡ false = (or_parts (pointwise nat_eq name first) (is_among later first)
+    (or_parts (is_among earlier first) (is_among (name ∷ later) first) behind).1).0 in
     or_from (pointwise nat_eq first name) (is_among earlier name) (bytes_swapped first name ∙ differs) (not_before earlier name later is.distinct)
 
 place_of_name : (names : List (List ℕ)) (k : ℕ) (default : List ℕ) → are_distinct names ≡ true → k < length names → position_or_len (pointwise nat_eq (get_or names k default)) names ≡ k

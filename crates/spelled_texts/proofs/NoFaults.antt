@@ -9,9 +9,10 @@ use Rattle.adp_model.specs.Printable.{is_printable_byte}
 use Rattle.job_texts.specs.Declarations.{Declaration, Words, HeaderLine, Skipped, Says}
 use Rattle.job_texts.specs.DeclaredNames.{TextLines, header_at, form_of, form_at, declarations, above, below, is_algebra_line}
 use Rattle.job_texts.specs.TextFaults as faults
-use Rattle.job_texts.specs.TextFaults.{holds_of_form, is_words_line_number, misnames, misnumbers, repeats, misletters, is_misplaced, is_axiom_line, uses_unknown, misfits, Counted, limited, counts_of, counts_at, words_up_to, is_word_line, FaultKind, fault_kinds}
+use Rattle.job_texts.specs.TextFaults.{holds_of_form, is_words_line_number, misnames, misnumbers, repeats, misletters, is_misplaced, is_axiom_line, uses_unknown, misfits, is_twice, Counted, limited, counts_of, counts_at, words_up_to, is_word_line, FaultKind, fault_kinds}
+use Rattle.job_texts.specs.JobLines.{is_first_line}
 use Rattle.job_texts.specs.JobText.{fault_at, first_fault_at, first_fault}
-use Rattle.spelled_texts.proofs.HeaderOf.{framed, framed_text}
+use Rattle.spelled_texts.proofs.HeaderOf.{IsFormat, first_line, framed, framed_text}
 use Rattle.spelled_texts.proofs.Faultless.{is_over, crosses, lacks, IsFaultless, AreFaultless}
 
 -- ---- lists
@@ -65,12 +66,13 @@ good_at all earlier (declaration ∷ later) h (suc k) =
     subst (λ (l : List Declaration). IsGood all l (drop (suc k) later) (get_or (map Says later) k Skipped)) (append_assoc earlier (declaration ∷ []) (take k later))
     (good_at all (earlier ++ declaration ∷ []) later h.1 k)
 
-module _ (contents : List (List ℕ)) (declared : List Declaration) (words : List (List ℕ)) (as_many : length contents ≡ length declared) (few : length words ≤ 65536)
-    (printable : list_all (list_all is_printable_byte) (framed contents words) ≡ true) (faultless : AreFaultless (declared ++ Words ∷ []) [] (declared ++ Words ∷ []) [])
+module _ (version : ℕ) (format : IsFormat version) (contents : List (List ℕ)) (declared : List Declaration) (words : List (List ℕ)) (as_many : length contents ≡ length declared)
+    (few : length words ≤ 65536)
+    (printable : list_all (list_all is_printable_byte) (framed version contents words) ≡ true) (faultless : AreFaultless (declared ++ Words ∷ []) [] (declared ++ Words ∷ []) [])
     (some_axiom : list_any is_axiom_line (declared ++ Words ∷ []) ≡ true) (some_algebra : list_any is_algebra_line (declared ++ Words ∷ []) ≡ true)
   where
     abbrev text : TextLines
-    text = framed_text contents declared words
+    text = framed_text version contents declared words
 
     abbrev all : List Declaration
     all = declared ++ Words ∷ []
@@ -89,7 +91,8 @@ module _ (contents : List (List ℕ)) (declared : List Declaration) (words : Lis
         (subst (λ (l : List Declaration). IsGood all (take k all) l found) (sym below_is) (good_at all [] all faultless k))
 
     -- a test of what a line declares, which nothing without a fault passes
-    at_form : (line : ℕ) (test : Declaration → Bool) → ((declaration : Declaration) → IsFaultless all (above text line) declaration (below text line) → test declaration ≡ false) → holds_of_form test text line ≡ false
+    at_form : (line : ℕ) (test : Declaration → Bool) → ((declaration : Declaration) → IsFaultless all (above text line) declaration (below text line) → test declaration ≡ false)
+        → holds_of_form test text line ≡ false
     at_form line test none = step (good_line line)
       where
         step : IsGood all (above text line) (below text line) (header_at text line) → holds_of_form test text line ≡ false
@@ -137,7 +140,7 @@ module _ (contents : List (List ℕ)) (declared : List Declaration) (words : Lis
         step : (b : Bool) → is_word_line text line ≡ b → find is_over (cond (is_word_line text line) (limited (words_up_to text line) 65536 ∷ []) []) ≡ None
         step false e = rw e refl
         step true e =
-            let within : line ≤ length (framed contents words) = leb-true _ _ (and_parts (nat_lt 0 (words_up_to text line)) (nat_le line (length (framed contents words))) e).1 in
+            let within : line ≤ length (framed version contents words) = leb-true _ _ (and_parts (nat_lt 0 (words_up_to text line)) (nat_le line (length (framed version contents words))) e).1 in
             let count : line - (length declared + 2) ≤ 65536 = omega (arith, length-append contents (codes "words" ∷ words)) in
             rw (e, le-ltb 65536 (line - (length declared + 2)) count) refl
 
@@ -154,9 +157,9 @@ module _ (contents : List (List ℕ)) (declared : List Declaration) (words : Lis
     no_fault_at line =
         let none : find (λ (kind : FaultKind). kind.stands text line) fault_kinds ≡ None =
         find_none (λ (kind : FaultKind). kind.stands text line) fault_kinds (
-          and_right (line == 1) false refl,
+          and_right (line == 1) (not (is_first_line (first_line version))) (ap not format.first),
           (
-            ap not (kept_at (list_all is_printable_byte) ([] ∷ framed contents words) line [] printable refl),
+            ap not (kept_at (list_all is_printable_byte) ([] ∷ framed version contents words) line [] printable refl),
             (
               has_shape line,
               (
@@ -185,7 +188,10 @@ module _ (contents : List (List ℕ)) (declared : List Declaration) (words : Lis
                                       is_complete line,
                                       (
                                         is_few line,
-                                        tt,
+                                        (
+                                          at_form line is_twice (λ declaration is. is.once),
+                                          tt,
+                                        ),
                                       ),
                                     ),
                                   ),

@@ -1,7 +1,9 @@
 -- No kind of fault stands at the spelled lines of rules.
-use Rattle.std.proofs.Common.{◌≡◌, ℕ, ◌+◌, ◌≤◌, Bool, true, false, ◌==◌, Some, None, is_some, List, [], ◌∷◌, ◌++◌, length, map, refl, sym, ◌∙◌, eq-eqb}
+use Rattle.std.proofs.Common.{◌≡◌, ℕ, ◌+◌, ◌≤◌, Bool, true, false, ◌==◌, Option, Some, None, is_some, List, [], ◌∷◌, ◌++◌, length, map, refl, sym, ◌∙◌, eq-eqb}
 use Rattle.std.specs.List.{list_all, list_any, flat_map, zip, AllByRecursion}
-use Rattle.std.proofs.lemmas.Bool.{and_parts, le-ltb}
+use Rattle.std.specs.Option.{option_map, option_map_or}
+use Rattle.std.specs.Fmt.{decimal}
+use Rattle.std.proofs.lemmas.Bool.{and_parts, or_from, le-ltb}
 use Rattle.std.proofs.lemmas.List.{length-map}
 use Rattle.std.proofs.lemmas.List.Folds.{list_all-append}
 use Rattle.adp_model.specs.declared.grammar.Kind.{Kind}
@@ -9,16 +11,18 @@ use Rattle.adp_model.specs.declared.grammar.Kind.TheVariants as kinds
 use Rattle.adp_model.specs.declared.grammar.Arg.{Arg}
 use Rattle.adp_model.specs.declared.grammar.Arg.TheVariants as args
 use Rattle.adp_model.specs.declared.grammar.Alt.{Alt}
+use Rattle.adp_model.specs.declared.grammar.Size.{Size}
 use Rattle.adp_model.specs.declared.grammar.Rule as rules
 use Rattle.adp_model.specs.declared.grammar.Grammar.{Grammar}
 use Rattle.adp_model.specs.Parts.{sign_at}
 use Rattle.adp_model.specs.WellFormed.{is_name, is_sign, is_argument, is_rule}
-use Rattle.job_texts.specs.Declarations.{Alternative, Declaration}
+use Rattle.job_texts.specs.Declarations.{SizeWords, Declaration}
 use Rattle.job_texts.specs.DeclaredNames.{rule_name_of, rule_names}
-use Rattle.job_texts.specs.TextFaults.{bound_of, argument_names, alternative_names, argument_bounds, alternative_bounds, is_unknown_argument, is_unknown_alternative, fits_kind, fits_sign, has_crossed_bounds}
+use Rattle.job_texts.specs.TextFaults.{bound_of, argument_names, alternative_names, argument_bounds, alternative_bounds, is_unknown_argument, is_unknown_alternative, fits_kind, fits_sign, is_crossed_alternative, are_crossed, has_crossed_bounds, size_bounds}
 use Rattle.spelled_texts.proofs.Numbers.{bound_of_decimal}
-use Rattle.spelled_texts.proofs.Contents.{spelled_argument, spelled_alternative, rule_declaration}
+use Rattle.spelled_texts.proofs.Contents.{spelled_argument, spelled_size, spelled_alternative, rule_declaration}
 use Rattle.spelled_texts.proofs.SignLines.{sign_parts}
+use Rattle.spelled_texts.proofs.RuleLines.{IsHigh, IsSize}
 use Rattle.spelled_texts.proofs.GrammarParts.{IsFormed, IsArgument, Fits, FitsRule, rule_fits, rule_named, class_named, kept_in, name_of_rule}
 use Rattle.spelled_texts.proofs.Sorted.{all_declarations}
 use Rattle.spelled_texts.proofs.DeclaredSigns.{class_declared, rule_declared, sign_declared}
@@ -35,7 +39,8 @@ pub none_passes : {W X : Type 0} (test : X → Bool) (declare : W → X) (ws : L
 none_passes test declare [] h = refl
 none_passes test declare (w ∷ ws) h = rw (h.0, none_passes test declare ws h.1) refl
 
-all_parts_pass : {W X Y : Type 0} (test : Y → Bool) (parts : X → List Y) (declare : W → X) (ws : List W) → AllByRecursion (λ w. list_all test (parts (declare w)) ≡ true) ws → list_all test (flat_map parts (map declare ws)) ≡ true
+all_parts_pass : {W X Y : Type 0} (test : Y → Bool) (parts : X → List Y) (declare : W → X) (ws : List W) → AllByRecursion (λ w. list_all test (parts (declare w)) ≡ true) ws
+    → list_all test (flat_map parts (map declare ws)) ≡ true
 all_parts_pass test parts declare [] h = refl
 all_parts_pass test parts declare (w ∷ ws) h =
     list_all-append test (parts (declare w)) (flat_map parts (map declare ws)) ∙ rw (h.0, all_parts_pass test parts declare ws h.1) refl
@@ -56,7 +61,8 @@ fits_its_kind grammar kinds.Token (args.Literal text) h = refl
 fits_its_kind grammar kinds.Token (args.Letter class) h = refl
 fits_its_kind grammar kinds.Token (args.Run class low high) h = refl
 
-fit_their_kinds : (grammar : Grammar) (kinds : List Kind) (arguments : List Arg) → list_all (is_argument grammar) (zip kinds arguments) ≡ true → list_all fits_kind (zip kinds (map (spelled_argument grammar) arguments)) ≡ true
+fit_their_kinds : (grammar : Grammar) (kinds : List Kind) (arguments : List Arg) → list_all (is_argument grammar) (zip kinds arguments) ≡ true
+    → list_all fits_kind (zip kinds (map (spelled_argument grammar) arguments)) ≡ true
 fit_their_kinds grammar [] arguments h = refl
 fit_their_kinds grammar (kind ∷ kinds) [] h = refl
 fit_their_kinds grammar (kind ∷ kinds) (argument ∷ arguments) h =
@@ -65,6 +71,27 @@ fit_their_kinds grammar (kind ∷ kinds) (argument ∷ arguments) h =
 
 abbrev is_bound : List ℕ → Bool
 is_bound word = is_some (bound_of word)
+
+-- ---- sizes
+
+abbrev words_of_bounds : ℕ → Option ℕ → SizeWords
+words_of_bounds low high = record { low = decimal low; high = option_map decimal high }
+
+bounds_bounded : (low : ℕ) (high : Option ℕ) → low ≤ 1000000 → IsHigh low high → list_all is_bound (size_bounds (Some (words_of_bounds low high))) ≡ true
+bounds_bounded low None small is = rw (bound_of_decimal low small) refl
+bounds_bounded low (Some high) small is = rw (bound_of_decimal low small, bound_of_decimal high is.1) refl
+
+size_bounded : (size : Option Size) → IsSize size → list_all is_bound (size_bounds (option_map spelled_size size)) ≡ true
+size_bounded None is = refl
+size_bounded (Some size) is = bounds_bounded size.low size.high is.0 is.1
+
+bounds_uncrossed : (low : ℕ) (high : Option ℕ) → low ≤ 1000000 → IsHigh low high → are_crossed (decimal low) (option_map decimal high) ≡ false
+bounds_uncrossed low None small is = refl
+bounds_uncrossed low (Some high) small is = rw (bound_of_decimal low small, bound_of_decimal high is.1, le-ltb high low is.0) refl
+
+size_uncrossed : (size : Option Size) → IsSize size → option_map_or (λ (words : SizeWords). are_crossed words.low words.high) (option_map spelled_size size) false ≡ false
+size_uncrossed None is = refl
+size_uncrossed (Some size) is = bounds_uncrossed size.low size.high is.0 is.1
 
 module _ (grammar : Grammar) (formed : IsFormed grammar) where
   -- ---- arguments
@@ -92,8 +119,7 @@ module _ (grammar : Grammar) (formed : IsFormed grammar) where
   argument_uncrossed (args.Rule rule) is = refl
   argument_uncrossed (args.Literal text) is = refl
   argument_uncrossed (args.Letter class) is = refl
-  argument_uncrossed (args.Run class low None) is = refl
-  argument_uncrossed (args.Run class low (Some high)) is = rw (bound_of_decimal low is.1, bound_of_decimal high is.2.1, le-ltb high low is.2.0) refl
+  argument_uncrossed (args.Run class low high) is = bounds_uncrossed low high is.1 is.2
 
   -- ---- alternatives
 
@@ -108,15 +134,18 @@ module _ (grammar : Grammar) (formed : IsFormed grammar) where
 
   alternative_bounded : (alternative : Alt) → Fits grammar alternative → list_all is_bound (alternative_bounds (spelled_alternative grammar alternative)) ≡ true
   alternative_bounded alternative is =
-      all_parts_pass is_bound argument_bounds (spelled_argument grammar) alternative.args
-      (each_so (IsArgument grammar) (λ (argument : Arg). list_all is_bound (argument_bounds (spelled_argument grammar argument)) ≡ true) argument_bounded alternative.args is.arguments)
+      let arguments = all_parts_pass is_bound argument_bounds (spelled_argument grammar) alternative.args
+      (each_so (IsArgument grammar) (λ (argument : Arg). list_all is_bound (argument_bounds (spelled_argument grammar argument)) ≡ true) argument_bounded alternative.args is.arguments) in
+      list_all-append is_bound (flat_map argument_bounds (map (spelled_argument grammar) alternative.args)) (size_bounds (option_map spelled_size alternative.size))
+      ∙ rw (arguments, size_bounded alternative.size is.bounded) refl
 
   alternative_known : (alternative : Alt) → Fits grammar alternative → is_unknown_alternative (all_declarations grammar) (spelled_alternative grammar alternative) ≡ false
   alternative_known alternative is =
       rw (
         (sign_declared grammar formed alternative.sign is.known).among,
         none_passes (is_unknown_argument (all_declarations grammar)) (spelled_argument grammar) alternative.args
-            (each_so (IsArgument grammar) (λ (argument : Arg). is_unknown_argument (all_declarations grammar) (spelled_argument grammar argument) ≡ false) argument_known alternative.args is.arguments),
+            (each_so (IsArgument grammar) (λ (argument : Arg). is_unknown_argument (all_declarations grammar) (spelled_argument grammar argument) ≡ false)
+            argument_known alternative.args is.arguments),
       ) refl
 
   alternative_fits_sign : (alternative : Alt) → Fits grammar alternative → fits_sign (all_declarations grammar) (spelled_alternative grammar alternative) ≡ true
@@ -126,17 +155,16 @@ module _ (grammar : Grammar) (formed : IsFormed grammar) where
       let as_many : (length kinds == length (map (spelled_argument grammar) alternative.args)) ≡ true = eq-eqb _ _ (simp length-map (sym counted)) in
       rw ((sign_declared grammar formed alternative.sign is.known).kinds, as_many, fit_their_kinds grammar kinds alternative.args is.fit) refl
 
-  abbrev has_crossed_run : Alternative → Bool
-  has_crossed_run alternative = list_any has_crossed_bounds alternative.arguments
-
-  alternative_uncrossed : (alternative : Alt) → Fits grammar alternative → has_crossed_run (spelled_alternative grammar alternative) ≡ false
+  alternative_uncrossed : (alternative : Alt) → Fits grammar alternative → is_crossed_alternative (spelled_alternative grammar alternative) ≡ false
   alternative_uncrossed alternative is =
-      none_passes has_crossed_bounds (spelled_argument grammar) alternative.args
-      (each_so (IsArgument grammar) (λ (argument : Arg). has_crossed_bounds (spelled_argument grammar argument) ≡ false) argument_uncrossed alternative.args is.arguments)
+      let arguments = none_passes has_crossed_bounds (spelled_argument grammar) alternative.args
+      (each_so (IsArgument grammar) (λ (argument : Arg). has_crossed_bounds (spelled_argument grammar argument) ≡ false) argument_uncrossed alternative.args is.arguments) in
+      or_from _ _ arguments (size_uncrossed alternative.size is.bounded)
 
   -- ---- rules
 
-  rule_faultless : (above below : List Declaration) (rule : rules.Rule) → FitsRule grammar rule → IsFresh (rule_names above) rule.name 128 → IsFaultless (all_declarations grammar) above (rule_declaration grammar rule) below
+  rule_faultless : (above below : List Declaration) (rule : rules.Rule) → FitsRule grammar rule → IsFresh (rule_names above) rule.name 128
+      → IsFaultless (all_declarations grammar) above (rule_declaration grammar rule) below
   rule_faultless above below rule is fresh =
       let all = all_declarations grammar in
       let spell = spelled_alternative grammar in
@@ -149,8 +177,8 @@ module _ (grammar : Grammar) (formed : IsFormed grammar) where
       (each_so (Fits grammar) (λ (alternative : Alt). is_unknown_alternative all (spell alternative) ≡ false) alternative_known rule.alts is.each) in
       let fit = all_pass (fits_sign all) spell rule.alts
       (each_so (Fits grammar) (λ (alternative : Alt). fits_sign all (spell alternative) ≡ true) alternative_fits_sign rule.alts is.each) in
-      let uncrossed = none_passes has_crossed_run spell rule.alts
-      (each_so (Fits grammar) (λ (alternative : Alt). has_crossed_run (spell alternative) ≡ false) alternative_uncrossed rule.alts is.each) in
+      let uncrossed = none_passes is_crossed_alternative spell rule.alts
+      (each_so (Fits grammar) (λ (alternative : Alt). is_crossed_alternative (spell alternative) ≡ false) alternative_uncrossed rule.alts is.each) in
       record {
         named = rw (is.named, named) refl;
         numbered = rw bounded refl;
@@ -163,6 +191,7 @@ module _ (grammar : Grammar) (formed : IsFormed grammar) where
         uncrossed = uncrossed;
         complete = refl;
         counted = rw (le-ltb 128 (length (rule_names above) + 1) fresh.few, le-ltb 64 (length (map spell rule.alts)) few) refl;
+        once = refl;
       }
 
   pub rules_faultless : (above : List Declaration) (rules : List rules.Rule) (tail : List Declaration) → list_all (is_rule grammar) rules ≡ true

@@ -27,6 +27,7 @@ sign_faultless all above below sign h fresh =
       uncrossed = refl;
       complete = refl;
       counted = rw (le-ltb 256 (length (sign_names above) + 1) fresh.few, le-ltb 4 (length sign.kinds) is.few) refl;
+      once = refl;
     }
 
 pub signs_faultless : (all above : List Declaration) (signs : List Sign) (tail : List Declaration) → list_all is_sign signs ≡ true

@@ -1,5 +1,5 @@
 -- The spelled line of a sign declares it.
-use Rattle.std.proofs.Common.{◌≡◌, ◌≤◌, true, ◌&&◌, nat_le, codes, Some, List, [], ◌∷◌, ◌++◌, length, refl, append_assoc, arith, leb-true}
+use Rattle.std.proofs.Common.{◌≡◌, ℕ, ◌≤◌, true, ◌&&◌, nat_le, codes, Some, List, [], ◌∷◌, ◌++◌, length, refl, append_assoc, arith, leb-true}
 use Rattle.std.specs.List.{flat_map, AllByRecursion}
 use Rattle.std.proofs.lemmas.Bool.{and_parts}
 use Rattle.adp_model.specs.declared.grammar.Kind.{Kind}
@@ -77,13 +77,13 @@ sign_prints sign is =
     (prints_joined kind_text (codes ", ") (literal_prints (codes ", ") refl) sign.kinds (kinds_print sign.kinds)))
     (literal_prints (codes ")") refl)
 
-pub sign_line_declares : (laws : TokenLaws) (sign : Sign) → is_sign sign ≡ true → Declares (sign_content sign) (sign_declaration sign)
-sign_line_declares laws sign h =
+pub sign_line_declares : (laws : TokenLaws) (version : ℕ) (sign : Sign) → is_sign sign ≡ true → Declares version (sign_content sign) (sign_declaration sign)
+sign_line_declares laws version sign h =
     let is = sign_parts sign h in
     let prints = sign_prints sign is in
     let reads = sign_reads laws sign is in
     record {
       printable = prints.all;
-      says = says_declaration (sign_content sign) _ (sign_declaration sign) refl prints.all reads (rw (some_kinds_back sign.kinds is.some) refl);
+      says = says_declaration version (sign_content sign) _ (sign_declaration sign) refl prints.all reads (rw (some_kinds_back sign.kinds is.some) refl);
       other = rw reads.are refl;
     }

@@ -5,7 +5,7 @@ ghost use Rattle.adp_model.specs.declared.job.Job.{Job};
 ghost use Rattle.job_texts.specs.JobText.{IsText};
 ghost use Rattle.job_texts.specs.Spelling.{spelling};
 
-use algebra_terms::laws::spelled_terms_are_read;
+use algebra_terms::laws::{spelled_terms_are_read, spelled_wide_terms_are_read};
 use job_texts::laws::{
     dots_are_tokens, marks_are_tokens, quoted_texts_are_tokens, spaces_are_no_tokens,
     words_are_tokens,
@@ -21,4 +21,5 @@ pub fn spellings_are_read_back()
     dots_are_tokens();
     quoted_texts_are_tokens();
     spelled_terms_are_read();
+    spelled_wide_terms_are_read();
 }

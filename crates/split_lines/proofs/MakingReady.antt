@@ -2,21 +2,25 @@
 use Rattle.std.proofs.Common.{◌≡◌, ℕ, zero, suc, ◌+◌, ◌-◌, ◌<◌, ◌≤◌, Some, List, [], ◌∷◌, ◌++◌, length, take, drop, map, slice_get, true, false, refl, sym, ap, subst, ◌∙◌, arith, length-take, length-drop}
 use Rattle.std.specs.Prelude.{IfSome}
 use Rattle.std.specs.List.{AllByRecursion}
-use Rattle.std.proofs.lemmas.List.{length-map, take-append-drop}
+use Rattle.std.proofs.lemmas.List.{length-map, take-append-drop, take-take}
 use Rattle.std.proofs.Math.Seq.{take-add}
 use Rattle.adp_model.specs.declared.grammar.Arg.{Arg}
 use Rattle.adp_model.specs.declared.grammar.Arg.TheVariants.{Literal}
+use Rattle.adp_model.specs.declared.grammar.Term.{Term}
 use Rattle.adp_model.specs.PosedProblem.{PosedProblem}
-use Rattle.adp_model.specs.Parts.{algebra_of, arguments_of, term_of}
+use Rattle.adp_model.specs.Parts.{algebra_of, alternative_at, arguments_of, term_of}
 use Rattle.adp_model.specs.WellFormed.{IsKnown}
 use Rattle.viable_splits.specs.Placing.{Cover}
 use Rattle.split_lines.specs.declared.kept.KeptAlternative.{KeptAlternative}
+use Rattle.split_lines.specs.declared.kept.WeightedSum.{WeightedSum}
 use Rattle.score_numbers.specs.Worthless.{AreWorthless}
-use Rattle.split_lines.specs.Kept.{AreOneLetter, AreOneOfClass, BeginWith, IsAlternative, factors_behind}
+use Rattle.split_lines.specs.Kept.{AreOneLetter, AreOneOfClass, BeginWith, HasLengths, IsAlternative, IsScored, IsSummed, factors_behind, factors_in_front}
 use Rattle.split_lines.specs.Laid.{IsFixed}
 use Rattle.split_lines.specs.Matching.{HaveLetters}
 use Rattle.score_numbers.specs.Turned.{turned}
-use Rattle.split_lines.proofs.TurnedTerms.{scored_by_turned}
+use Rattle.term_values.specs.declared.lowering.LinearForm.{LinearForm}
+use Rattle.term_values.specs.Lowering.{IsLowered}
+use Rattle.split_lines.proofs.TurnedTerms.{FurtherAddNothing, scored_by_turned}
 use Rattle.split_lines.proofs.Lists.{all_front, all_back, slice_get-drop, empty_without}
 
 -- ---- the first letter
@@ -67,17 +71,13 @@ letter_covers p tokens letter from begin alone stands =
 -- the arguments up to this number stand in front
 pub alternative_kept : (p : PosedProblem) (rule alternative : ℕ) (kept : KeptAlternative) (all : List Arg) (n : ℕ)
     → all ≡ arguments_of p.grammar rule alternative → length all ≤ 4 → AllByRecursion (IsKnown p.grammar) all → n ≤ length all → AllByRecursion IsFixed (take n all) → kept.front.now ≡ take n all → kept.others.now ≡ drop n all
-    → HaveLetters p kept.front.now kept.letters → IfSome kept.first (BeginWith kept.front.now) → (kept.alone ≡ true → AreOneLetter kept.front.now) → IfSome kept.class (AreOneOfClass kept.front.now) → kept.constant ≡ turned (algebra_of p).goal (term_of p rule alternative).constant
-    → length (term_of p rule alternative).factors ≡ length all → take (length (term_of p rule alternative).factors) kept.factors ≡ map (turned (algebra_of p).goal) (term_of p rule alternative).factors
-    → (kept.weighs ≡ false → AreWorthless kept.front.now (take n kept.factors)) → IsAlternative p rule alternative kept
-alternative_kept p rule alternative kept all n all_is few known within fixed front_is others_is letters first alone class constant each factors worthless =
+    → HaveLetters p kept.front.now kept.letters → IfSome kept.first (BeginWith kept.front.now) → (kept.alone ≡ true → AreOneLetter kept.front.now) → IfSome kept.class (AreOneOfClass kept.front.now)
+    → HasLengths (alternative_at p.grammar rule alternative) kept.lengths → IsScored p rule alternative kept kept.scoring → IsAlternative p rule alternative kept
+alternative_kept p rule alternative kept all n all_is few known within fixed front_is others_is letters first alone class lengths scored =
     let K : List Arg → Type 0 = AllByRecursion (IsKnown p.grammar) in
     let parted : K (take n all ++ drop n all) = subst K (sym (take-append-drop n all)) known in
     let front_long : length kept.front.now ≡ n = omega (arith, ap length front_is, length-take n all) in
     let others_long : length kept.front.now + length kept.others.now ≡ length all = omega (arith, front_long, ap length others_is, length-drop n all) in
-    let long : length (term_of p rule alternative).factors ≡ length kept.front.now + length kept.others.now = each ∙ sym others_long in
-    let all_there : length (term_of p rule alternative).factors ≤ length kept.factors =
-    omega (arith, length-take (length (term_of p rule alternative).factors) kept.factors, ap length factors, length-map (term_of p rule alternative).factors (turned (algebra_of p).goal)) in
     record {
       arguments = sym all_is ∙ sym (take-append-drop n all) ∙ (λ i. sym front_is i ++ sym others_is i);
       few = omega (arith, few, others_long);
@@ -90,8 +90,30 @@ alternative_kept p rule alternative kept all n all_is few known within fixed fro
         class = class;
       };
       others_known = subst K (sym others_is) (all_back (IsKnown p.grammar) (take n all) (drop n all) parted);
-      scored = scored_by_turned p rule alternative kept.constant (take (length kept.front.now) kept.factors ++ factors_behind kept) constant
-          (sym factors ∙ ap (λ m. take m kept.factors) long ∙ take-add (length kept.front.now) (length kept.others.now) kept.factors) (each ∙ ap length all_is);
-      front_each = omega (arith, long, all_there, length-take (length kept.front.now) kept.factors);
-      worthless = λ none. subst (λ m. AreWorthless kept.front.now (take m kept.factors)) (sym front_long) (worthless none);
+      lengths = lengths;
+      scored = scored;
+    }
+
+-- the sum that its term is lowered to, turned, scores an alternative
+pub alternative_summed : FurtherAddNothing → (p : PosedProblem) (rule alternative : ℕ) (kept : KeptAlternative) (sum : WeightedSum) (term : Term) (lowered : LinearForm) (all : List Arg) (n : ℕ)
+    → all ≡ arguments_of p.grammar rule alternative → length all ≤ length lowered.factors → n ≤ length all → kept.front.now ≡ take n all → kept.others.now ≡ drop n all
+    → term ≡ term_of p rule alternative → IsLowered term lowered
+    → sum.constant ≡ turned (algebra_of p).goal lowered.constant → take (length lowered.factors) sum.factors ≡ map (turned (algebra_of p).goal) lowered.factors
+    → (sum.weighs ≡ false → AreWorthless kept.front.now (take (length kept.front.now) sum.factors)) → IsSummed p rule alternative kept sum
+alternative_summed law p rule alternative kept sum term lowered all n all_is enough within front_is others_is term_is is constant factors worthless =
+    let goal = (algebra_of p).goal in
+    let count = length (arguments_of p.grammar rule alternative) in
+    let front_long : length kept.front.now ≡ n = omega (arith, ap length front_is, length-take n all) in
+    let others_long : length kept.front.now + length kept.others.now ≡ length all = omega (arith, front_long, ap length others_is, length-drop n all) in
+    let counted : count ≡ length kept.front.now + length kept.others.now = sym (ap length all_is) ∙ sym others_long in
+    let all_there : length lowered.factors ≤ length sum.factors =
+    omega (arith, length-take (length lowered.factors) sum.factors, ap length factors, length-map lowered.factors (turned goal)) in
+    let few : count ≤ length lowered.factors = omega (arith, enough, ap length all_is) in
+    let taken : take count (map (turned goal) lowered.factors) ≡ factors_in_front kept sum ++ factors_behind kept sum =
+    ap (take count) (sym factors) ∙ take-take count (length lowered.factors) sum.factors few ∙ ap (λ m. take m sum.factors) counted
+    ∙ take-add (length kept.front.now) (length kept.others.now) sum.factors in
+    record {
+      scored = scored_by_turned law p rule alternative sum.constant (factors_in_front kept sum ++ factors_behind kept sum) term lowered term_is is constant taken few;
+      front_each = omega (arith, enough, others_long, all_there, length-take (length kept.front.now) sum.factors);
+      worthless = worthless;
     }

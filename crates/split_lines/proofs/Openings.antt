@@ -10,7 +10,7 @@ use Rattle.adp_model.specs.Splits.{ends_by, place, FitsSpan, IsViable}
 use Rattle.viable_splits.specs.Placing.{Cover}
 use Rattle.split_lines.specs.declared.kept.KeptAlternative.{KeptAlternative}
 use Rattle.split_lines.specs.Ends.{IsFrontTold}
-use Rattle.split_lines.specs.Kept.{AreInFront}
+use Rattle.split_lines.specs.Kept.{AreInFront, IsAlternative}
 use Rattle.split_lines.specs.Ways.{MaySpan, IsClosed, IsOpening}
 use Rattle.split_lines.proofs.Dividing.{cover_forward, cover_parts}
 use Rattle.split_lines.proofs.Lists.{empty_without}
@@ -42,35 +42,42 @@ module _ (p : PosedProblem) where
 
 module _ (p : PosedProblem) (kept : KeptAlternative) (in_front : AreInFront p kept) (cell : Cell)
     (some : (alternative : ℕ) → alternative < length (alternatives_of p.grammar cell.rule) → 1 ≤ length (arguments_of p.grammar cell.rule alternative)) where
-  closed_without : (Cover p (kept.front.now ++ kept.others.now) cell.from cell.to → ⊥) → IsClosed p kept cell
-  closed_without none alternative cuts is viable =
+  cover_here : (alternative : ℕ) (cuts : List ℕ) → IsAlternative p cell.rule alternative kept → IsViable p cell alternative cuts → Cover p (kept.front.now ++ kept.others.now) cell.from cell.to
+  cover_here alternative cuts is viable =
       let count = ap length is.arguments in
       let first = some alternative viable.in_range in
-      none (cover_of_viable p cell alternative cuts (kept.front.now ++ kept.others.now) is.arguments
-      (omega (arith, count, first)) (omega (arith, length-append kept.front.now kept.others.now, is.few)) viable)
+      cover_of_viable p cell alternative cuts (kept.front.now ++ kept.others.now) is.arguments
+      (omega (arith, count, first)) (omega (arith, length-append kept.front.now kept.others.now, is.few)) viable
 
-  -- arguments of fixed length have no other length
-  pub closed_at_other_lengths : (MaySpan kept cell.from cell.to → ⊥) → IsClosed p kept cell
-  closed_at_other_lengths other =
-      closed_without (λ cover.
-      let parts = cover_parts p kept.front.now kept.others.now cell.from cell.to cover in
-      other (λ none.
-      let last : parts.0 ≡ cell.to = subst (λ others. Cover p others parts.0 cell.to) (empty_without kept.others.now none) parts.2 in
-      sym last ∙ in_front.letters cell.from parts.0 parts.1))
+  closed_without : (Cover p (kept.front.now ++ kept.others.now) cell.from cell.to → ⊥) → IsClosed p kept cell
+  closed_without none alternative cuts is viable = none (cover_here alternative cuts is viable)
+
+  -- an alternative has no length but those that it allows, and arguments of fixed length have no other length
+  pub closed_at_other_lengths : cell.to ≤ 4000 → (MaySpan kept cell.from cell.to → ⊥) → IsClosed p kept cell
+  closed_at_other_lengths short other alternative cuts is viable =
+      let few : cell.to - cell.from ≤ 4000 = omega arith in
+      let parts = cover_parts p kept.front.now kept.others.now cell.from cell.to (cover_here alternative cuts is viable) in
+      other (
+        (is.lengths (cell.to - cell.from) few).0 viable.allowed,
+        λ none.
+            let last : parts.0 ≡ cell.to = subst (λ others. Cover p others parts.0 cell.to) (empty_without kept.others.now none) parts.2 in
+            sym last ∙ in_front.letters cell.from parts.0 parts.1,
+      )
 
   -- where the tokens in front end tells the rest
-  pub opened_by_front : MaySpan kept cell.from cell.to → (found : Option ℕ) → IsFrontTold p kept.front.now cell.from cell.to found → MatchOption found (IsClosed p kept cell) (IsOpening p kept cell)
-  opened_by_front may None told =
+  pub opened_by_front : cell.to ≤ 4000 → MaySpan kept cell.from cell.to → (found : Option ℕ) → IsFrontTold p kept.front.now cell.from cell.to found → MatchOption found (IsClosed p kept cell) (IsOpening p kept cell)
+  opened_by_front short may None told =
       closed_without (λ cover.
       let parts = cover_parts p kept.front.now kept.others.now cell.from cell.to cover in
       let e = (told parts.0).1 (cover_forward p kept.others.now parts.0 cell.to parts.2, parts.1) in
       absurd cc)
-  opened_by_front may (Some end) told =
+  opened_by_front short may (Some end) told =
       let there = (told end).0 refl in
       let letters = in_front.letters cell.from end there.1 in
       record {
+        allowed = λ alternative is. let few : cell.to - cell.from ≤ 4000 = omega arith in (is.lengths (cell.to - cell.from) few).1 may.0;
         within = there.0;
         covers = there.1;
         only = λ other covers. in_front.letters cell.from other covers ∙ sym letters;
-        whole = λ none. letters ∙ sym (may none);
+        whole = λ none. letters ∙ sym (may.1 none);
       }

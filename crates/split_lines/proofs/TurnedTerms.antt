@@ -1,15 +1,17 @@
 -- The score of a split, turned, is the turned constant and each turned factor times its value, added up.
-use Rattle.std.proofs.Common.{◌≡◌, ℕ, zero, suc, negsuc, ◌*◌, ℤ, pos, neg_ℤ, ◌+ℤ◌, ◌*ℤ◌, nat_abs, List, [], ◌∷◌, length, map, refl, sym, ap, subst, ◌∙◌, arith}
+use Rattle.std.proofs.Common.{◌≡◌, ℕ, zero, suc, negsuc, ◌*◌, ℤ, pos, neg_ℤ, ◌+ℤ◌, ◌*ℤ◌, nat_abs, List, [], ◌∷◌, length, take, map, refl, sym, ap, subst, ◌∙◌, ◌+◌, ◌≤◌, arith, length-take}
 use Rattle.std.proofs.lemmas.Int.{ints}
 use Rattle.std.proofs.lemmas.List.{length-map}
 use Rattle.std.proofs.Math.IntN.{neg_ℤ-neg_ℤ, zero-*ℤ}
 use Rattle.adp_model.specs.declared.grammar.Goal.{Goal}
 use Rattle.adp_model.specs.declared.grammar.Goal.TheVariants.{Least, Greatest}
-use Rattle.adp_model.specs.declared.grammar.Linear.{Linear}
+use Rattle.adp_model.specs.declared.grammar.Term.{Term}
 use Rattle.adp_model.specs.PosedProblem.{PosedProblem}
 use Rattle.adp_model.specs.Parts.{algebra_of, arguments_of, term_of}
-use Rattle.adp_model.specs.Terms.{weighted_sum, weighted_total}
+use Rattle.adp_model.specs.Terms.{magnitude, term_value, weighted_sum, weighted_total}
 use Rattle.score_numbers.specs.Turned.{turned}
+use Rattle.term_values.specs.declared.lowering.LinearForm.{LinearForm}
+use Rattle.term_values.specs.Lowering.{IsLowered}
 use Rattle.split_lines.specs.Kept.{IsScoredBy}
 
 turned_low : (goal : Goal) (number : ℤ) → nat_abs (turned goal number) ≡ nat_abs number
@@ -46,20 +48,39 @@ turned_total goal [] numbers = refl
 turned_total goal (factor ∷ factors) [] = refl
 turned_total goal (factor ∷ factors) (number ∷ numbers) = rw (turned_low goal factor, turned_total goal factors numbers)
 
--- a term's constant and its factors, turned, score its alternatives
-pub scored_by_turned : (p : PosedProblem) (rule alternative : ℕ) (constant : ℤ) (factors : List ℤ)
-    → constant ≡ turned (algebra_of p).goal (term_of p rule alternative).constant
-    → map (turned (algebra_of p).goal) (term_of p rule alternative).factors ≡ factors
-    → length (term_of p rule alternative).factors ≡ length (arguments_of p.grammar rule alternative)
+-- factors behind those of the values that there are add nothing
+pub record FurtherAddNothing : Type 0 where
+  pub sums : (factors values : List ℤ) → weighted_sum (take (length values) factors) values ≡ weighted_sum factors values
+  pub totals : (factors : List ℤ) (numbers : List ℕ) → weighted_total (take (length numbers) factors) numbers ≡ weighted_total factors numbers
+
+-- the constant and the factors that a term is lowered to, turned, score its alternatives
+pub scored_by_turned : FurtherAddNothing → (p : PosedProblem) (rule alternative : ℕ) (constant : ℤ) (factors : List ℤ) (term : Term) (lowered : LinearForm)
+    → term ≡ term_of p rule alternative → IsLowered term lowered
+    → constant ≡ turned (algebra_of p).goal lowered.constant
+    → take (length (arguments_of p.grammar rule alternative)) (map (turned (algebra_of p).goal) lowered.factors) ≡ factors
+    → length (arguments_of p.grammar rule alternative) ≤ length lowered.factors
     → IsScoredBy p rule alternative constant factors
-scored_by_turned p rule alternative constant factors constant_is factors_are each =
+scored_by_turned law p rule alternative constant factors term lowered term_is is constant_is factors_are enough =
     let goal = (algebra_of p).goal in
-    let term : Linear = term_of p rule alternative in
-    let size = turned_low goal term.constant in
-    let turned_scored : IsScoredBy p rule alternative (turned goal term.constant) (map (turned goal) term.factors) = record {
-      each = length-map term.factors (turned goal) ∙ each;
-      value = λ values long. turned_sum goal term.constant (weighted_sum term.factors values) ∙ ap (λ it. turned goal term.constant +ℤ it) (turned_weighted goal term.factors values);
-      low = λ numbers long. let same = turned_total goal term.factors numbers in omega arith;
+    let count = length (arguments_of p.grammar rule alternative) in
+    let all = map (turned goal) lowered.factors in
+    let size = turned_low goal lowered.constant in
+    let long : length (take count all) ≡ count = omega (arith, enough, length-take count all, length-map lowered.factors (turned goal)) in
+    let V : Term → List ℤ → Type 0 = λ it values. turned goal (term_value it values) ≡ (turned goal lowered.constant +ℤ weighted_sum (take count all) values) in
+    let M : Term → List ℕ → Type 0 = λ it numbers. nat_abs (turned goal lowered.constant) + weighted_total (take count all) numbers ≤ magnitude it numbers in
+    let sum_is : (values : List ℤ) → length values ≡ count → weighted_sum all values ≡ weighted_sum (take count all) values =
+    λ values many. sym (law.sums all values) ∙ ap (λ n. weighted_sum (take n all) values) many in
+    let turned_scored : IsScoredBy p rule alternative (turned goal lowered.constant) (take count all) = record {
+      each = long;
+      value = λ values many.
+          subst (λ it. V it values) term_is
+          (ap (turned goal) (is.value values) ∙ turned_sum goal lowered.constant (weighted_sum lowered.factors values)
+          ∙ ap (λ it. turned goal lowered.constant +ℤ it) (turned_weighted goal lowered.factors values ∙ sum_is values many));
+      low = λ numbers many.
+          let total_is : weighted_total (take count all) numbers ≡ weighted_total lowered.factors numbers =
+          ap (λ n. weighted_total (take n all) numbers) (sym many) ∙ law.totals all numbers ∙ turned_total goal lowered.factors numbers in
+          let low = is.low numbers in
+          subst (λ it. M it numbers) term_is (omega arith);
     } in
     subst (λ (c : ℤ). IsScoredBy p rule alternative c factors) (sym constant_is)
-    (subst (λ (fs : List ℤ). IsScoredBy p rule alternative (turned goal term.constant) fs) factors_are turned_scored)
+    (subst (λ (fs : List ℤ). IsScoredBy p rule alternative (turned goal lowered.constant) fs) factors_are turned_scored)

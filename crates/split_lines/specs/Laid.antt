@@ -1,11 +1,13 @@
 -- The arguments of an alternative, laid one behind the other from one position of the word to another, and the cells
 -- that they demand there.
-use Rattle.std.specs.Prelude.{◌≡◌, ◌↔◌, ℕ, ◌+◌, ◌<◌, ◌⊎◌, List, [], ◌∷◌, ◌++◌, length}
+use Rattle.std.specs.Prelude.{◌≡◌, ◌↔◌, ℕ, ◌+◌, ◌-◌, ◌<◌, ◌⊎◌, List, [], ◌∷◌, ◌++◌, length}
 use Rattle.std.specs.List.{AllAdjacentBelow, AllByRecursion, Contains}
 use Rattle.adp_model.specs.declared.grammar.Arg.{Arg}
 use Rattle.adp_model.specs.declared.grammar.Arg.TheVariants.{Rule, Literal, Letter, Run}
 use Rattle.adp_model.specs.declared.cell.Cell.{Cell}
 use Rattle.adp_model.specs.PosedProblem.{PosedProblem}
+use Rattle.adp_model.specs.Lengths.{AllowsLength}
+use Rattle.adp_model.specs.Parts.{alternative_at, arguments_of}
 use Rattle.adp_model.specs.Splits.{FitsSpan}
 use Rattle.viable_splits.specs.Placing.{on_span, Cover}
 
@@ -21,6 +23,12 @@ Demands p [] from to cell = ⊥
 Demands p (argument ∷ arguments) from to cell =
     (end : ℕ) × FitsSpan p (on_span argument from end)
     × ((IsCellOf argument from end cell × Cover p arguments end to) ⊎ Demands p arguments end to cell)
+
+-- the alternative may be used on the cell, and its arguments demand the child there
+abbrev pub DemandsBy : PosedProblem → Cell → ℕ → Cell → Type 0
+DemandsBy p cell alternative child =
+    AllowsLength (alternative_at p.grammar cell.rule alternative) (cell.to - cell.from)
+    × Demands p (arguments_of p.grammar cell.rule alternative) cell.from cell.to child
 
 -- a token of fixed length
 abbrev pub IsFixed : Arg → Type 0

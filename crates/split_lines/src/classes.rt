@@ -98,6 +98,10 @@ impl<'a> Model for ClassTables<'a> {
     ghost Value = { PosedProblem };
 
     ghost use Rattle.split_lines.specs.ClassFields.{AreAllTables};
+    ghost use Rattle.adp_model.specs.WideForm.{form_code};
+    ghost use Rattle.std.specs.Coded.{codes};
+
+    ghost coded = { Prim.hlevel (codes, form_code) };
 
     ghost view = { λ tables. tables.problem.now };
 

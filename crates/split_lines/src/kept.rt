@@ -1,23 +1,28 @@
 //! Alternatives, made ready for the cells of their rules.
 
-ghost use Rattle.std.specs.Prelude.{◌≡◌, ◌↔◌, ℕ, ◌+◌, ◌<◌, ◌≤◌, IfSome, IsTrue, MatchOption, Some, [], ◌∷◌, drop, length, slice_get, take};
+ghost use Rattle.std.specs.Prelude.{◌≡◌, ◌↔◌, ℕ, ◌+◌, ◌<◌, ◌≤◌, false, IfSome, IsTrue, MatchOption, Some, pos, nat_abs, [], ◌∷◌, drop, length, map, slice_get, slice_index_or, take};
 ghost use Rattle.std.specs.Bool.{OnTrue};
 ghost use Rattle.std.specs.List.{AllByRecursion};
 ghost use Rattle.adp_model.specs.declared.grammar.Arg.TheVariants.{Letter};
 ghost use Rattle.adp_model.specs.PosedProblem.{IsSpan};
 ghost use Rattle.adp_model.specs.Parts.{alternatives_of};
+ghost use Rattle.adp_model.specs.ProblemFields.{greatest_score, most_letters};
 ghost use Rattle.viable_splits.specs.Placing.{Cover};
+ghost use Rattle.score_numbers.specs.Turned.{turned};
+ghost use Rattle.score_numbers.specs.Worthless.{AreWorthless};
 ghost use Rattle.split_lines.specs.Laid.{IsFixed};
-ghost use Rattle.split_lines.specs.Kept.{AreInFront, AreOneLetter, AreOneOfClass, BeginWith, IsAlternative, factors_behind};
-ghost use Rattle.split_lines.specs.Ways.{MaySpan, IsClosed, IsOpening};
+ghost use Rattle.split_lines.specs.Kept.{AreInFront, AreOneLetter, AreOneOfClass, BeginWith, HasLengths, IsAlternative, IsAmong, factors_behind, factors_in_front};
+ghost use Rattle.split_lines.specs.Ways.{MayFill, MaySpan, IsClosed, IsOpening};
 
 use crate::classes::ClassTables;
 use crate::lines::KeptLine;
 use crate::matches::{covers, fixed_letters};
 use crate::tokens::is_fixed;
-use adp_model::laws::well_formed::{alternatives_fit, terms_fit_their_alternatives};
-use adp_model::{Arg, Cell, Problem};
+use adp_model::laws::well_formed::alternatives_fit;
+use adp_model::{Alt, Arg, Cell, Goal, MOST_LETTERS, Problem, Term};
 use score_numbers::{are_worthless, turned, turned_factors};
+use term_values::laws::further_factors_add_nothing;
+use term_values::{LinearForm, lowered};
 use viable_splits::Matcher;
 
 /// An alternative as it is kept: most spans are refused by the tokens before its first argument of open length.
@@ -35,43 +40,89 @@ pub struct KeptAlternative<'a> {
     pub alone: bool,
     /// The class of the letter that they are, where they are one letter of a class and nothing more.
     pub class: Option<u32>,
-    /// Whether they may add something to a total.
-    pub weighs: bool,
-    /// What is added to the total of the arguments of a split: the score, turned, is their sum.
-    pub constant: i64,
-    /// The factor of each argument in the total; behind them stands 0.
-    pub factors: [i64; 4],
+    /// How its splits are scored.
+    pub scoring: Scoring<'a>,
+    /// The lengths that the alternative allows.
+    pub lengths: Lengths,
     /// The line of all the arguments.
     pub line: Option<KeptLine>,
 }
 
-impl KeptAlternative<'_> {
-    /// Whether the alternative may have as many letters as lie between the two positions, as far as lengths alone tell:
-    /// where all its arguments have fixed length, it has theirs and no other number.
-    #[inline(always)]
-    fn may_span(&self, from: u16, to: u16) -> bool
-        ensures { IsTrue result ↔ MaySpan self.now from to }
-    {
-        !self.others.is_empty() || from as usize + self.letters as usize == to as usize
-    }
+/// Numbers of letters from the least to the most. More than 4,000 letters, which no word has, count as 4,001 in the
+/// least and as 4,000 in the most.
+#[derive(Clone, Copy)]
+pub struct Lengths {
+    pub least: u16,
+    pub most: u16,
+}
 
+impl Lengths {
+    /// Whether this number of letters is one of them.
+    #[inline(always)]
+    fn have(self, letters: u16) -> bool
+        ensures { IsTrue result ↔ IsAmong self letters }
+    {
+        self.least <= letters && letters <= self.most
+    }
+}
+
+/// How the splits of an alternative are scored.
+#[derive(Clone, Copy)]
+pub enum Scoring<'a> {
+    /// By a sum.
+    Sum(WeightedSum),
+    /// By the term itself, at the values of all arguments.
+    Term(&'a Term),
+}
+
+/// A constant and the values of arguments, each times its factor: the score of a split, turned, is their sum.
+#[derive(Clone, Copy)]
+pub struct WeightedSum {
+    /// What is added to the total of the arguments.
+    pub constant: i64,
+    /// The factor of each argument in the total; behind them stands 0.
+    pub factors: [i64; 4],
+    /// Whether the tokens in front may add something to a total.
+    pub weighs: bool,
+}
+
+impl WeightedSum {
     /// The factors of the tokens in front.
     #[inline]
-    pub fn front_factors(&self) -> &[i64]
-        requires { length self.now.front.now + length self.now.others.now ≤ 4 }
-        ensures { result.now ≡ take (length self.now.front.now) self.now.factors }
+    pub fn front_factors(&self, alternative: &KeptAlternative<'_>) -> &[i64]
+        requires { length alternative.now.front.now + length alternative.now.others.now ≤ 4 }
+        ensures { result.now ≡ factors_in_front alternative.now self.now }
     {
-        &self.factors[..self.front.len()]
+        &self.factors[..alternative.front.len()]
     }
 
     /// The factors of the other arguments.
     #[inline]
-    pub fn other_factors(&self) -> &[i64]
-        requires { length self.now.front.now + length self.now.others.now ≤ 4 }
-        ensures { result.now ≡ factors_behind self.now }
+    pub fn other_factors(&self, alternative: &KeptAlternative<'_>) -> &[i64]
+        requires { length alternative.now.front.now + length alternative.now.others.now ≤ 4 }
+        ensures { result.now ≡ factors_behind alternative.now self.now }
     {
-        let number = self.front.len();
-        &self.factors[number..number + self.others.len()]
+        let number = alternative.front.len();
+        &self.factors[number..number + alternative.others.len()]
+    }
+}
+
+impl KeptAlternative<'_> {
+    /// Whether the alternative may have as many letters as lie between the two positions, as far as lengths alone tell:
+    /// it allows so many, and where all its arguments have fixed length, they have so many.
+    #[inline(always)]
+    fn may_span(&self, from: u16, to: u16) -> bool
+        requires { from ≤ to }
+        ensures { IsTrue result ↔ MaySpan self.now from to }
+    {
+        self.lengths.have(to - from) && self.may_fill(from, to)
+    }
+
+    #[inline(always)]
+    fn may_fill(&self, from: u16, to: u16) -> bool
+        ensures { IsTrue result ↔ MayFill self.now from to }
+    {
+        !self.others.is_empty() || from as usize + self.letters as usize == to as usize
     }
 }
 
@@ -125,7 +176,46 @@ fn class_of(tokens: &[Arg]) -> Option<u32>
     }
 }
 
-/// An alternative, made ready; its line is found apart. Takes time for each argument and for the letters of literals.
+/// The sum that a term is lowered to, turned, where these tokens stand in front of its arguments.
+fn weighted_sum(goal: Goal, term: &LinearForm, front: &[Arg]) -> WeightedSum
+    requires front { length front.now ≤ 4 }
+    requires constant { nat_abs term.now.constant ≤ greatest_score }
+    requires factors { (k : ℕ) → k < length term.now.factors
+        → nat_abs (slice_index_or term.now.factors k (pos 0)) ≤ greatest_score }
+    ensures constant { result.constant ≡ turned goal term.now.constant }
+    ensures factors { take (length term.now.factors) result.factors ≡ map (turned goal) term.now.factors }
+    ensures worthless { result.weighs ≡ false → AreWorthless front.now (take (length front.now) result.factors) }
+{
+    let factors = turned_factors(goal, &term.factors);
+    WeightedSum {
+        constant: turned(goal, term.constant),
+        factors,
+        weighs: !are_worthless(front, &factors[..front.len()]),
+    }
+}
+
+/// The greatest number of letters that is told apart from more.
+fn most_kept(high: Option<u32>) -> u16
+    ensures { (letters : ℕ) → letters ≤ most_letters → IfSome high (λ most. letters ≤ most) ↔ (letters ≤ result) }
+{
+    match high {
+        Some(high) if (high as usize) < MOST_LETTERS => high as u16,
+        _ => MOST_LETTERS as u16,
+    }
+}
+
+/// The lengths that an alternative allows.
+fn lengths_of(alternative: &Alt) -> Lengths
+    ensures { HasLengths alternative.now result }
+{
+    Lengths {
+        least: (alternative.low() as usize).min(MOST_LETTERS + 1) as u16,
+        most: most_kept(alternative.high()),
+    }
+}
+
+/// An alternative, made ready; its line is found apart. By a term that is linear, or is so by its form, it is scored as
+/// a sum, by any other term by that. Takes time for each argument and for the letters of literals.
 pub fn kept_alternative<'a>(
     problem: &'a Problem<'a>,
     rule: u32,
@@ -137,14 +227,16 @@ pub fn kept_alternative<'a>(
     ensures alternative { IsAlternative problem.now rule alt result }
     ensures line { result.line ≡ line }
 {
-    problem.admissible();
-    terms_fit_their_alternatives();
+    further_factors_add_nothing();
     let goal = problem.goal();
     let arguments = problem.arguments(rule, alt);
     let term = problem.term(rule, alt);
     let number = front_length(arguments);
     let (front, others) = (&arguments[..number], &arguments[number..]);
-    let factors = turned_factors(goal, term.factors.as_slice());
+    let scoring = match lowered(term) {
+        Some(lowered) => Scoring::Sum(weighted_sum(goal, &lowered, front)),
+        None => Scoring::Term(term),
+    };
     KeptAlternative {
         front,
         others,
@@ -152,9 +244,8 @@ pub fn kept_alternative<'a>(
         first: first_letter(front),
         alone: are_one_letter(front),
         class: class_of(front),
-        weighs: !are_worthless(front, &factors[..number]),
-        constant: turned(goal, term.constant),
-        factors,
+        scoring,
+        lengths: lengths_of(problem.alternative(rule, alt)),
         line,
     }
 }

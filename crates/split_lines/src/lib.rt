@@ -14,7 +14,7 @@ mod spans;
 mod tokens;
 mod ways;
 
-pub use kept::KeptAlternative;
+pub use kept::{KeptAlternative, Lengths, Scoring, WeightedSum};
 pub use laws::{line_begins_here, line_begins_later};
 pub use lines::{Boundary, Line, Lines, line_here};
 pub use prepared::Prepared;

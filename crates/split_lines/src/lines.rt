@@ -251,6 +251,10 @@ impl<'a> Model for Lines<'a> {
     ghost Value = { PosedProblem };
 
     ghost use Rattle.split_lines.specs.LinesFields.{AreLines};
+    ghost use Rattle.adp_model.specs.WideForm.{form_code};
+    ghost use Rattle.std.specs.Coded.{codes};
+
+    ghost coded = { Prim.hlevel (codes, form_code) };
 
     ghost view = { λ lines. lines.tables };
 

@@ -22,6 +22,11 @@ impl<'a> Model for Prepared<'a> {
 
     ghost Value = { PosedProblem };
 
+    ghost use Rattle.adp_model.specs.WideForm.{form_code};
+    ghost use Rattle.std.specs.Coded.{codes};
+
+    ghost coded = { Prim.hlevel (codes, form_code) };
+
     ghost view = { λ prepared. prepared.lines };
 
     ghost invariant = { λ prepared. prepared.layout ≡ prepared.lines };

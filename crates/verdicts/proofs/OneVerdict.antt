@@ -21,7 +21,8 @@ use Rattle.verdicts.specs.Command.{mode_word, Setting, Algebra as ByAlgebra, The
 use Rattle.job_texts.specs.JobText.{Accepted, IsText, IsFaultOf}
 use Rattle.adp_model.specs.Lengths.{IsProductive}
 use Rattle.adp_model.specs.Loops.{IsOnLoop}
-use Rattle.adp_model.specs.GrammarFaults.{rule_name, IsNamed, IsFirstFaulty, IsUnproductive, IsOffLoops, HasMonotoneTerm, HasOtherTerm, IsFaultless, IsGrammarFault, NoAlgebra, Unproductive, Loop, NotMonotone}
+use Rattle.adp_model.specs.GrammarSigns.{HasMonotoneTerm}
+use Rattle.adp_model.specs.GrammarFaults.{rule_name, IsNamed, IsFirstFaulty, IsUnproductive, IsOffLoops, HasOtherTerm, HasPossibleAlternatives, HasImpossibleAlternative, IsFaultless, IsGrammarFault, NoAlgebra, Unproductive, Loop, NotMonotone, Impossible}
 use Rattle.lex_product.specs.PairFaults.{BothAddScores, HasOtherFactor, IsPairFault, NoAlgebra as NoSecond, OtherFactor}
 use Rattle.lex_product.specs.PairLimits.{IsCheckedPair, IsPairAdmissible, IsPairLimitFault, KeepsPairLimits}
 use Rattle.lex_product.specs.PairReport.{IsPairReport}
@@ -174,10 +175,10 @@ fault_in (Ok accepted) other = other
 fault_in (Err fault) other = fault
 
 same_grammar : (bytes : List ℕ) (a b : Job) → IsText bytes a → IsText bytes b → a.grammar ≡ b.grammar
-same_grammar bytes a b h k = ap (λ (r : Result Accepted TextFault). (accepted_in r (record { grammar = a.grammar; words = a.words })).grammar) (sym h ∙ k)
+same_grammar bytes a b h k = ap (λ (r : Result Accepted TextFault). (accepted_in r (record { version = a.version; grammar = a.grammar; words = a.words })).grammar) (sym h ∙ k)
 
 same_words : (bytes : List ℕ) (a b : Job) → IsText bytes a → IsText bytes b → a.words ≡ b.words
-same_words bytes a b h k = ap (λ (r : Result Accepted TextFault). (accepted_in r (record { grammar = a.grammar; words = a.words })).words) (sym h ∙ k)
+same_words bytes a b h k = ap (λ (r : Result Accepted TextFault). (accepted_in r (record { version = a.version; grammar = a.grammar; words = a.words })).words) (sym h ∙ k)
 
 same_fault : (bytes : List ℕ) (a b : TextFault) → IsFaultOf bytes a → IsFaultOf bytes b → a ≡ b
 same_fault bytes a b h k = ap (λ (r : Result Accepted TextFault). fault_in r a) (sym h ∙ k)
@@ -241,22 +242,34 @@ module _ (grammar : Grammar) (formed : IsTrue (is_well_formed grammar)) (name : 
   grammar_fault_unique a b (NoAlgebra none) (Unproductive algebra rule named first) = absurd (none algebra named)
   grammar_fault_unique a b (NoAlgebra none) (Loop algebra rule named productive first) = absurd (none algebra named)
   grammar_fault_unique a b (NoAlgebra none) (NotMonotone algebra sign named productive off first) = absurd (none algebra named)
+  grammar_fault_unique a b (NoAlgebra none) (Impossible algebra rule named productive off monotone first) = absurd (none algebra named)
   grammar_fault_unique a b (Unproductive algebra rule named first) (NoAlgebra none) = absurd (none algebra named)
   grammar_fault_unique a b (Unproductive algebra rule named first) (Unproductive algebra' rule' named' first') =
       ap (of_rule 2) (first_unique (IsUnproductive grammar) (IsProductive grammar) (length grammar.rules) rule rule' (λ n faulty sound. faulty sound) first first')
   grammar_fault_unique a b (Unproductive algebra rule named first) (Loop algebra' rule' named' productive first') = absurd (first.faulty (productive rule first.in_range))
   grammar_fault_unique a b (Unproductive algebra rule named first) (NotMonotone algebra' sign named' productive off first') = absurd (first.faulty (productive rule first.in_range))
+  grammar_fault_unique a b (Unproductive algebra rule named first) (Impossible algebra' rule' named' productive off monotone first') = absurd (first.faulty (productive rule first.in_range))
   grammar_fault_unique a b (Loop algebra rule named productive first) (NoAlgebra none) = absurd (none algebra named)
   grammar_fault_unique a b (Loop algebra rule named productive first) (Unproductive algebra' rule' named' first') = absurd (first'.faulty (productive rule' first'.in_range))
   grammar_fault_unique a b (Loop algebra rule named productive first) (Loop algebra' rule' named' productive' first') =
       ap (of_rule 3) (first_unique (IsOnLoop grammar) (IsOffLoops grammar) (length grammar.rules) rule rule' (λ n faulty sound. sound faulty) first first')
   grammar_fault_unique a b (Loop algebra rule named productive first) (NotMonotone algebra' sign named' productive' off first') = absurd (off rule first.in_range first.faulty)
+  grammar_fault_unique a b (Loop algebra rule named productive first) (Impossible algebra' rule' named' productive' off monotone first') = absurd (off rule first.in_range first.faulty)
   grammar_fault_unique a b (NotMonotone algebra sign named productive off first) (NoAlgebra none) = absurd (none algebra named)
   grammar_fault_unique a b (NotMonotone algebra sign named productive off first) (Unproductive algebra' rule' named' first') = absurd (first'.faulty (productive rule' first'.in_range))
   grammar_fault_unique a b (NotMonotone algebra sign named productive off first) (Loop algebra' rule' named' productive' first') = absurd (off rule' first'.in_range first'.faulty)
   grammar_fault_unique a b (NotMonotone algebra sign named productive off first) (NotMonotone algebra' sign' named' productive' off' first') =
       ap of_sign (first_unique (HasOtherTerm grammar algebra) (HasMonotoneTerm grammar algebra) (length grammar.signs) sign sign' (λ n faulty sound. faulty sound) first
       (subst (λ n. IsFirstFaulty (HasOtherTerm grammar n) (HasMonotoneTerm grammar n) (length grammar.signs) sign') (named_unique grammar formed name algebra' algebra named' named) first'))
+  grammar_fault_unique a b (NotMonotone algebra sign named productive off first) (Impossible algebra' rule' named' productive' off' monotone first') =
+      absurd (subst (λ n. HasOtherTerm grammar n sign) (named_unique grammar formed name algebra algebra' named named') first.faulty (monotone sign first.in_range))
+  grammar_fault_unique a b (Impossible algebra rule named productive off monotone first) (NoAlgebra none) = absurd (none algebra named)
+  grammar_fault_unique a b (Impossible algebra rule named productive off monotone first) (Unproductive algebra' rule' named' first') = absurd (first'.faulty (productive rule' first'.in_range))
+  grammar_fault_unique a b (Impossible algebra rule named productive off monotone first) (Loop algebra' rule' named' productive' first') = absurd (off rule' first'.in_range first'.faulty)
+  grammar_fault_unique a b (Impossible algebra rule named productive off monotone first) (NotMonotone algebra' sign named' productive' off' first') =
+      absurd (subst (λ n. HasOtherTerm grammar n sign) (named_unique grammar formed name algebra' algebra named' named) first'.faulty (monotone sign first'.in_range))
+  grammar_fault_unique a b (Impossible algebra rule named productive off monotone first) (Impossible algebra' rule' named' productive' off' monotone' first') =
+      ap (of_rule 5) (first_unique (HasImpossibleAlternative grammar) (HasPossibleAlternatives grammar) (length grammar.rules) rule rule' (λ n faulty sound. faulty sound) first first')
 
   faultless_or_fault : (algebra : ℕ) (fault : GrammarFault) → IsFaultless grammar name algebra → IsGrammarFault grammar name fault → ⊥
   faultless_or_fault algebra fault sound (NoAlgebra none) = none algebra sound.named
@@ -264,6 +277,7 @@ module _ (grammar : Grammar) (formed : IsTrue (is_well_formed grammar)) (name : 
   faultless_or_fault algebra fault sound (Loop other rule named productive first) = sound.no_loop rule first.in_range first.faulty
   faultless_or_fault algebra fault sound (NotMonotone other sign named productive off first) =
       subst (λ n. HasOtherTerm grammar n sign) (named_unique grammar formed name other algebra named sound.named) first.faulty (sound.monotone sign first.in_range)
+  faultless_or_fault algebra fault sound (Impossible other rule named productive off monotone first) = first.faulty (sound.possible rule first.in_range)
 
   -- ---- the second algebra
 

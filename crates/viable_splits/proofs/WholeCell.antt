@@ -4,7 +4,8 @@ use Rattle.std.specs.List.{AllByRecursion}
 use Rattle.adp_model.specs.declared.grammar.Arg.{Arg}
 use Rattle.adp_model.specs.declared.cell.Cell.{Cell}
 use Rattle.adp_model.specs.PosedProblem.{PosedProblem}
-use Rattle.adp_model.specs.Parts.{alternatives_of, arguments_of}
+use Rattle.adp_model.specs.Lengths.{AllowsLength}
+use Rattle.adp_model.specs.Parts.{alternatives_of, alternative_at, arguments_of}
 use Rattle.adp_model.specs.Splits.{FitsSpan, place, IsViable}
 use Rattle.adp_model.specs.Walk.{IsFirstVisited, IsNextVisited, IsLastVisited}
 use Rattle.viable_splits.specs.declared.cuts.Cuts.{Cuts}
@@ -65,21 +66,21 @@ pub viable_divides : (p : PosedProblem) (cell : Cell) (alternative : ℕ) (cuts 
 viable_divides p cell alternative cuts viable =
     fitted_divide p (arguments_of p.grammar cell.rule alternative) cell.from cell.to cuts viable.last viable.fits
 
-pub divides_viable : (p : PosedProblem) (cell : Cell) (alternative : ℕ) (cuts : List ℕ) → alternative < length (alternatives_of p.grammar cell.rule) → length cuts ≡ 3 → Divide p (arguments_of p.grammar cell.rule alternative) cell.from cell.to cuts → IsViable p cell alternative cuts
-divides_viable p cell alternative cuts in_range three h =
+pub divides_viable : (p : PosedProblem) (cell : Cell) (alternative : ℕ) (cuts : List ℕ) → alternative < length (alternatives_of p.grammar cell.rule) → AllowsLength (alternative_at p.grammar cell.rule alternative) (cell.to - cell.from) → length cuts ≡ 3 → Divide p (arguments_of p.grammar cell.rule alternative) cell.from cell.to cuts → IsViable p cell alternative cuts
+divides_viable p cell alternative cuts in_range allowed three h =
     record {
       in_range = in_range;
-      allowed = tt;
+      allowed = allowed;
       three = three;
       last = divide_closed p (arguments_of p.grammar cell.rule alternative) cell.from cell.to cuts h;
       fits = divide_fitted p (arguments_of p.grammar cell.rule alternative) cell.from cell.to cuts h;
     }
 
-module _ (p : PosedProblem) (cell : Cell) (alternative : ℕ) (in_range : alternative < length (alternatives_of p.grammar cell.rule)) (cuts : Cuts) where
+module _ (p : PosedProblem) (cell : Cell) (alternative : ℕ) (in_range : alternative < length (alternatives_of p.grammar cell.rule)) (allowed : AllowsLength (alternative_at p.grammar cell.rule alternative) (cell.to - cell.from)) (cuts : Cuts) where
   pub first_visited : (found : Cuts) → IsFirstBehind p cell (arguments_of p.grammar cell.rule alternative) cell.from 0 0 cuts found → IsFirstVisited p cell alternative cuts.turns found.at
   first_visited found first =
       record {
-        viable = divides_viable p cell alternative found.at in_range first.continues.three first.continues.divides;
+        viable = divides_viable p cell alternative found.at in_range allowed first.continues.three first.continues.divides;
         first = λ others viable before. first.first others (omega (arith, viable.three)) (viable_divides p cell alternative others viable) (omega arith) before;
       }
 
@@ -89,7 +90,7 @@ module _ (p : PosedProblem) (cell : Cell) (alternative : ℕ) (in_range : altern
   pub next_visited : (found : Cuts) → IsNextFrom p cell (arguments_of p.grammar cell.rule alternative) cell.from 0 cuts found → IsNextVisited p cell alternative cuts.turns cuts.at found.at
   next_visited found there =
       record {
-        viable = divides_viable p cell alternative found.at in_range there.continues.three there.continues.divides;
+        viable = divides_viable p cell alternative found.at in_range allowed there.continues.three there.continues.divides;
         behind = there.behind;
         next = λ others viable behind before. there.next others (omega (arith, viable.three)) (viable_divides p cell alternative others viable) behind before;
       }

@@ -29,7 +29,11 @@ pub fn first_visited<M: Matcher>(
     ensures kept { OnFalse result (cuts.new.at ≡ cuts.old.at) }
 {
     cuts.turns = turns;
-    let arguments = matcher.problem().arguments(cell.rule, alt);
+    let problem = matcher.problem();
+    if !problem.allows(cell.rule, alt, (cell.to - cell.from) as usize) {
+        return false;
+    }
+    let arguments = problem.arguments(cell.rule, alt);
     let walk = Walk { matcher, cell, alt };
     match first_cuts(&walk, arguments, cell.from as usize, 0, *cuts) {
         Some(found) => {

@@ -11,7 +11,8 @@ use Rattle.adp_model.specs.declared.grammar.Alt.{Alt}
 use Rattle.adp_model.specs.declared.grammar.Rule as rules
 use Rattle.adp_model.specs.declared.grammar.Grammar.{Grammar}
 use Rattle.adp_model.specs.Parts.{alternatives_of, arguments_of}
-use Rattle.adp_model.specs.Sizes.{Names, Reaches, AtOnce, Through, IsGreatestSize}
+use Rattle.adp_model.specs.Sizes.{Names, AreGreatestSizes, IsGreatestSize}
+use Rattle.yield_sizes.specs.References.{Reaches, AtOnce, Through}
 use Rattle.adp_model.specs.Anchors.{IsReachedRule, TheAxiom, Named, CanBeNonempty, IsNamedBehind, SomeCanBeNonempty, IsNamedBefore, SomeReached, IsLeftFree, Behind, LeftOf, IsRightFree, Before, RightOf}
 use Rattle.adp_model.specs.ProblemFields.{AreLeftAnchors, AreRightAnchors}
 use Rattle.yield_sizes.specs.declared.rule_sizes.Sizes.{Sizes}
@@ -23,8 +24,8 @@ use Rattle.yield_sizes.specs.ArgumentTests.{is_zero, is_rule, can_be_nonempty, i
 use Rattle.yield_sizes.specs.AnchorTests.{is_named_beyond, is_start_in, is_start, is_reached, is_free, AreSideAnchors}
 use Rattle.yield_sizes.proofs.Searching.{contains_later}
 use Rattle.yield_sizes.proofs.LeastLengths.{in_range}
-use Rattle.yield_sizes.proofs.GreatestLengths.{AllNamedKnown, reaches_push}
-use Rattle.yield_sizes.proofs.ArgumentFacts.{any_at, at_any, rule_is, is_the_rule, rule_contained, contained_rule}
+use Rattle.yield_sizes.proofs.GreatestLengths.{up_to_each_other}
+use Rattle.yield_sizes.proofs.ArgumentFacts.{AllNamedKnown, reaches_push, any_at, at_any, rule_is, is_the_rule, rule_contained, contained_rule}
 
 -- ---- what can be nonempty
 
@@ -32,15 +33,18 @@ zero_same : (size : Option ℕ) → is_zero size ≡ true → size ≡ Some 0
 zero_same None h = absurd (false≢true h)
 zero_same (Some size) h = ap Some (eqb-true size 0 h)
 
+greatest_size : (grammar : Grammar) (greatest : List (Option ℕ)) → AreGreatestSizes grammar greatest → (rule : ℕ) → rule < length grammar.rules → IsGreatestSize grammar rule (get_or greatest rule None)
+greatest_size grammar greatest are rule l = (greatest, are, l, refl)
+
 -- the greatest size is 0 in one way alone
 zero_alone : (grammar : Grammar) (rule : ℕ) (size : Option ℕ) → IsGreatestSize grammar rule size → IsGreatestSize grammar rule (Some 0) → size ≡ Some 0
-zero_alone grammar rule None unbounded it = absurd (it.0 unbounded)
-zero_alone grammar rule (Some size) is it = let same : size ≡ 0 = omega (arith, is.4, it.4, is.3 it.1 it.2, it.3 is.1 is.2) in ap Some same
+zero_alone grammar rule size is it =
+    is.3 ∙ up_to_each_other _ _ (is.1.least it.0 it.1.are rule is.2) (it.1.least is.0 is.1.are rule it.2) ∙ sym it.3
 
 nonempty_argument : (grammar : Grammar) (sizes : Sizes) → AreSizes grammar sizes → (argument : Arg) → ((rule : ℕ) → argument ≡ Rule rule → rule < length grammar.rules) → can_be_nonempty sizes.greatest argument ≡ true → CanBeNonempty grammar argument
 nonempty_argument grammar sizes are (Rule rule) known h = λ zero_size.
     let size = get_or sizes.greatest rule None in
-    let same = zero_alone grammar rule size (are.greatest_are rule (known rule refl)) zero_size in
+    let same = zero_alone grammar rule size (greatest_size grammar sizes.greatest are.greatest_are rule (known rule refl)) zero_size in
     false≢true (sym (not_from_true (is_zero size) (ap is_zero same)) ∙ h)
 nonempty_argument grammar sizes are (Literal text) known h = elim (cases_eq (length text) 0) [
   | inl none ↦ absurd (false≢true (sym (not_from_true (length text == 0) (eq-eqb (length text) 0 none)) ∙ h))
@@ -53,7 +57,7 @@ argument_nonempty : (grammar : Grammar) (sizes : Sizes) → AreSizes grammar siz
 argument_nonempty grammar sizes are (Rule rule) known h =
     let size = get_or sizes.greatest rule None in
     elim (cases_Bool (is_zero size)) [
-      | inl yes_zero ↦ absurd (h (subst (IsGreatestSize grammar rule) (zero_same size yes_zero) (are.greatest_are rule (known rule refl))))
+      | inl yes_zero ↦ absurd (h (subst (IsGreatestSize grammar rule) (zero_same size yes_zero) (greatest_size grammar sizes.greatest are.greatest_are rule (known rule refl))))
       | inr not_zero ↦ not_from_false (is_zero size) not_zero
     ]
 argument_nonempty grammar sizes are (Literal text) known h = not_from_false (length text == 0) (ne_eqb (length text) 0 (λ e. omega arith))
@@ -181,7 +185,7 @@ is_reached_so grammar paths table rule is_reached_rule =
 -- ---- starts
 
 abbrev nothing : Alt
-nothing = record { sign = 0; args = [] }
+nothing = record { sign = 0; args = []; size = None }
 
 abbrev no_rule : rules.Rule
 no_rule = record { name = []; alts = [] }

@@ -12,7 +12,8 @@ use Rattle.adp_model.specs.declared.grammar.Rule as rules
 use Rattle.adp_model.specs.declared.grammar.Grammar.{Grammar}
 use Rattle.adp_model.specs.Parts.{alternatives_of, arguments_of}
 use Rattle.adp_model.specs.Lengths.{HasLength, ByAlternative}
-use Rattle.adp_model.specs.Sizes.{Names, Reaches, AtOnce, Through}
+use Rattle.adp_model.specs.Sizes.{Names}
+use Rattle.yield_sizes.specs.References.{Reaches, AtOnce, Through}
 use Rattle.adp_model.specs.Loops.{CanBeEmpty, AreEmptyBut, IsEdge, IsEdgePath, Edge, Onward}
 use Rattle.yield_sizes.specs.declared.rule_sizes.Sizes.{Sizes}
 use Rattle.yield_sizes.specs.GrammarSizes.{AreSizes}
@@ -21,7 +22,6 @@ use Rattle.yield_sizes.specs.Relations as leads
 use Rattle.yield_sizes.specs.ArgumentTests.{is_zero, is_rule, has_rule, can_be_empty, is_empty_but, is_edge}
 use Rattle.yield_sizes.proofs.Searching.{contains_later}
 use Rattle.yield_sizes.proofs.LeastLengths.{in_range}
-use Rattle.yield_sizes.proofs.GreatestLengths.{AllNamedKnown}
 use Rattle.yield_sizes.proofs.Closures.{related_within}
 
 -- ---- any of a list
@@ -60,7 +60,7 @@ contained_rule rule arguments contained =
     any_at (is_rule rule) arguments contained.0 (Rule rule) contained.1 (is_the_rule rule (get_or arguments contained.0 (Rule rule)) contained.2)
 
 abbrev nothing : Alt
-nothing = record { sign = 0; args = [] }
+nothing = record { sign = 0; args = []; size = None }
 
 pub names_rule : (grammar : Grammar) (rule other : ℕ) → list_any (has_rule other) (alternatives_of grammar rule) ≡ true → Names grammar rule other
 names_rule grammar rule other h =
@@ -102,7 +102,7 @@ empty_argument grammar sizes are (Letter class) h = absurd (false≢true h)
 empty_argument grammar sizes are (Run class low high) h = (omega (arith, eqb-true low 0 h), at_most_any high)
 
 has_range : (grammar : Grammar) (rule len : ℕ) → HasLength grammar rule len → rule < length grammar.rules
-has_range grammar _ _ (ByAlternative rule alternative len l have allowed) = in_range grammar rule alternative l
+has_range grammar _ _ (ByAlternative rule alternative sum len l have within is) = in_range grammar rule alternative l
 
 pub argument_empty : (grammar : Grammar) (sizes : Sizes) → AreSizes grammar sizes → (argument : Arg) → CanBeEmpty grammar argument → can_be_empty sizes.least argument ≡ true
 argument_empty grammar sizes are (Rule rule) h =
@@ -196,6 +196,10 @@ table_of test grammar Related says told =
       all = λ from to related. let it = told from to related in answer_is test grammar size from to it.0 it.1 ∙ it.2;
     }
 
+-- the rules that an argument names are in the grammar
+abbrev pub AllNamedKnown : Grammar → Type 0
+AllNamedKnown grammar = (rule alternative other : ℕ) → Contains (arguments_of grammar rule alternative) (Rule other) → other < length grammar.rules
+
 pub names_within : (grammar : Grammar) → AllNamedKnown grammar → (rule other : ℕ) → Names grammar rule other → (rule < length grammar.rules) × (other < length grammar.rules)
 names_within grammar named rule other names = (in_range grammar rule names.0 names.1, named rule names.0 other names.2)
 
@@ -210,6 +214,10 @@ edges_table grammar sizes named are =
     (λ from to edge. let within = names_within grammar named from to (edge_names grammar from to edge) in (within.0, within.1, is_the_edge grammar sizes are from to edge))
 
 -- ---- where the tables lead
+
+pub reaches_push : (grammar : Grammar) (rule between other : ℕ) → Reaches grammar rule between → Names grammar between other → Reaches grammar rule other
+reaches_push grammar _ _ other (AtOnce rule between names) next = Through rule between other names (AtOnce between other next)
+reaches_push grammar _ _ other (Through rule first between names reaches) next = Through rule first other names (reaches_push grammar first between other reaches next)
 
 leads_reach : (grammar : Grammar) (size : ℕ) (rows : List (List Bool)) → IsTableOf size (Names grammar) rows → (from to : ℕ) → Leads rows from to → Reaches grammar from to
 leads_reach grammar size rows table _ _ (leads.AtOnce from to related) = AtOnce from to (table.marked from to related)

@@ -1,8 +1,10 @@
 pub mod Searching
 pub mod GrammarReads
 pub mod LeastLengths
-pub mod GreatestLengths
 pub mod Closures
 pub mod ArgumentFacts
+pub mod PlaceLists
+pub mod GreatestLengths
+pub mod PossibleSums
 pub mod MarkCounts
 pub mod AnchorFacts

@@ -7,8 +7,7 @@ use Rattle.adp_model.specs.declared.grammar.Grammar.{Grammar}
 use Rattle.adp_model.specs.Loops.{IsEdgePath, Edge, Onward}
 use Rattle.yield_sizes.specs.LoopAnswers.{IsLoopFree, AreRanks}
 use Rattle.yield_sizes.specs.Relations.{IsTableOf}
-use Rattle.yield_sizes.proofs.GreatestLengths.{AllNamedKnown}
-use Rattle.yield_sizes.proofs.ArgumentFacts.{edge_names, names_within}
+use Rattle.yield_sizes.proofs.ArgumentFacts.{AllNamedKnown, edge_names, names_within}
 
 -- marks of a row
 abbrev pub marks_in : List Bool → ℕ

@@ -1,8 +1,8 @@
 -- What the sizes and the anchors of a grammar are.
-use Rattle.std.specs.Prelude.{◌≡◌, ℕ, ◌<◌, None, length, slice_index, slice_index_or}
+use Rattle.std.specs.Prelude.{ℕ, ◌<◌, length}
 use Rattle.adp_model.specs.declared.grammar.Grammar.{Grammar}
 use Rattle.adp_model.specs.Lengths.{IsProductive}
-use Rattle.adp_model.specs.Sizes.{IsLeastSize, IsGreatestSize}
+use Rattle.adp_model.specs.Sizes.{AreSizesOf}
 use Rattle.adp_model.specs.ProblemFields.{AreLeftAnchors, AreRightAnchors}
 use Rattle.yield_sizes.specs.declared.rule_sizes.Sizes.{Sizes}
 use Rattle.yield_sizes.specs.declared.rule_anchors.Anchors.{Anchors}
@@ -11,14 +11,9 @@ use Rattle.yield_sizes.specs.declared.rule_anchors.Anchors.{Anchors}
 abbrev pub AreAllProductive : Grammar → Type 0
 AreAllProductive grammar = (rule : ℕ) → rule < length grammar.rules → IsProductive grammar rule
 
--- the sizes are the grammar's, one of each sort for a rule
-pub record AreSizes (grammar : Grammar) (sizes : Sizes) : Type 0 where
-  pub least_each : length sizes.least ≡ length grammar.rules
-  pub greatest_each : length sizes.greatest ≡ length grammar.rules
-  pub least_are : (rule : ℕ) → rule < length grammar.rules
-      → IsLeastSize grammar rule (slice_index sizes.least rule)
-  pub greatest_are : (rule : ℕ) → rule < length grammar.rules
-      → IsGreatestSize grammar rule (slice_index_or sizes.greatest rule None)
+-- the sizes are those of the grammar's rules
+abbrev pub AreSizes : Grammar → Sizes → Type 0
+AreSizes grammar sizes = AreSizesOf grammar sizes.least sizes.greatest
 
 -- the anchors are the grammar's
 pub record AreAnchors (grammar : Grammar) (anchors : Anchors) : Type 0 where

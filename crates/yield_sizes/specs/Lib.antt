@@ -1,6 +1,10 @@
 pub mod GrammarSizes
 pub mod KnownLengths
+pub mod KnownGreatest
 pub mod Relations
+pub mod Places
+pub mod Possible
+pub mod References
 pub mod ArgumentTests
 pub mod LoopAnswers
 pub mod AnchorTests

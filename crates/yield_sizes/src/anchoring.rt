@@ -1,6 +1,6 @@
 ghost use Rattle.std.specs.Prelude.{◌≡◌, IfOk, IsTrue, ◌&&◌, ◌||◌, ◌==◌, not, length, map, false, slice_index_or};
 ghost use Rattle.std.specs.List.{enumerate_from, list_any, range_with_len, zip};
-ghost use Rattle.adp_model.specs.Sizes.{Reaches};
+ghost use Rattle.yield_sizes.specs.References.{Reaches};
 ghost use Rattle.adp_model.specs.WellFormed.{is_well_formed};
 ghost use Rattle.yield_sizes.specs.AnchorTests.{AreSideAnchors, is_free, is_named_beyond, is_reached, is_start, is_start_in};
 ghost use Rattle.yield_sizes.specs.GrammarSizes.{AreAnchors, AreSizes};

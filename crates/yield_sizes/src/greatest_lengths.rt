@@ -1,21 +1,44 @@
-ghost use Rattle.std.specs.Prelude.{◌≡◌, ℕ, ◌<◌, IfOk, IsTrue, false, length, slice_index_or};
-ghost use Rattle.adp_model.specs.Sizes.{IsGreatestSize};
-ghost use Rattle.adp_model.specs.WellFormed.{is_well_formed};
-ghost use Rattle.yield_sizes.specs.GrammarSizes.{AreAllProductive};
-ghost use Rattle.yield_sizes.specs.KnownLengths.{argument_greatest, arguments_greatest, greater, rule_greatest, unknown_left};
-ghost use Rattle.yield_sizes.specs.KnownLengths.{AreAllKnown, AreGreatestLengths};
+ghost use Rattle.std.specs.Prelude.{◌≡◌, ℕ, ◌<◌, ◌⊎◌, IfOk, IsTrue, MatchOption, [], false, true, length, slice_index_or};
+ghost use Rattle.std.specs.List.{All};
+ghost use Rattle.adp_model.specs.Sizes.{AreGreatestSizes, bounded, cut_to, sum_of};
+ghost use Rattle.yield_sizes.specs.KnownGreatest.{AreRising, alternative_greatest, argument_greatest, arguments_greatest, is_below, rise_left, work_left};
+ghost use Rattle.yield_sizes.specs.Places.{AreNamingRows, ArePlaces};
 
-use crate::least_lengths::{added, kept_length};
-use adp_model::laws::well_formed::numbers_fit_together;
-use adp_model::{Alt, Arg, Grammar};
+use crate::least_lengths::kept_length;
+use crate::places::{Place, all_places, alternative_at, naming_rows};
+use adp_model::{Alt, Arg, Grammar, Sequence};
 use std::alloc::{AllocError, Global};
 
-fn greater(first: Option<u32>, second: Option<u32>) -> Option<u32>
-    ensures { result ≡ greater first second }
+/// The greatest length that doesn't count as unbounded.
+const GREATEST_BOUNDED: u32 = 4_000;
+
+/// What a length counts as: `None` stands for unbounded.
+fn bounded(length: Option<u32>) -> Option<u32>
+    ensures { result ≡ bounded length }
+{
+    match length {
+        Some(length) if length <= GREATEST_BOUNDED => Some(length),
+        _ => None,
+    }
+}
+
+/// What the sum of two lengths counts as.
+fn bounded_sum(first: Option<u32>, second: Option<u32>) -> Option<u32>
+    ensures { result ≡ bounded (sum_of first second) }
 {
     match (first, second) {
-        (Some(first), Some(second)) => Some(first.max(second)),
+        (Some(first), Some(second)) => bounded(Some(first.saturating_add(second))),
         _ => None,
+    }
+}
+
+fn cut_to(high: Option<u32>, length: Option<u32>) -> Option<u32>
+    ensures { result ≡ cut_to high length }
+{
+    match (high, length) {
+        (None, length) => length,
+        (Some(high), None) => Some(high),
+        (Some(high), Some(length)) => Some(length.min(high)),
     }
 }
 
@@ -26,11 +49,7 @@ fn argument_greatest(known: &[Option<u32>], argument: &Arg) -> Option<u32>
         Arg::Rule(rule) => known.get(*rule as usize).copied().flatten(),
         Arg::Literal(text) => Some(kept_length(text.bytes())),
         Arg::Letter(_) => Some(1),
-        Arg::Run { high: None, .. } => None,
-        Arg::Run {
-            high: Some(high),
-            ..
-        } => Some(*high),
+        Arg::Run { high, .. } => *high,
     }
 }
 
@@ -38,57 +57,86 @@ fn arguments_greatest(known: &[Option<u32>], arguments: &[Arg]) -> Option<u32>
     ensures { result ≡ arguments_greatest known.now arguments.now }
 {
     arguments.iter().fold(Some(0), |total, argument| {
-        added(total, argument_greatest(known, argument))
+        bounded_sum(total, argument_greatest(known, argument))
     })
 }
 
-fn rule_greatest(known: &[Option<u32>], alternatives: &[Alt]) -> Option<u32>
-    ensures { result ≡ rule_greatest known.now alternatives.now }
+fn alternative_greatest(known: &[Option<u32>], alternative: &Alt) -> Option<u32>
+    ensures { result ≡ alternative_greatest known.now alternative.now }
 {
-    alternatives.iter().fold(Some(0), |greatest, alternative| {
-        greater(
-            greatest,
-            arguments_greatest(known, alternative.args.as_slice()),
-        )
-    })
+    let sum = arguments_greatest(known, alternative.args.as_slice());
+    bounded(cut_to(alternative.high(), sum))
 }
 
-/// Finds the greatest length of each rule whose alternatives name only rules with known ones, rule by rule, and answers
-/// whether there was any.
-fn extend(grammar: &Grammar, known: &mut [Option<u32>]) -> bool
-    requires well_formed { IsTrue (is_well_formed grammar.now) }
-    requires productive { AreAllProductive grammar.now }
-    requires lengths { AreGreatestLengths grammar.now known.old }
-    ensures lengths { AreGreatestLengths grammar.now known.new }
-    ensures found { IsTrue result → unknown_left known.new < unknown_left known.old }
-    ensures all { result ≡ false → AreAllKnown grammar.now known.new }
+fn is_below(length: Option<u32>, other: Option<u32>) -> bool
+    ensures { result ≡ is_below length other }
 {
-    numbers_fit_together();
-    let mut found = false;
-    for (number, rule) in grammar.rules.as_slice().iter().enumerate() {
-        if known[number].is_none() {
-            let greatest = rule_greatest(known, rule.alts.as_slice());
-            if greatest.is_some() {
-                known[number] = greatest;
-                found = true;
-            }
+    match (length, other) {
+        (None, _) => false,
+        (Some(_), None) => true,
+        (Some(length), Some(other)) => length < other,
+    }
+}
+
+/// Raises the greatest lengths of the rules at these places to what the alternatives there tell, and marks the rules
+/// whose lengths rose.
+fn raise(grammar: &Grammar, places: &[Place], known: &mut [Option<u32>], risen: &mut [bool])
+    requires places { ArePlaces grammar.now places.now }
+    requires rising { AreRising grammar.now places.now known.old risen.old }
+    ensures rising { AreRising grammar.now [] known.new risen.new }
+    ensures change { ((known.new ≡ known.old) × (risen.new ≡ risen.old)) ⊎ (rise_left known.new < rise_left known.old) }
+{
+    for place in places {
+        let greatest = alternative_greatest(known, alternative_at(grammar, *place));
+        if is_below(known[place.rule], greatest) {
+            known[place.rule] = greatest;
+            risen[place.rule] = true;
         }
     }
-    found
 }
 
-/// The greatest length of each rule, at most `u32::MAX`, or `None` where it is unbounded: rounds over the rules until
-/// no more is found, which is after at most one round more than there are rules. What is never found is unbounded,
-/// since references from there lead to an open run or round in a circle.
-pub fn greatest_lengths(alloc: Global, grammar: &Grammar) -> Result<Vec<Option<u32>>, AllocError>
-    requires well_formed { IsTrue (is_well_formed grammar.now) }
-    requires productive { AreAllProductive grammar.now }
-    ensures each { IfOk result (λ known. length known.items ≡ length grammar.now.rules) }
-    ensures greatest { IfOk result (λ known. (rule : ℕ) → rule < length grammar.now.rules
-        → IsGreatestSize grammar.now rule (slice_index_or known.items rule None)) }
+fn first_risen(risen: &[bool]) -> Option<usize>
+    ensures { MatchOption result (All (λ it. it ≡ false) risen.now)
+        (λ rule. (rule < length risen.now) × (slice_index_or risen.now rule false ≡ true)) }
 {
-    numbers_fit_together();
-    let mut known = vec![in alloc; None; grammar.rules.as_slice().len()]?;
-    while extend(grammar, &mut known) {}
+    risen.iter().position(|risen| *risen)
+}
+
+/// Takes the mark of a rule whose length rose, and looks again at the alternatives that name it. Answers whether there
+/// was such a rule.
+fn raise_again(
+    grammar: &Grammar,
+    naming: &[Sequence<Place>],
+    known: &mut [Option<u32>],
+    risen: &mut [bool],
+) -> bool
+    requires naming { AreNamingRows grammar.now naming.now }
+    requires rising { AreRising grammar.now [] known.old risen.old }
+    ensures rising { AreRising grammar.now [] known.new risen.new }
+    ensures less { IsTrue result → work_left known.new risen.new < work_left known.old risen.old }
+    ensures done { result ≡ false → AreGreatestSizes grammar.now known.new }
+{
+    match first_risen(risen) {
+        None => false,
+        Some(rule) => {
+            risen[rule] = false;
+            raise(grammar, naming[rule].as_slice(), known, risen);
+            true
+        }
+    }
+}
+
+/// The greatest length of each rule, at most 4,000, or `None` where it is unbounded. From 0 up: where a length rises, the
+/// alternatives that name its rule are looked at again, so at most 4,001 times for each argument.
+pub fn greatest_lengths(alloc: Global, grammar: &Grammar) -> Result<Vec<Option<u32>>, AllocError>
+    ensures { IfOk result (λ known. AreGreatestSizes grammar.now known.items) }
+{
+    let count = grammar.rules.as_slice().len();
+    let places = all_places(alloc, grammar)?;
+    let naming = naming_rows(alloc, grammar, &places, count)?;
+    let mut known = vec![in alloc; Some(0); count]?;
+    let mut risen = vec![in alloc; false; count]?;
+    raise(grammar, &places, &mut known, &mut risen);
+    while raise_again(grammar, &naming, &mut known, &mut risen) {}
     Ok(known)
 }

@@ -1,6 +1,6 @@
 ghost use Rattle.std.specs.Prelude.{◌≡◌, ◌<◌, IfOk, IsTrue, false, min, length};
 ghost use Rattle.adp_model.specs.WellFormed.{is_well_formed};
-ghost use Rattle.yield_sizes.specs.KnownLengths.{added, argument_least, arguments_least, lesser, rule_least, fall_left};
+ghost use Rattle.yield_sizes.specs.KnownLengths.{added, allowed_least, alternative_least, argument_least, arguments_least, fall_left, is_within, lesser, rule_least};
 ghost use Rattle.yield_sizes.specs.KnownLengths.{AreLeast, AreLeastLengths, AreLengths};
 
 use adp_model::laws::well_formed::numbers_fit_together;
@@ -53,11 +53,37 @@ fn arguments_least(known: &[Option<u32>], arguments: &[Arg]) -> Option<u32>
     })
 }
 
+fn is_within(high: Option<u32>, length: u32) -> bool
+    ensures { result ≡ is_within high length }
+{
+    match high {
+        None => true,
+        Some(high) => length <= high,
+    }
+}
+
+/// The least length of an alternative whose arguments have this sum.
+fn allowed_least(alternative: &Alt, sum: Option<u32>) -> Option<u32>
+    ensures { result ≡ allowed_least alternative.now.size sum }
+{
+    match sum {
+        Some(sum) if is_within(alternative.high(), sum) => Some(sum.max(alternative.low())),
+        _ => None,
+    }
+}
+
+fn alternative_least(known: &[Option<u32>], alternative: &Alt) -> Option<u32>
+    ensures { result ≡ alternative_least u32.MAX known.now alternative.now }
+{
+    let sum = arguments_least(known, alternative.args.as_slice());
+    allowed_least(alternative, sum)
+}
+
 fn rule_least(known: &[Option<u32>], alternatives: &[Alt]) -> Option<u32>
     ensures { result ≡ rule_least u32.MAX known.now alternatives.now }
 {
     alternatives.iter().fold(None, |least, alternative| {
-        lesser(least, arguments_least(known, alternative.args.as_slice()))
+        lesser(least, alternative_least(known, alternative))
     })
 }
 

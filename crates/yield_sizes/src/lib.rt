@@ -6,6 +6,8 @@ mod argument_tests;
 mod greatest_lengths;
 mod least_lengths;
 mod loops;
+mod places;
+mod possible;
 mod productive_rules;
 mod references;
 mod relation;
@@ -15,6 +17,7 @@ mod sizing;
 
 pub use anchoring::anchors;
 pub use loops::{first_loop, ranks};
+pub use possible::first_impossible;
 pub use productive_rules::productive;
 pub use rule_anchors::Anchors;
 pub use rule_sizes::Sizes;

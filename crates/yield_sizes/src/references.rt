@@ -1,10 +1,11 @@
 ghost use Rattle.std.specs.Prelude.{◌≡◌, IfOk, IsTrue, length, map};
 ghost use Rattle.std.specs.List.{list_any, range_with_len};
 ghost use Rattle.adp_model.specs.Loops.{IsEdge, IsEdgePath};
-ghost use Rattle.adp_model.specs.Sizes.{Names, Reaches};
+ghost use Rattle.adp_model.specs.Sizes.{Names};
 ghost use Rattle.adp_model.specs.WellFormed.{is_well_formed};
 ghost use Rattle.yield_sizes.specs.ArgumentTests.{has_rule, is_edge};
 ghost use Rattle.yield_sizes.specs.GrammarSizes.{AreSizes};
+ghost use Rattle.yield_sizes.specs.References.{Reaches};
 ghost use Rattle.yield_sizes.specs.Relations.{IsTableOf};
 
 use crate::argument_tests::{has_rule, is_empty_but};

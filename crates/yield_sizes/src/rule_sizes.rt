@@ -2,8 +2,8 @@ ghost use Rattle.std.specs.Prelude.{◌≡◌, ◌<◌, length, slice_index, sli
 
 use adp_model::Sequence;
 
-/// For each rule of a grammar its least size, and its greatest, which is `None` where it is unbounded. A size above
-/// 4,294,967,295 is kept as 4,294,967,295.
+/// For each rule of a grammar its least size, and its greatest, which is `None` where it is unbounded. A least size above
+/// 4,294,967,295 is kept as 4,294,967,295, a greatest size above 4,000 counts as unbounded.
 #[derive(Drop)]
 pub struct Sizes {
     pub least: Sequence<u32>,

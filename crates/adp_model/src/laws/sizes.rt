@@ -7,7 +7,6 @@ ghost use Rattle.adp_model.specs.PosedProblem.{PosedProblem};
 ghost use Rattle.adp_model.specs.Lengths.{HasLength};
 ghost use Rattle.adp_model.specs.Sizes.{IsLeastSize, IsGreatestSize, IsWithinSizes, IsBetween};
 ghost use Rattle.adp_model.specs.Checks.{IsChecked};
-ghost use Rattle.adp_model.specs.ProblemFields.{most_letters};
 ghost use Rattle.adp_model.specs.Tree.{Tree};
 ghost use Rattle.adp_model.specs.Derivation.{Derives};
 
@@ -34,16 +33,15 @@ pub fn sizes_are_numbers()
         → IsWithinSizes grammar rule len ↔ IsBetween least greatest rule len }
 {}
 
-/// The length of a derived tree is one of its rule's lengths, and lies between the rule's sizes where the word has at
-/// most 4,000 letters. That the rule has sizes is a premise; a grammar that passes the checks has them for all rules.
+/// The length of a derived tree is one of its rule's lengths, and lies between the rule's sizes. That the rule has sizes is
+/// a premise; a grammar that passes the checks has them for all rules.
 pub fn derived_lengths_are_within_sizes()
     ensures lengths { (p : PosedProblem) (cell : Cell) (tree : Tree) → Derives p cell tree
         → HasLength p.grammar cell.rule (cell.to - cell.from) }
     ensures between { (p : PosedProblem) (least : ℕ) (greatest : Option ℕ) (cell : Cell) (tree : Tree)
         → IsLeastSize p.grammar cell.rule least → IsGreatestSize p.grammar cell.rule greatest
-        → length p.word ≤ most_letters → Derives p cell tree
-        → (least ≤ cell.to - cell.from) × IfSome greatest (λ most. cell.to - cell.from ≤ most) }
+        → Derives p cell tree → (least ≤ cell.to - cell.from) × IfSome greatest (λ most. cell.to - cell.from ≤ most) }
     ensures within { (p : PosedProblem) (least : List ℕ) (greatest : List (Option ℕ)) (ranks : List ℕ)
-        → IsChecked p.grammar p.algebra least greatest ranks → length p.word ≤ most_letters
-        → (cell : Cell) (tree : Tree) → Derives p cell tree → IsWithinSizes p.grammar cell.rule (cell.to - cell.from) }
+        → IsChecked p.grammar p.algebra least greatest ranks → (cell : Cell) (tree : Tree) → Derives p cell tree
+        → IsWithinSizes p.grammar cell.rule (cell.to - cell.from) }
 {}

@@ -1,15 +1,17 @@
 //! Parts of a problem: its word, and of its grammar and its algebra what it is asked for most.
 
-ghost use Rattle.std.specs.Prelude.{◌≡◌, ℕ, ◌<◌, ◌≤◌, ◌↔◌, IfSome, length};
+ghost use Rattle.std.specs.Prelude.{◌≡◌, ℕ, ◌<◌, ◌≤◌, ◌↔◌, IfSome, IsTrue, length};
 ghost use Rattle.std.specs.List.{AllByRecursion};
-ghost use Rattle.adp_model.specs.Parts.{algebra_of, alternatives_of, arguments_of, letters_of, term_of};
+ghost use Rattle.adp_model.specs.Lengths.{AllowsLength};
+ghost use Rattle.adp_model.specs.Parts.{algebra_of, alternative_at, alternatives_of, arguments_of, letters_of, term_of};
 ghost use Rattle.adp_model.specs.PosedProblem.{axiom_cell};
 ghost use Rattle.adp_model.specs.ProblemFields.{most_letters};
 ghost use Rattle.adp_model.specs.Sizes.{IsWithinSizes};
+ghost use Rattle.adp_model.specs.TermForms.{IsTermFor};
 ghost use Rattle.adp_model.specs.WellFormed.{IsKnown};
 
 use crate::cell::Cell;
-use crate::grammar::{Algebra, Alt, Arg, Goal, Linear};
+use crate::grammar::{Algebra, Alt, Arg, Goal, Term};
 use crate::laws::sizes::sizes_are_the_checked_numbers;
 use crate::laws::well_formed::{
     alternatives_fit, arguments_are_few_and_known, terms_fit_their_alternatives,
@@ -93,6 +95,25 @@ impl<'a> Problem<'a> {
         self.alternatives(rule)[alt as usize].args.as_slice()
     }
 
+    /// An alternative. Takes no memory.
+    #[inline(always)]
+    pub fn alternative(&self, rule: u32, alt: u8) -> &'a Alt
+        requires { alt < length (alternatives_of self.now.grammar rule) }
+        ensures { result.now ≡ alternative_at self.now.grammar rule alt }
+    {
+        alternatives_fit();
+        &self.alternatives(rule)[alt as usize]
+    }
+
+    /// Whether an alternative may be used over so many letters. Takes no memory.
+    #[inline(always)]
+    pub fn allows(&self, rule: u32, alt: u8, letters: usize) -> bool
+        requires { alt < length (alternatives_of self.now.grammar rule) }
+        ensures { IsTrue result ↔ AllowsLength (alternative_at self.now.grammar rule alt) letters }
+    {
+        self.alternative(rule, alt).allows(letters)
+    }
+
     /// The algebra.
     fn algebra(&self) -> &'a Algebra
         ensures { result.now ≡ algebra_of self.now }
@@ -107,11 +128,11 @@ impl<'a> Problem<'a> {
         self.algebra().goal
     }
 
-    /// The algebra's term for an alternative: it has a factor for each argument. Takes no memory.
-    pub fn term(&self, rule: u32, alt: u8) -> &'a Linear
+    /// The algebra's term for an alternative, of its arguments. Takes no memory.
+    pub fn term(&self, rule: u32, alt: u8) -> &'a Term
         requires { alt < length (alternatives_of self.now.grammar rule) }
         ensures term { result.now ≡ term_of self.now rule alt }
-        ensures factors { length result.now.factors ≡ length (arguments_of self.now.grammar rule alt) }
+        ensures fits { IsTermFor (length (arguments_of self.now.grammar rule alt)) result.now }
     {
         self.admissible();
         alternatives_fit();

@@ -6,6 +6,6 @@ ghost use Rattle.grammar_text.specs.Names.{part_count};
 
 /// A line declares no more kinds or alternatives than it has bytes.
 pub fn parts_are_few()
-    ensures { (line : List ℕ) (declaration : Declaration) → header_line line ≡ Says declaration
+    ensures { (version : ℕ) (line : List ℕ) (declaration : Declaration) → header_line version line ≡ Says declaration
         → part_count declaration ≤ length line }
 {}

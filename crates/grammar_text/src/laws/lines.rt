@@ -14,5 +14,5 @@ pub fn tokens_stand_behind()
 
 /// A header line is the `words` line exactly where its only token is the word `words`.
 pub fn words_lines_say_words()
-    ensures { (line : List ℕ) → header_line line ≡ Says Words ↔ IsTrue (is_words_line line) }
+    ensures { (version : ℕ) (line : List ℕ) → header_line version line ≡ Says Words ↔ IsTrue (is_words_line line) }
 {}

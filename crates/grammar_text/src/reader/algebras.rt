@@ -3,14 +3,14 @@
 ghost use Rattle.std.specs.Prelude.{◌≡◌, true, ℕ, List, map, IfOk};
 ghost use Rattle.job_texts.specs.DeclaredNames as sections;
 ghost use Rattle.job_texts.specs.JobText as texts;
-ghost use Rattle.job_texts.specs.TermText.{linear_of};
+ghost use Rattle.job_texts.specs.LetTerms.{term_of};
 ghost use Rattle.job_texts.specs.Declarations as forms;
 ghost use Rattle.grammar_text.specs.Building.{are_buildable, is_buildable, sign_names};
-ghost use Rattle.grammar_text.specs.Seen.{declaration_seen, parts_of_text, words_seen};
+ghost use Rattle.grammar_text.specs.Seen.{declaration_seen, term_seen, words_seen};
 
-use crate::reader::declaration::{Declaration, Term};
+use crate::reader::declaration::{self, Declaration};
 use crate::reader::judge::{read_let, text_of};
-use adp_model::{Algebra, Linear, Sequence, Sign};
+use adp_model::{Algebra, Linear, Sequence, Sign, Term};
 use std::alloc::{AllocError, Global};
 
 /// The algebras that these declare, each with a term for each of these signs.
@@ -56,7 +56,7 @@ fn terms(
     alloc: Global,
     section: &[Declaration<'_>],
     signs: &[Sign],
-) -> Result<Vec<Linear>, AllocError>
+) -> Result<Vec<Term>, AllocError>
     requires { are_buildable (map declaration_seen section.now) ≡ true }
     ensures { IfOk result (λ terms.
         terms.items ≡ map (texts.term_in (map declaration_seen section.now)) (sign_names signs.now)) }
@@ -69,7 +69,7 @@ fn terms(
 }
 
 // The term that the first `let` of a sign gives; the constant 0 where there is none.
-fn term_in(alloc: Global, section: &[Declaration<'_>], sign: &[u8]) -> Result<Linear, AllocError>
+fn term_in(alloc: Global, section: &[Declaration<'_>], sign: &[u8]) -> Result<Term, AllocError>
     requires { are_buildable (map declaration_seen section.now) ≡ true }
     ensures { IfOk result (λ term. term ≡ texts.term_in (map declaration_seen section.now) sign.now) }
 {
@@ -78,10 +78,10 @@ fn term_in(alloc: Global, section: &[Declaration<'_>], sign: &[u8]) -> Result<Li
             return Ok(term);
         }
     }
-    Ok(Linear {
+    Ok(Term::Linear(Linear {
         constant: 0,
         factors: Sequence::new(Vec::new(alloc)),
-    })
+    }))
 }
 
 // The term that a line gives to a sign.
@@ -89,7 +89,7 @@ fn term_given(
     alloc: Global,
     declaration: &Declaration<'_>,
     sign: &[u8],
-) -> Result<Option<Linear>, AllocError>
+) -> Result<Option<Term>, AllocError>
     requires { is_buildable (declaration_seen declaration.now) ≡ true }
     ensures { IfOk result (λ term. term ≡ texts.term_given sign.now (declaration_seen declaration.now)) }
 {
@@ -104,18 +104,23 @@ fn term_given(
     if sign != *other {
         return Ok(None);
     }
-    Ok(Some(linear_of(alloc, variables, term)?))
+    Ok(Some(term_of(alloc, variables, term)?))
 }
 
 // The term of a `let`.
-fn linear_of(alloc: Global, variables: &[&[u8]], term: &Term<'_>) -> Result<Linear, AllocError>
+fn term_of(
+    alloc: Global,
+    variables: &[&[u8]],
+    term: &declaration::Term<'_>,
+) -> Result<Term, AllocError>
     requires { (sign : List ℕ)
-        → is_buildable (forms.Let sign (words_seen variables.now) (parts_of_text term.now.bytes.now)) ≡ true }
-    ensures { IfOk result (λ linear.
-        linear ≡ linear_of (words_seen variables.now) (parts_of_text term.now.bytes.now)) }
+        → is_buildable (forms.Let sign (words_seen variables.now) (term_seen term.now.version term.now.bytes.now))
+        ≡ true }
+    ensures { IfOk result (λ found.
+        found ≡ term_of (words_seen variables.now) (term_seen term.now.version term.now.bytes.now)) }
 {
     match read_let(alloc, variables, term) {
-        Ok(linear) => Ok(linear),
+        Ok(found) => Ok(found),
         Err(_) => Err(AllocError),
     }
 }

@@ -44,18 +44,23 @@ pub(crate) fn lines_of<'a>(alloc: Global, text: &'a [u8]) -> Result<Vec<&'a [u8]
     Ok(lines)
 }
 
-/// What the lines behind line 1 are, up to and with the `words` line.
-pub(crate) fn header_of<'a>(alloc: Global, lines: &[&'a [u8]]) -> Result<Header<'a>, AllocError>
+/// What the lines behind line 1 of a text of this format are, up to and with the `words` line.
+pub(crate) fn header_of<'a>(
+    alloc: Global,
+    version: u8,
+    lines: &[&'a [u8]],
+) -> Result<Header<'a>, AllocError>
     requires { All (λ line. length line.now ≤ 2 ^ 31) lines.now }
     ensures seen { IfOk result (λ header.
-        header_seen header ≡ forms.Skipped ∷ map forms.header_line (up_to_words_line (words_seen lines.now))) }
+        header_seen header
+        ≡ forms.Skipped ∷ map (forms.header_line version) (up_to_words_line (words_seen lines.now))) }
     ensures says { IfOk result (λ header. says_in header.sorts.items ≡ length header.declared.items) }
 {
     let sorts = vec![in alloc; LineSort::Skipped]?;
     let declared = Vec::new(alloc);
     let mut header = Header { sorts, declared };
     for line in lines {
-        let found = header_line(alloc, line)?;
+        let found = header_line(alloc, version, line)?;
         if push_line(&mut header, found)? {
             return Ok(header);
         }

@@ -1,7 +1,7 @@
 // What header lines say, as slices of the input.
 
 ghost use Rattle.std.specs.Prelude.{◌≤◌, ◌^◌, length, IsSome};
-ghost use Rattle.job_texts.specs.TermParts.{term_parts};
+ghost use Rattle.job_texts.specs.LetTerms.{term_of_text};
 
 use adp_model::{Goal, Kind};
 
@@ -29,18 +29,27 @@ pub(crate) enum Argument<'a> {
     },
 }
 
-/// A sign by its name, and its arguments.
+/// The lengths that an alternative allows, by the words of the bounds.
+#[derive(Clone, Copy)]
+pub(crate) struct SizeWords<'a> {
+    pub(crate) low: &'a [u8],
+    pub(crate) high: Option<&'a [u8]>,
+}
+
+/// A sign by its name, its arguments, and a size where one is given.
 #[derive(Drop)]
 pub(crate) struct Alternative<'a> {
     pub(crate) sign: &'a [u8],
     pub(crate) arguments: Vec<Argument<'a>>,
+    pub(crate) size: Option<SizeWords<'a>>,
 }
 
-/// A term as it is spelled.
+/// A term as it is spelled in a text of this format.
 #[derive(Clone, Copy)]
 pub(crate) struct Term<'a> {
+    pub(crate) version: u8,
     pub(crate) bytes: &'a [u8],
-    ghost spelled: { IsSome (term_parts bytes.now) },
+    ghost spelled: { IsSome (term_of_text version bytes.now) },
     ghost short: { length bytes.now ≤ 2 ^ 31 },
 }
 

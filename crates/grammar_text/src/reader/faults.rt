@@ -3,7 +3,7 @@
 ghost use Rattle.std.specs.Prelude.{◌≤◌, ◌≡◌, ◌<◌, ◌+◌, ◌^◌, All, IfOk, get_or, map, length, drop};
 ghost use Rattle.job_texts.specs.Declarations.{Words};
 ghost use Rattle.grammar_text.specs.LineTests as tests;
-ghost use Rattle.grammar_text.specs.Names.{AreNames, declares_its_variables, part_count};
+ghost use Rattle.grammar_text.specs.Names.{AreNames, part_count};
 ghost use Rattle.grammar_text.specs.Seen.{declaration_seen};
 
 use crate::reader::declaration::Declaration;
@@ -12,7 +12,7 @@ use crate::reader::judge::{
 };
 use crate::reader::names::{Names, misfits, uses_unknown};
 use crate::reader::repeats::{has_axiom, is_misplaced, lacks_let, passing_count, repeats};
-use algebra_terms::TermError;
+use algebra_terms::WideError;
 use std::alloc::{AllocError, Global};
 
 /// What stands wrong at a line by what it declares, its own words aside.
@@ -27,6 +27,7 @@ pub(crate) struct FormTests {
     pub(crate) has_crossed_run: bool,
     pub(crate) lacks_let: bool,
     pub(crate) passing_count: Option<u32>,
+    pub(crate) twice: bool,
 }
 
 /// What a declaration shows by its own words.
@@ -36,6 +37,10 @@ pub(crate) enum OwnWords {
     Misnumbered,
     /// A variable of the term is not declared.
     Unknown,
+    /// The term has so many leaves, which are too many.
+    Many(u32),
+    /// A variable stands twice in the term.
+    Twice,
     Right,
 }
 
@@ -62,10 +67,12 @@ pub(crate) fn own_words(
     };
     match read_let(alloc, variables, term) {
         Ok(_) => Ok(OwnWords::Right),
-        Err(TermError::Name) => Ok(OwnWords::Misnamed),
-        Err(TermError::Number) => Ok(OwnWords::Misnumbered),
-        Err(TermError::Unknown) => Ok(OwnWords::Unknown),
-        Err(_) => Err(AllocError),
+        Err(WideError::Name) => Ok(OwnWords::Misnamed),
+        Err(WideError::Number) => Ok(OwnWords::Misnumbered),
+        Err(WideError::Unknown) => Ok(OwnWords::Unknown),
+        Err(WideError::Count(leaves)) => Ok(OwnWords::Many(leaves)),
+        Err(WideError::Twice) => Ok(OwnWords::Twice),
+        Err(WideError::Shape | WideError::Memory) => Err(AllocError),
     }
 }
 
@@ -76,13 +83,13 @@ pub(crate) fn form_tests(
     names: &Names<'_>,
     declared: &[Declaration<'_>],
     place: usize,
-    is_known: bool,
+    own: OwnWords,
 ) -> Result<FormTests, AllocError>
     requires inside { place < length declared.now }
     requires few { length declared.now ≤ 2 ^ 31 }
     requires parts { All (λ declaration. part_count (declaration_seen declaration) < 2 ^ 32) declared.now }
     requires names { AreNames names.now (map declaration_seen declared.now) }
-    requires known { is_known ≡ declares_its_variables (get_or (map declaration_seen declared.now) place Words) }
+    requires own { tests.AreRightWords (get_or (map declaration_seen declared.now) place Words) own }
     ensures { IfOk result (λ found. tests.AreFormTests (map declaration_seen declared.now) place found) }
 {
     let declaration = &declared[place];
@@ -92,12 +99,34 @@ pub(crate) fn form_tests(
         misletters: misletters(alloc, declaration)?,
         is_misplaced: is_misplaced(above, declaration),
         is_second_axiom: is_second_axiom(above, declaration),
-        uses_unknown: uses_unknown(names, declaration, is_known),
+        uses_unknown: uses_unknown(names, declaration, knows_variables(own)),
         misfits: misfits(names, declared, declaration),
         has_crossed_run: has_crossed_run(declaration),
         lacks_let: section_lacks_let(alloc, declared, behind(declared, place), declaration)?,
-        passing_count: passing_count(above, declaration),
+        passing_count: passing_leaves(own).or(passing_count(above, declaration)),
+        twice: is_twice(own),
     })
+}
+
+fn knows_variables(own: OwnWords) -> bool
+    ensures { result ≡ tests.knows_variables own }
+{
+    !matches!(own, OwnWords::Unknown)
+}
+
+fn passing_leaves(own: OwnWords) -> Option<u32>
+    ensures { result ≡ tests.passing_leaves own }
+{
+    match own {
+        OwnWords::Many(leaves) => Some(leaves),
+        _ => None,
+    }
+}
+
+fn is_twice(own: OwnWords) -> bool
+    ensures { result ≡ tests.has_twice own }
+{
+    matches!(own, OwnWords::Twice)
 }
 
 fn is_second_axiom(above: &[Declaration<'_>], declaration: &Declaration<'_>) -> bool

@@ -79,12 +79,8 @@ fn line_tests(
     match own_words(alloc, &text.header.declared[place])? {
         OwnWords::Misnamed => Ok(misnamed(alone)),
         OwnWords::Misnumbered => Ok(misnumbered(alone)),
-        OwnWords::Unknown => {
-            let form = form_tests(alloc, names, &text.header.declared, place, false)?;
-            Ok(joined(alone, form))
-        }
-        OwnWords::Right => {
-            let form = form_tests(alloc, names, &text.header.declared, place, true)?;
+        own => {
+            let form = form_tests(alloc, names, &text.header.declared, place, own)?;
             Ok(joined(alone, form))
         }
     }
@@ -122,6 +118,7 @@ fn joined(alone: LineTests, form: FormTests) -> LineTests
         crossed: form.has_crossed_run,
         lacks_let: form.lacks_let || alone.lacks_let,
         passing_count: form.passing_count.or(alone.passing_count),
+        twice: form.twice,
         ..alone
     }
 }

@@ -6,15 +6,17 @@ ghost use Rattle.job_texts.specs.DeclaredNames.{text_lines};
 ghost use Rattle.grammar_text.specs.Collecting.{header_seen, says_in};
 ghost use Rattle.grammar_text.specs.Gathering.{is_words_declaration, text_seen, words_line_in};
 ghost use Rattle.grammar_text.specs.Names.{part_count};
-ghost use Rattle.grammar_text.specs.Seen.{declaration_seen};
+ghost use Rattle.job_texts.specs.JobLines.{is_second_format, version_of};
+ghost use Rattle.grammar_text.specs.Seen.{declaration_seen, words_seen};
 
 use crate::reader::collected::{Header, header_of, lines_of};
 use crate::reader::declaration::Declaration;
 use std::alloc::{AllocError, Global};
 
-/// The lines of a text, what line 1 and each header line is, and the number of the `words` line, counted from 1.
+/// The format of a text, its lines, what line 1 and each header line is, and the number of the `words` line, counted from 1.
 #[derive(Drop)]
 pub(crate) struct Gathered<'a> {
+    pub(crate) version: u8,
     pub(crate) lines: Vec<&'a [u8]>,
     pub(crate) header: Header<'a>,
     pub(crate) words_line: Option<usize>,
@@ -32,13 +34,31 @@ pub(crate) fn gather<'a>(alloc: Global, text: &'a [u8]) -> Result<Gathered<'a>, 
         gathered.header.declared.items) }
 {
     let lines = lines_of(alloc, text)?;
-    let header = header_of(alloc, behind_first(&lines))?;
+    let version = version_of(&lines);
+    let header = header_of(alloc, version, behind_first(&lines))?;
     let words_line = words_line_of(&header);
     Ok(Gathered {
+        version,
         lines,
         header,
         words_line,
     })
+}
+
+// The format of a text, by its line 1.
+fn version_of(lines: &[&[u8]]) -> u8
+    ensures { result ≡ version_of (words_seen lines.now) }
+{
+    match lines {
+        [first, ..] if is_second_format(first) => 2,
+        _ => 1,
+    }
+}
+
+fn is_second_format(line: &[u8]) -> bool
+    ensures { result ≡ is_second_format line.now }
+{
+    line == b"adp 2".as_slice()
 }
 
 fn behind_first<'l, 'a>(lines: &'l [&'a [u8]]) -> &'l [&'a [u8]]

@@ -14,16 +14,18 @@ use crate::reader::names::Names;
 use adp_model::{Job, Sequence, Text};
 use std::alloc::{AllocError, Global};
 
-/// The job of a text without a fault, which has these declarations, of these names, and these words.
+/// The job of a text without a fault, of this format, which has these declarations, of these names, and these words.
 pub(crate) fn job_of(
     alloc: Global,
     text: &[u8],
+    version: u8,
     declared: &[Declaration<'_>],
     names: &Names<'_>,
     words: &[&[u8]],
 ) -> Result<Job, AllocError>
     requires faultless { first_fault (text_lines text.now) ≡ None }
     requires declarations { map declaration_seen declared.now ≡ declarations (text_lines text.now) }
+    requires version { version ≡ (text_lines text.now).version }
     requires names { AreNames names.now (map declaration_seen declared.now) }
     requires words { words_seen words.now ≡ (text_lines text.now).words }
     ensures { IfOk result (λ job. IsText text.now job) }
@@ -32,6 +34,7 @@ pub(crate) fn job_of(
     let grammar = declared_grammar(alloc, declared, names)?;
     let words = owned(alloc, words)?;
     Ok(Job {
+        version,
         grammar,
         words: Sequence::new(words),
     })

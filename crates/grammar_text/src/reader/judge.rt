@@ -1,17 +1,21 @@
 // What a declaration shows by itself: words that are no names, no numbers or no bounds, letters, and crossed bounds.
 
-ghost use Rattle.std.specs.Prelude.{◌≡◌, true, is_some, map, IfOk};
+ghost use Rattle.std.specs.Prelude.{◌≡◌, ◌≤◌, ◌^◌, ◌∷◌, true, false, is_some, length, map, IfOk};
+ghost use Rattle.std.specs.Option.{option_copied, option_map, option_map_or, option_to_list};
+ghost use Rattle.job_texts.specs.TermParts.{term_reading};
+ghost use Rattle.job_texts.specs.WideText.{wide_reading};
 ghost use Rattle.std.specs.List.{flat_map, list_all, list_any};
 ghost use Rattle.job_texts.specs.TextFaults as faults;
 ghost use Rattle.adp_model.specs.WellFormed as words;
 ghost use Rattle.grammar_text.specs.Judged as judged;
-ghost use Rattle.grammar_text.specs.Seen.{alternative_seen, argument_seen, declaration_seen, item_seen, parts_of_text, words_seen};
+ghost use Rattle.grammar_text.specs.Seen.{alternative_seen, argument_seen, declaration_seen, item_seen, size_seen, term_seen, words_seen};
 
-use crate::reader::declaration::{Alternative, Argument, Declaration, Item, Term};
+use crate::reader::declaration::{Alternative, Argument, Declaration, Item, SizeWords, Term};
 use crate::reader::letters::class_letters;
+use crate::reader::shape::is_second;
 use adp_model::laws::well_formed::names_are_short_and_printable;
-use adp_model::{Linear, Text, is_name};
-use algebra_terms::{TermError, number_of, read_term};
+use adp_model::{Text, WideTerm, is_name};
+use algebra_terms::{TermError, WideError, number_of, read_term, read_wide};
 use std::alloc::{AllocError, Global};
 
 /// The greatest bound of a run.
@@ -124,10 +128,34 @@ fn has_bounds(alternative: &Alternative<'_>) -> bool
         ≡ list_all (λ word. is_some (faults.bound_of word))
         (faults.alternative_bounds (alternative_seen alternative.now)) }
 {
-    alternative
-        .arguments
+    have_bounds(&alternative.arguments) && has_size_bounds(&alternative.size)
+}
+
+fn have_bounds(arguments: &[Argument<'_>]) -> bool
+    ensures { result
+        ≡ list_all (λ word. is_some (faults.bound_of word))
+        (flat_map faults.argument_bounds (map argument_seen arguments.now)) }
+{
+    arguments
         .iter()
         .all(|argument| has_argument_bounds(argument))
+}
+
+fn has_size_bounds(size: &Option<SizeWords<'_>>) -> bool
+    ensures { result ≡ list_all (λ word. is_some (faults.bound_of word))
+        (faults.size_bounds (option_map size_seen size.now)) }
+{
+    match size {
+        None => true,
+        Some(size) => are_bounds(size.low, size.high),
+    }
+}
+
+// Whether a low bound and, where there is one, a high bound are bounds.
+fn are_bounds(low: &[u8], high: Option<&[u8]>) -> bool
+    ensures { result ≡ list_all (λ word. is_some (faults.bound_of word)) (low.now ∷ option_to_list (option_copied high.entry)) }
+{
+    bound_of(low).is_some() && high.is_none_or(|word| bound_of(word).is_some())
 }
 
 fn has_argument_bounds(argument: &Argument<'_>) -> bool
@@ -135,14 +163,12 @@ fn has_argument_bounds(argument: &Argument<'_>) -> bool
         ≡ list_all (λ word. is_some (faults.bound_of word)) (faults.argument_bounds (argument_seen argument.now)) }
 {
     match argument {
-        Argument::RunOf { low, high, .. } => {
-            bound_of(low).is_some() && high.is_none_or(|word| bound_of(word).is_some())
-        }
+        Argument::RunOf { low, high, .. } => are_bounds(low, *high),
         _ => true,
     }
 }
 
-/// Whether the high bound of a run is below its low bound.
+/// Whether the high bound of a run or of a size is below its low bound.
 pub(crate) fn has_crossed_run(declaration: &Declaration<'_>) -> bool
     ensures { result ≡ judged.has_crossed_run (declaration_seen declaration.now) }
 {
@@ -154,12 +180,27 @@ pub(crate) fn has_crossed_run(declaration: &Declaration<'_>) -> bool
 
 fn some_is_crossed(alternatives: &[Alternative<'_>]) -> bool
     ensures { result
-        ≡ list_any (λ alternative. list_any faults.has_crossed_bounds alternative.arguments)
-        (map alternative_seen alternatives.now) }
+        ≡ list_any faults.is_crossed_alternative (map alternative_seen alternatives.now) }
 {
     alternatives
         .iter()
-        .any(|alternative| has_crossed_argument(alternative))
+        .any(|alternative| is_crossed(alternative))
+}
+
+fn is_crossed(alternative: &Alternative<'_>) -> bool
+    ensures { result ≡ faults.is_crossed_alternative (alternative_seen alternative.now) }
+{
+    has_crossed_argument(alternative) || has_crossed_size(&alternative.size)
+}
+
+fn has_crossed_size(size: &Option<SizeWords<'_>>) -> bool
+    ensures { result ≡ option_map_or (λ size. faults.are_crossed size.low size.high)
+        (option_map size_seen size.now) false }
+{
+    match size {
+        None => false,
+        Some(size) => are_crossed(size.low, size.high),
+    }
 }
 
 fn has_crossed_argument(alternative: &Alternative<'_>) -> bool
@@ -174,12 +215,17 @@ fn has_crossed_argument(alternative: &Alternative<'_>) -> bool
 fn has_crossed_bounds(argument: &Argument<'_>) -> bool
     ensures { result ≡ faults.has_crossed_bounds (argument_seen argument.now) }
 {
-    let Argument::RunOf {
-        low,
-        high: Some(high),
-        ..
-    } = argument
-    else {
+    match argument {
+        Argument::RunOf { low, high, .. } => are_crossed(low, *high),
+        _ => false,
+    }
+}
+
+// Whether a high bound is below the low one.
+fn are_crossed(low: &[u8], high: Option<&[u8]>) -> bool
+    ensures { result ≡ faults.are_crossed low.now (option_copied high.entry) }
+{
+    let Some(high) = high else {
         return false;
     };
     match (bound_of(low), bound_of(high)) {
@@ -217,21 +263,52 @@ fn are_distinct(letters: &[(u8, i64)]) -> bool
 }
 
 /// The term of a `let` of these variables, or the first that is wrong with it: Name, where a variable of the term is no
-/// name; Number, where a number of it is none or too great, or where its constant or a factor is out of range; Unknown,
-/// where the term has another variable. Shape never comes.
+/// name; Number, where a number of it is none or too great, or where the constant or a factor of a linear term is out of
+/// range; Unknown, where the term has another variable; Count, where a wide term has too many leaves; Twice, where it
+/// names a variable twice. Shape never comes.
 pub(crate) fn read_let(
     alloc: Global,
     variables: &[&[u8]],
     term: &Term<'_>,
-) -> Result<Linear, TermError>
+) -> Result<adp_model::Term, WideError>
     requires { list_all words.is_name (words_seen variables.now) ≡ true }
-    ensures { judged.IsJudged (words_seen variables.now) (parts_of_text term.now.bytes.now) result }
+    ensures { judged.IsJudged (words_seen variables.now) (term_seen term.now.version term.now.bytes.now) result }
 {
     let mut names = Vec::with_capacity(alloc, variables.len())?;
     for variable in variables {
         names.push(text_of(alloc, variable)?)?;
     }
-    read_term(alloc, term.bytes, &names)
+    if is_second(term.version) {
+        read_second(alloc, term.bytes, &names)
+    } else {
+        read_first(alloc, term.bytes, &names)
+    }
+}
+
+// A wide term.
+fn read_second(alloc: Global, bytes: &[u8], vars: &[Text]) -> Result<adp_model::Term, WideError>
+    requires { length bytes.now ≤ 2 ^ 31 }
+    ensures { judged.GivesSecond (wide_reading bytes.now vars.now) result }
+{
+    match read_wide(alloc, bytes, vars) {
+        Ok(root) => Ok(adp_model::Term::Wide(WideTerm::new(root))),
+        Err(error) => Err(error),
+    }
+}
+
+// A linear term.
+fn read_first(alloc: Global, bytes: &[u8], vars: &[Text]) -> Result<adp_model::Term, WideError>
+    requires { length bytes.now ≤ 2 ^ 31 }
+    ensures { judged.GivesFirst (term_reading bytes.now vars.now) result }
+{
+    match read_term(alloc, bytes, vars) {
+        Ok(term) => Ok(adp_model::Term::Linear(term)),
+        Err(TermError::Shape) => Err(WideError::Shape),
+        Err(TermError::Name) => Err(WideError::Name),
+        Err(TermError::Number) => Err(WideError::Number),
+        Err(TermError::Unknown) => Err(WideError::Unknown),
+        Err(TermError::Memory) => Err(WideError::Memory),
+    }
 }
 
 /// A name as a text of its own.

@@ -8,7 +8,8 @@ ghost use Rattle.grammar_text.specs.LineKinds.{AreLineTests};
 use adp_model::TextFault;
 
 /// What stands wrong at a line, by the numbers of the kinds. Where a name is wrong, what follows it says nothing, and
-/// so where a number is.
+/// so where a number is; so do the count of a line that uses an unknown name and what follows it, and `twice` where a
+/// count passes its limit.
 #[derive(Clone, Copy, Debug, PartialEq, Eq)]
 pub(crate) struct LineTests {
     pub(crate) other_first_line: bool,
@@ -28,6 +29,7 @@ pub(crate) struct LineTests {
     pub(crate) lacks_let: bool,
     /// The first count that passes its limit.
     pub(crate) passing_count: Option<u32>,
+    pub(crate) twice: bool,
 }
 
 /// The least kind that stands at a line, with its count.
@@ -64,8 +66,12 @@ pub(crate) fn least_kind(line: u32, tests: &LineTests) -> Option<TextFault>
         fault(line, 14, 0)
     } else if tests.lacks_let {
         fault(line, 15, 0)
+    } else if let Some(count) = tests.passing_count {
+        fault(line, 16, count)
+    } else if tests.twice {
+        fault(line, 17, 0)
     } else {
-        fault(line, 16, tests.passing_count?)
+        None
     }
 }
 

@@ -19,8 +19,10 @@ use crate::reader::kinds::LineTests;
 use crate::reader::repeats::{has_algebra, has_axiom};
 use adp_model::is_printable;
 
-/// The first line of a job's text.
-const FIRST_LINE: &[u8] = b"adp 1";
+/// The first lines of a job's text, in the first format and in the second.
+const FIRST_FORMAT: &[u8] = b"adp 1";
+
+const SECOND_FORMAT: &[u8] = b"adp 2";
 
 /// How many words a job has at most.
 const MOST_WORDS: usize = 65_536;
@@ -53,7 +55,13 @@ fn is_other_first_line(text: &Gathered<'_>, index: usize) -> bool
     requires { index ≤ length text.now.lines.items }
     ensures { result ≡ faults.has_other_first_line (text_seen text.now) (index + 1) }
 {
-    index == 0 && line_at(&text.lines, 0) != FIRST_LINE
+    index == 0 && !is_first_line(line_at(&text.lines, 0))
+}
+
+fn is_first_line(line: &[u8]) -> bool
+    ensures { result ≡ job_lines.is_first_line line.now }
+{
+    line == FIRST_FORMAT || line == SECOND_FORMAT
 }
 
 /// Whether a byte of the line is not printable.
@@ -153,5 +161,6 @@ pub(crate) fn tests_alone(text: &Gathered<'_>, index: usize) -> LineTests
         crossed: false,
         lacks_let: ends_header && !has_algebra(&text.header.declared),
         passing_count: passing_words(text, index),
+        twice: false,
     }
 }

@@ -6,7 +6,7 @@ ghost use Rattle.adp_model.specs.WellFormed as words;
 ghost use Rattle.job_texts.specs.TermText.{is_among};
 ghost use Rattle.job_texts.specs.DeclaredNames.{sign_names, is_algebra_line, section_of, let_signs};
 ghost use Rattle.job_texts.specs.TextFaults as faults;
-ghost use Rattle.grammar_text.specs.Names.{AreMembers, first_passing, has_no_place, has_no_place_behind, is_named, lacks_sign, names_as, part_count};
+ghost use Rattle.grammar_text.specs.Names.{AreMembers, first_passing, has_no_place, has_no_place_behind, is_named, lacks_sign, line_counts, names_as, part_count};
 ghost use Rattle.grammar_text.specs.Seen.{declaration_seen, words_seen};
 
 use crate::reader::declaration::Declaration;
@@ -185,12 +185,12 @@ fn lacks_sign(signs: &BTreeSet<&[u8]>, declaration: &Declaration<'_>) -> bool
     }
 }
 
-/// The first count of a line below these that passes its limit.
+/// The first count of a line below these that passes its limit; the leaves of a term aside.
 pub(crate) fn passing_count(above: &[Declaration<'_>], declaration: &Declaration<'_>) -> Option<u32>
     requires above { length above.now ≤ 2 ^ 31 }
     requires parts { part_count (declaration_seen declaration.now) < 2 ^ 32 }
     ensures { result ≡ first_passing
-        (faults.counts_of (map declaration_seen above.now) (declaration_seen declaration.now)) }
+        (line_counts (map declaration_seen above.now) (declaration_seen declaration.now)) }
 {
     match declaration {
         Declaration::Class { .. } => passing(count(above, Sort::Class) + 1, 64),

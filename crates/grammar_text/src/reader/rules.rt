@@ -8,13 +8,15 @@ ghost use Rattle.adp_model.specs.Printable.{IsPrintable};
 ghost use Rattle.algebra_terms.specs.Tokens.{letters_behind};
 ghost use Rattle.grammar_text.specs.Building.{are_buildable, is_buildable, is_printable_alternative, is_printable_argument};
 ghost use Rattle.grammar_text.specs.Names.{AreNames};
-ghost use Rattle.grammar_text.specs.Seen.{alternative_seen, argument_seen, declaration_seen};
+ghost use Rattle.grammar_text.specs.Seen.{alternative_seen, argument_seen, declaration_seen, size_seen};
+ghost use Rattle.std.specs.Option.{option_and_then, option_copied, option_map};
+ghost use Rattle.job_texts.specs.TextFaults.{bound_of};
 
-use crate::reader::declaration::{Alternative, Argument, Declaration};
+use crate::reader::declaration::{Alternative, Argument, Declaration, SizeWords};
 use crate::reader::judge::{bound_of, text_of};
 use crate::reader::letters::push_letters;
 use crate::reader::names::Names;
-use adp_model::{Alt, Arg, Rule, Sequence, Text};
+use adp_model::{Alt, Arg, Rule, Sequence, Size, Text};
 use std::alloc::{AllocError, Global};
 
 /// The rules that these, whose names these are, declare.
@@ -85,7 +87,29 @@ fn alternative_of(
     Ok(Alt {
         sign: names.sign_number(alternative.sign),
         args: Sequence::new(args),
+        size: size_of(&alternative.size),
     })
+}
+
+fn size_of(size: &Option<SizeWords<'_>>) -> Option<Size>
+    ensures { result ≡ option_map texts.size_of (option_map size_seen size.now) }
+{
+    match size {
+        None => None,
+        Some(size) => Some(Size {
+            low: bound_of(size.low).unwrap_or(0),
+            high: high_bound(size.high),
+        }),
+    }
+}
+
+fn high_bound(word: Option<&[u8]>) -> Option<u32>
+    ensures { result ≡ option_and_then bound_of (option_copied word.entry) }
+{
+    match word {
+        Some(word) => bound_of(word),
+        None => None,
+    }
 }
 
 fn arguments_of(
@@ -115,10 +139,7 @@ fn argument_of(alloc: Global, argument: &Argument<'_>, names: &Names<'_>) -> Res
         Argument::OneOf(class) => Ok(Arg::Letter(names.class_number(class))),
         Argument::RunOf { class, low, high } => {
             let low = bound_of(low).unwrap_or(0);
-            let high = match high {
-                Some(word) => bound_of(word),
-                None => None,
-            };
+            let high = high_bound(*high);
             Ok(Arg::Run {
                 class: names.class_number(class),
                 low,

@@ -1,20 +1,22 @@
 // The shapes of header lines: from the tokens of a line to what it says.
 
-ghost use Rattle.std.specs.Prelude.{◌≡◌, ◌+◌, ◌*◌, ◌≤◌, ◌<◌, ◌^◌, ◌∷◌, false, true, length, map, drop, All, IfOk, IfSome, IsSome, codes};
+ghost use Rattle.std.specs.Prelude.{◌≡◌, ◌+◌, ◌*◌, ◌≤◌, ◌<◌, ◌^◌, ◌∷◌, false, true, length, map, drop, is_none, is_some, All, IfOk, IfSome, IsSome, codes};
 ghost use Rattle.std.specs.List.{list_all};
 ghost use Rattle.adp_model.specs.Printable.{is_printable_byte};
 ghost use Rattle.std.specs.Option.{option_map};
 ghost use Rattle.job_texts.specs.LineTokens as lines;
 ghost use Rattle.job_texts.specs.JobLines as job_lines;
-ghost use Rattle.job_texts.specs.TermParts.{parts_of, term_parts};
+ghost use Rattle.job_texts.specs.LetTerms.{is_second, term_of_text, term_of_tokens};
 ghost use Rattle.job_texts.specs.Declarations as forms;
 ghost use Rattle.algebra_terms.specs.Tokens.{IsIn, placed};
 ghost use Rattle.algebra_terms.specs.Tokens.{said as token_said};
-ghost use Rattle.grammar_text.specs.Seen.{alternative_seen, declaration_seen, item_seen, let_tokens_seen, line_seen, tokens_seen, behind_class, AreArguments, IsArgumentEnd, IsBehindAlternative, IsBehindArgument, IsBehindKind, IsFirstArgument, IsFirstItem, IsFirstKind, IsFirstSign, IsFirstVariable, IsHighBound};
+ghost use Rattle.grammar_text.specs.Seen.{alternative_seen, declaration_seen, item_seen, let_tokens_seen, line_seen, tokens_seen, behind_class, behind_clause, behind_low, AreArguments, IsArgumentEnd, IsBehindAlternative, IsBehindArgument, IsBehindKind, IsFirstArgument, IsFirstItem, IsFirstKind, IsFirstSign, IsFirstVariable, IsHighBound, IsSizeEnd};
 
-use crate::reader::declaration::{Alternative, Argument, Declaration, HeaderLine, Item, Term};
+use crate::reader::declaration::{
+    Alternative, Argument, Declaration, HeaderLine, Item, SizeWords, Term,
+};
 use adp_model::{Goal, Kind, is_printable};
-use algebra_terms::{Symbol, Token, TokenError, is_term, symbol_at, tokens};
+use algebra_terms::{Symbol, Token, TokenError, is_term, is_wide_term, symbol_at, tokens};
 use std::alloc::{AllocError, Global};
 
 // What follows behind one of a list.
@@ -24,10 +26,14 @@ enum Next {
     End,
 }
 
-/// What a header line is.
-pub(crate) fn header_line<'a>(alloc: Global, line: &'a [u8]) -> Result<HeaderLine<'a>, AllocError>
+/// What a header line of a text of this format is.
+pub(crate) fn header_line<'a>(
+    alloc: Global,
+    version: u8,
+    line: &'a [u8],
+) -> Result<HeaderLine<'a>, AllocError>
     requires { length line.now ≤ 2 ^ 31 }
-    ensures { IfOk result (λ found. line_seen found ≡ forms.header_line line.now) }
+    ensures { IfOk result (λ found. line_seen found ≡ forms.header_line version line.now) }
 {
     if is_skipped(line) {
         return Ok(HeaderLine::Skipped);
@@ -36,7 +42,7 @@ pub(crate) fn header_line<'a>(alloc: Global, line: &'a [u8]) -> Result<HeaderLin
         return Ok(HeaderLine::Unprintable);
     }
     match tokens(alloc, line) {
-        Ok(tokens) => by_shape(alloc, line, &tokens),
+        Ok(tokens) => by_shape(alloc, version, line, &tokens),
         Err(TokenError::OpenQuote) => Ok(HeaderLine::Unclosed),
         Err(TokenError::StrayByte) => Ok(HeaderLine::Shapeless),
         Err(TokenError::Memory) => Err(AllocError),
@@ -58,6 +64,7 @@ fn has_only_spaces(line: &[u8]) -> bool
 // What a line of these tokens is.
 fn by_shape<'a>(
     alloc: Global,
+    version: u8,
     line: &'a [u8],
     tokens: &[Token],
 ) -> Result<HeaderLine<'a>, AllocError>
@@ -66,10 +73,10 @@ fn by_shape<'a>(
     requires short { length line.now ≤ 2 ^ 31 }
     requires not_skipped { job_lines.is_skipped line.now ≡ false }
     requires printable { list_all is_printable_byte line.now ≡ true }
-    ensures { IfOk result (λ found. line_seen found ≡ forms.header_line line.now) }
+    ensures { IfOk result (λ found. line_seen found ≡ forms.header_line version line.now) }
 {
     let said = symbols(alloc, line, tokens)?;
-    match declaration(alloc, line, tokens, &said)? {
+    match declaration(alloc, version, line, tokens, &said)? {
         Some(declaration) => Ok(HeaderLine::Says(declaration)),
         None => Ok(HeaderLine::Shapeless),
     }
@@ -94,6 +101,7 @@ fn symbols<'a>(
 // What the tokens of a line say; `None` where they match no shape.
 fn declaration<'a>(
     alloc: Global,
+    version: u8,
     line: &'a [u8],
     tokens: &[Token],
     said: &[Symbol<'a>],
@@ -103,7 +111,7 @@ fn declaration<'a>(
     requires short { length line.now ≤ 2 ^ 31 }
     requires said { tokens_seen said.now ≡ map (token_said line.now) tokens.now }
     ensures { IfOk result
-        (λ found. option_map declaration_seen found ≡ forms.declaration_of (tokens_seen said.now)) }
+        (λ found. option_map declaration_seen found ≡ forms.declaration_of version (tokens_seen said.now)) }
 {
     let [Symbol::Word(word), rest @ ..] = said else {
         return Ok(None);
@@ -115,9 +123,9 @@ fn declaration<'a>(
     } else if is_word(b"algebra", word) {
         Ok(algebra(rest))
     } else if is_word(b"let", word) {
-        let_line(alloc, line, tokens, rest)
+        let_line(alloc, version, line, tokens, rest)
     } else if is_word(b"rule", word) {
-        rule(alloc, rest)
+        rule(alloc, version, rest)
     } else if is_word(b"grammar", word) {
         Ok(axiom(rest))
     } else if is_word(b"words", word) {
@@ -276,6 +284,7 @@ fn algebra<'a>(said: &[Symbol<'a>]) -> Option<Declaration<'a>>
 // What a `let` line of these tokens says, by the tokens behind its first.
 fn let_line<'a>(
     alloc: Global,
+    version: u8,
     line: &'a [u8],
     tokens: &[Token],
     said: &[Symbol<'a>],
@@ -284,7 +293,7 @@ fn let_line<'a>(
     requires spans { All (IsIn line.now) tokens.now }
     requires short { length line.now ≤ 2 ^ 31 }
     requires said { tokens_seen said.now ≡ map (token_said line.now) (drop 1 tokens.now) }
-    ensures { IfOk result (λ found. option_map declaration_seen found ≡ forms.let_of (tokens_seen said.now)) }
+    ensures { IfOk result (λ found. option_map declaration_seen found ≡ forms.let_of version (tokens_seen said.now)) }
 {
     let [Symbol::Word(sign), Symbol::OpenBracket, rest @ ..] = said else {
         return Ok(None);
@@ -294,10 +303,10 @@ fn let_line<'a>(
     };
     // Before the `=` stand `let`, the sign and its bracket, and each variable with the mark behind it.
     let equals = 3 + 2 * variables.len();
-    if !is_term(line, &tokens[equals + 1..]) {
+    if !spells_term(alloc, version, line, &tokens[equals + 1..])? {
         return Ok(None);
     }
-    let term = term_behind(line, tokens, equals);
+    let term = term_behind(version, line, tokens, equals);
     Ok(Some(Declaration::Let {
         sign,
         variables,
@@ -305,17 +314,44 @@ fn let_line<'a>(
     }))
 }
 
+// Whether these tokens of a line spell a term of this format.
+fn spells_term(
+    alloc: Global,
+    version: u8,
+    line: &[u8],
+    tokens: &[Token],
+) -> Result<bool, AllocError>
+    requires { All (IsIn line.now) tokens.now }
+    ensures { IfOk result
+        (λ spells. spells ≡ is_some (term_of_tokens version (map (token_said line.now) tokens.now))) }
+{
+    if is_second(version) {
+        is_wide_term(alloc, line, tokens)
+    } else {
+        Ok(is_term(line, tokens))
+    }
+}
+
+/// Whether a format is the one with wide terms and with sizes of alternatives.
+pub(crate) fn is_second(version: u8) -> bool
+    ensures { result ≡ is_second version }
+{
+    version == 2
+}
+
 // The term that the tokens behind this one spell.
-fn term_behind<'a>(line: &'a [u8], tokens: &[Token], equals: usize) -> Term<'a>
+fn term_behind<'a>(version: u8, line: &'a [u8], tokens: &[Token], equals: usize) -> Term<'a>
     requires tokens { lines.line_tokens line.now ≡ Ok (map (placed line.now) tokens.now) }
     requires spans { All (IsIn line.now) tokens.now }
     requires short { length line.now ≤ 2 ^ 31 }
     requires inside { equals < length tokens.now }
-    requires spelled { IsSome (parts_of (map (token_said line.now) (drop (equals + 1) tokens.now))) }
-    ensures { term_parts result.bytes.now ≡ parts_of (map (token_said line.now) (drop (equals + 1) tokens.now)) }
+    requires spelled { IsSome (term_of_tokens version (map (token_said line.now) (drop (equals + 1) tokens.now))) }
+    ensures spelled { term_of_text version result.bytes.now
+        ≡ term_of_tokens version (map (token_said line.now) (drop (equals + 1) tokens.now)) }
+    ensures version { result.version ≡ version }
 {
     let bytes = &line[tokens[equals].to as usize..];
-    Term { bytes }
+    Term { version, bytes }
 }
 
 // Variables with a comma between two, up to the closing bracket, behind which an `=` stands.
@@ -353,8 +389,13 @@ fn first_variable<'a>(said: &[Symbol<'a>]) -> Option<(&'a [u8], Next)>
     }
 }
 
-fn rule<'a>(alloc: Global, said: &[Symbol<'a>]) -> Result<Option<Declaration<'a>>, AllocError>
-    ensures { IfOk result (λ found. option_map declaration_seen found ≡ forms.rule_of (tokens_seen said.now)) }
+fn rule<'a>(
+    alloc: Global,
+    version: u8,
+    said: &[Symbol<'a>],
+) -> Result<Option<Declaration<'a>>, AllocError>
+    ensures { IfOk result
+        (λ found. option_map declaration_seen found ≡ forms.rule_of version (tokens_seen said.now)) }
 {
     let [Symbol::Word(name), Symbol::Equals, rest @ ..] = said else {
         return Ok(None);
@@ -362,7 +403,24 @@ fn rule<'a>(alloc: Global, said: &[Symbol<'a>]) -> Result<Option<Declaration<'a>
     let Some(alternatives) = alternatives(alloc, rest)? else {
         return Ok(None);
     };
+    if !is_second(version) && !have_no_sizes(&alternatives) {
+        return Ok(None);
+    }
     Ok(Some(Declaration::Rule { name, alternatives }))
+}
+
+fn have_no_sizes(alternatives: &[Alternative<'_>]) -> bool
+    ensures { result ≡ list_all (λ alternative. is_none alternative.size) (map alternative_seen alternatives.now) }
+{
+    alternatives
+        .iter()
+        .all(|alternative| has_no_size(alternative))
+}
+
+fn has_no_size(alternative: &Alternative<'_>) -> bool
+    ensures { result ≡ is_none (alternative_seen alternative.now).size }
+{
+    alternative.size.is_none()
 }
 
 // Alternatives with a `|` between two, the last up to the end of the line.
@@ -380,12 +438,18 @@ fn alternatives<'a>(
         let Some((arguments, used)) = arguments(alloc, &said[at + 2..])? else {
             return Ok(None);
         };
-        alternatives.push(Alternative { sign, arguments })?;
         at = at + 2 + used;
-        match behind_alternative(&said[at..]) {
-            Some(Next::End) => return Ok(Some(alternatives)),
-            Some(Next::Another) => at += 1,
-            None => return Ok(None),
+        let Some((size, next, used)) = behind_alternative(&said[at..]) else {
+            return Ok(None);
+        };
+        alternatives.push(Alternative {
+            sign,
+            arguments,
+            size,
+        })?;
+        match next {
+            Next::End => return Ok(Some(alternatives)),
+            Next::Another => at += used,
         }
     }
     Ok(None)
@@ -401,13 +465,60 @@ fn first_sign<'a>(said: &[Symbol<'a>]) -> Option<&'a [u8]>
     }
 }
 
-// What stands behind an alternative: a `|` and another one, or nothing.
-fn behind_alternative(said: &[Symbol<'_>]) -> Option<Next>
+// What stands behind the closing bracket of an alternative: a size or none, and a `|` with another alternative or
+// nothing; and how many tokens up to that one.
+fn behind_alternative<'a>(said: &[Symbol<'a>]) -> Option<(Option<SizeWords<'a>>, Next, usize)>
     ensures { IsBehindAlternative said.now result }
 {
     match said {
-        [] => Some(Next::End),
-        [Symbol::Bar, ..] => Some(Next::Another),
+        [] => Some((None, Next::End, 0)),
+        [Symbol::Bar, ..] => Some((None, Next::Another, 1)),
+        [Symbol::Word(first), Symbol::Word(second), rest @ ..] => {
+            if !is_clause(first, second) {
+                return None;
+            }
+            match size_behind(rest) {
+                Some((size, next, used)) => Some((Some(size), next, 2 + used)),
+                None => None,
+            }
+        }
+        _ => None,
+    }
+}
+
+// Whether these words begin a size.
+fn is_clause(first: &[u8], second: &[u8]) -> bool
+    ensures { result ≡ forms.is_clause first.now second.now }
+{
+    is_word(b"with", first) && is_word(b"size", second)
+}
+
+// The size that stands behind `with size`, what follows it, and how many tokens up to that.
+fn size_behind<'a>(said: &[Symbol<'a>]) -> Option<(SizeWords<'a>, Next, usize)>
+    ensures { IsSizeEnd (λ tokens. behind_clause tokens) said.now result }
+{
+    let [Symbol::Word(low), Symbol::Dots, rest @ ..] = said else {
+        return None;
+    };
+    let (size, next, used) = size_from(low, rest)?;
+    Some((size, next, 2 + used))
+}
+
+// The same behind the low bound and its dots.
+fn size_from<'a>(low: &'a [u8], said: &[Symbol<'a>]) -> Option<(SizeWords<'a>, Next, usize)>
+    ensures { IsSizeEnd (λ tokens. behind_low low.now tokens) said.now result }
+{
+    match said {
+        [] => Some((SizeWords { low, high: None }, Next::End, 0)),
+        [Symbol::Bar, ..] => Some((SizeWords { low, high: None }, Next::Another, 1)),
+        [Symbol::Word(high)] => {
+            let high = Some(*high);
+            Some((SizeWords { low, high }, Next::End, 1))
+        }
+        [Symbol::Word(high), Symbol::Bar, ..] => {
+            let high = Some(*high);
+            Some((SizeWords { low, high }, Next::Another, 2))
+        }
         _ => None,
     }
 }

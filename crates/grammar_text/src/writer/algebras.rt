@@ -2,9 +2,10 @@
 
 ghost use Rattle.std.specs.Prelude.{◌≡◌, ◌++◌, OnOk, codes};
 ghost use Rattle.std.specs.List.{flat_map, zip};
-ghost use Rattle.job_texts.specs.Spelling.{algebra_lines, factor_text, factors_text, goal_text, let_line, separated, term_text, variables};
+ghost use Rattle.adp_model.specs.WideTerms.{form_of};
+ghost use Rattle.job_texts.specs.Spelling.{algebra_lines, factor_text, factors_text, goal_text, let_line, linear_text, part_text, separated, term_text, variables, wide_text};
 
-use adp_model::{Algebra, Goal, Kind, Linear, Sign, push_decimal, push_signed};
+use adp_model::{Algebra, Goal, Kind, Linear, Sign, Term, Wide, push_decimal, push_signed};
 use std::alloc::AllocError;
 
 pub(crate) fn push_algebras(
@@ -40,7 +41,7 @@ fn push_goal(out: &mut Vec<u8>, goal: Goal) -> Result<(), AllocError>
     }
 }
 
-fn push_lets(out: &mut Vec<u8>, signs: &[Sign], terms: &[Linear]) -> Result<(), AllocError>
+fn push_lets(out: &mut Vec<u8>, signs: &[Sign], terms: &[Term]) -> Result<(), AllocError>
     ensures { OnOk result (out.new.items ≡ out.old.items ++ flat_map let_line (zip signs.now terms.now)) }
 {
     for (sign, term) in signs.iter().zip(terms) {
@@ -49,7 +50,7 @@ fn push_lets(out: &mut Vec<u8>, signs: &[Sign], terms: &[Linear]) -> Result<(), 
     Ok(())
 }
 
-fn push_let(out: &mut Vec<u8>, sign: &Sign, term: &Linear) -> Result<(), AllocError>
+fn push_let(out: &mut Vec<u8>, sign: &Sign, term: &Term) -> Result<(), AllocError>
     ensures { OnOk result (out.new.items ≡ out.old.items ++ let_line (sign.now, term.now)) }
 {
     out.extend_from_slice(b"let ")?;
@@ -74,8 +75,87 @@ fn push_variables(out: &mut Vec<u8>, kinds: &[Kind]) -> Result<(), AllocError>
     Ok(())
 }
 
-fn push_term(out: &mut Vec<u8>, term: &Linear) -> Result<(), AllocError>
+fn push_term(out: &mut Vec<u8>, term: &Term) -> Result<(), AllocError>
     ensures { OnOk result (out.new.items ≡ out.old.items ++ term_text term.now) }
+{
+    match term {
+        Term::Linear(term) => push_linear(out, term),
+        Term::Wide(term) => push_wide(out, term.root()),
+    }
+}
+
+/// A wide term: its root goes without brackets.
+fn push_wide(out: &mut Vec<u8>, term: &Wide) -> Result<(), AllocError>
+    ensures { OnOk result (out.new.items ≡ out.old.items ++ wide_text (form_of term.now)) }
+{
+    match term {
+        Wide::Sum(left, right) => push_between(out, left, b" + ", right),
+        Wide::Difference(left, right) => push_between(out, left, b" - ", right),
+        Wide::Product(left, right) => push_between(out, left, b" * ", right),
+        _ => push_part(out, term),
+    }
+}
+
+/// Two parts with a mark between them.
+fn push_between(out: &mut Vec<u8>, left: &Wide, mark: &[u8], right: &Wide) -> Result<(), AllocError>
+    ensures { OnOk result (out.new.items ≡ out.old.items
+        ++ (part_text (form_of left.now) ++ mark.now ++ part_text (form_of right.now))) }
+{
+    push_part(out, left)?;
+    out.extend_from_slice(mark)?;
+    push_part(out, right)
+}
+
+/// A wide term as a part of another: `x1`, `(1 + x1)` or `max(x1, x2)`.
+fn push_part(out: &mut Vec<u8>, term: &Wide) -> Result<(), AllocError>
+    ensures { OnOk result (out.new.items ≡ out.old.items ++ part_text (form_of term.now)) }
+{
+    match term {
+        Wide::Number(number) => push_signed(out, *number),
+        Wide::Value(place) => {
+            out.extend_from_slice(b"x")?;
+            push_decimal(out, u64::from(*place) + 1)
+        }
+        Wide::Sum(left, right) => {
+            out.extend_from_slice(b"(")?;
+            push_part(out, left)?;
+            out.extend_from_slice(b" + ")?;
+            push_part(out, right)?;
+            out.extend_from_slice(b")")
+        }
+        Wide::Difference(left, right) => {
+            out.extend_from_slice(b"(")?;
+            push_part(out, left)?;
+            out.extend_from_slice(b" - ")?;
+            push_part(out, right)?;
+            out.extend_from_slice(b")")
+        }
+        Wide::Product(left, right) => {
+            out.extend_from_slice(b"(")?;
+            push_part(out, left)?;
+            out.extend_from_slice(b" * ")?;
+            push_part(out, right)?;
+            out.extend_from_slice(b")")
+        }
+        Wide::Greater(left, right) => {
+            out.extend_from_slice(b"max(")?;
+            push_part(out, left)?;
+            out.extend_from_slice(b", ")?;
+            push_part(out, right)?;
+            out.extend_from_slice(b")")
+        }
+        Wide::Lesser(left, right) => {
+            out.extend_from_slice(b"min(")?;
+            push_part(out, left)?;
+            out.extend_from_slice(b", ")?;
+            push_part(out, right)?;
+            out.extend_from_slice(b")")
+        }
+    }
+}
+
+fn push_linear(out: &mut Vec<u8>, term: &Linear) -> Result<(), AllocError>
+    ensures { OnOk result (out.new.items ≡ out.old.items ++ linear_text term.now) }
 {
     push_signed(out, term.constant)?;
     push_factors(out, term.factors.as_slice())

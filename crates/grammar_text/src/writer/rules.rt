@@ -5,9 +5,9 @@ ghost use Rattle.std.specs.Fmt.{decimal};
 ghost use Rattle.std.specs.List.{flat_map};
 ghost use Rattle.adp_model.specs.Parts.{sign_at};
 ghost use Rattle.adp_model.specs.Report.{line};
-ghost use Rattle.job_texts.specs.Spelling.{alternative_text, argument_text, class_name, high_text, rule_line, rule_name, separated};
+ghost use Rattle.job_texts.specs.Spelling.{alternative_text, argument_text, class_name, high_text, rule_line, rule_name, separated, size_text};
 
-use adp_model::{Alt, Arg, Grammar, Rule, push_decimal, push_quoted};
+use adp_model::{Alt, Arg, Grammar, Rule, Size, push_decimal, push_quoted};
 use std::alloc::AllocError;
 
 pub(crate) fn push_rules(out: &mut Vec<u8>, grammar: &Grammar) -> Result<(), AllocError>
@@ -66,7 +66,24 @@ fn push_alternative(
     out.extend_from_slice(sign_name(grammar, alternative.sign))?;
     out.extend_from_slice(b"(")?;
     push_arguments(out, grammar, alternative.args.as_slice())?;
-    out.extend_from_slice(b")")
+    out.extend_from_slice(b")")?;
+    push_size(out, alternative.size)
+}
+
+/// ` with size 2..5`, ` with size 2..`, or nothing where no size is given.
+fn push_size(out: &mut Vec<u8>, size: Option<Size>) -> Result<(), AllocError>
+    ensures { OnOk result (out.new.items ≡ out.old.items ++ size_text size) }
+{
+    let Some(size) = size else {
+        return Ok(());
+    };
+    out.extend_from_slice(b" with size ")?;
+    push_decimal(out, u64::from(size.low))?;
+    out.extend_from_slice(b"..")?;
+    match size.high {
+        Some(high) => push_decimal(out, u64::from(high)),
+        None => Ok(()),
+    }
 }
 
 fn push_arguments(out: &mut Vec<u8>, grammar: &Grammar, arguments: &[Arg]) -> Result<(), AllocError>

@@ -1,5 +1,6 @@
 use Rattle.spelled_texts.proofs.ReadBack.{spelling_read_back}
 use Rattle.spelled_texts.proofs.ReadTokens.{TokenLaws}
+use Rattle.spelled_texts.proofs.Terms.{TermLaws}
 use Rattle.spelled_texts.proofs.spellings_are_read_back.Goals as goal
 
 pub returns : goal.returns
@@ -11,4 +12,5 @@ returns c =
       dots = c.dots_are_tokens.ensures;
       quotes = c.quoted_texts_are_tokens.ensures;
     } in
-    spelling_read_back laws c.spelled_terms_are_read.ensures
+    let term_laws : TermLaws = record { linear = c.spelled_terms_are_read.ensures; wide = c.spelled_wide_terms_are_read.ensures } in
+    spelling_read_back laws term_laws

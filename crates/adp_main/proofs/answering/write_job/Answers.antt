@@ -9,13 +9,13 @@ pub returns-clause-ending : goal.returns-clause-ending
 returns-clause-ending g c =
     let job = c.args.job.now in
     job_ending c.args.command.now job.checked.grammar job.checked.algebra job.words
-    (posed_words job.checked.grammar job.checked.algebra job.words) refl c.in_ok-rows.ensures.admissible
+    (posed_words job.checked.grammar job.checked.algebra job.words) refl c.in_ok-judged.ensures.admissible
     c.write_words.result _ _ c.write_words.ensures.written
 
 pub returns-clause-noted : goal.returns-clause-noted
 returns-clause-noted g c = inr c.write_words.ensures.noted
 
-pub returns-in_err-rows-clause-noted : goal.returns-in_err-rows-clause-noted
-returns-in_err-rows-clause-noted g c =
+pub returns-in_err-judged-clause-noted : goal.returns-in_err-judged-clause-noted
+returns-in_err-judged-clause-noted g c =
     let p = err_from_is_err_and c.from_residual.result c.from_residual.ensures.1 in
-    rw (p.1, p.2) (inl (refl, undone c.in_err-rows.field-0.0))
+    rw (p.1, p.2) (inl (refl, undone c.in_err-judged.field-0.0))

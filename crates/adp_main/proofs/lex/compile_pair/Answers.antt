@@ -5,7 +5,7 @@ use Rattle.adp_model.specs.Bounds.{IsScoreBound}
 use Rattle.adp_model.specs.ProblemFields.{KeepsLimits}
 use Rattle.grammar_check.specs.CheckedGrammar.{CheckedGrammar}
 use Rattle.lex_product.specs.PairAnswers.{MatchCompiledBy}
-use Rattle.adp_main.proofs.CompiledWords.{made_for, no_fault}
+use Rattle.adp_main.proofs.CompiledWords.{but_for_algebra, made_for, no_fault}
 use Rattle.adp_main.proofs.lex.compile_pair.Goals as goal
 
 pub admitted-problem-requires-clause-limits : goal.admitted-problem-requires-clause-limits
@@ -27,8 +27,8 @@ unreachable-requires c =
     c.in-Err-Fault.field-0-0
     (subst (λ error. MatchCompiledBy first second bound (Err error)) c.in-Err-Fault.field-0-is c.in-Err-Fault.ensures)
 
-pub returns-in-Ok : goal.returns-in-Ok
-returns-in-Ok c =
+pub returns-in-Ok-clause-made : goal.returns-in-Ok-clause-made
+returns-in-Ok-clause-made c =
     let first = c.args.first.now in
     let second = c.args.second.now in
     let bound = c.bound_of-bound.result in
@@ -38,4 +38,8 @@ returns-in-Ok c =
     (length c.args.word.now) in
     λ name named. made_for first second c.requires.pair c.args.word.now bound c.requires.admissible bounded one
     c.pair_limits_are_kept_or_passed.ensures.compilable name named c.in-Ok.checked c.in-Ok.ensures.1 _ refl _
-    c.have_same_goal-same.ensures
+    c.have_same_goal-same.ensures _
+
+pub returns-in-Ok-clause-whole : goal.returns-in-Ok-clause-whole
+returns-in-Ok-clause-whole c =
+    but_for_algebra c.args.first.now c.args.second.now c.bound_of-bound.result c.in-Ok.checked c.in-Ok.ensures.1

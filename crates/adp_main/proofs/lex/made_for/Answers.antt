@@ -1,12 +1,12 @@
-use Rattle.std.proofs.Common.{length, ap, ◌∙◌}
-use Rattle.adp_main.proofs.CompiledWords.{compiled_by_length}
+use Rattle.adp_main.proofs.CompiledWords.{made_serves}
 use Rattle.adp_main.proofs.lex.made_for.Goals as goal
 
-pub returns-clause-kept : goal.returns-clause-kept
-returns-clause-kept c =
-    let job = c.args.job.now in record {
-      each = λ other same. compiled_by_length c.args.command.now.second job.checked.grammar job.checked.algebra
-          c.args.word.now other c.in_ok-compiled.compiled
-          (same ∙ c.in_ok-rows.ensures.longest ∙ ap length c.bytes-2.ensures.bytes) c.in_ok-compiled.ensures;
-      rows = c.in_ok-rows.ensures.rows;
-    }
+pub returns-in-None-clause-kept : goal.returns-in-None-clause-kept
+returns-in-None-clause-kept c =
+    made_serves c.args.command.now.second c.args.job.now.checked c.args.word.now c.compiled_for.result
+    c.compiled_for.ensures.made c.compiled_for.ensures.whole c.compiled_for.ensures.length
+
+pub returns-else-kept-bytes-clause-kept : goal.returns-else-kept-bytes-clause-kept
+returns-else-kept-bytes-clause-kept c =
+    made_serves c.args.command.now.second c.args.job.now.checked c.args.word.now c.compiled_for-in-Some.result
+    c.compiled_for-in-Some.ensures.made c.compiled_for-in-Some.ensures.whole c.compiled_for-in-Some.ensures.length

@@ -12,6 +12,21 @@ admitted-problem-requires-clause-limits g c =
     own_limits c.args.command.now.second
     (posed_word c.args.job.now.checked.grammar c.args.job.now.checked.algebra c.args.word.now) c.requires.admissible
 
+pub admitted-problem-requires-in-Serial-clause-limits : goal.admitted-problem-requires-in-Serial-clause-limits
+admitted-problem-requires-in-Serial-clause-limits g c =
+    own_limits c.args.command.now.second
+    (posed_word c.args.job.now.checked.grammar c.args.job.now.checked.algebra c.args.word.now) c.requires.admissible
+
+pub admitted-problem-requires-in-Wins-clause-limits : goal.admitted-problem-requires-in-Wins-clause-limits
+admitted-problem-requires-in-Wins-clause-limits g c =
+    own_limits c.args.command.now.second
+    (posed_word c.args.job.now.checked.grammar c.args.job.now.checked.algebra c.args.word.now) c.requires.admissible
+
+pub admitted-problem-requires-in-Replay-clause-limits : goal.admitted-problem-requires-in-Replay-clause-limits
+admitted-problem-requires-in-Replay-clause-limits g c =
+    own_limits c.args.command.now.second
+    (posed_word c.args.job.now.checked.grammar c.args.job.now.checked.algebra c.args.word.now) c.requires.admissible
+
 pub returns-in-Best-clause-ending : goal.returns-in-Best-clause-ending
 returns-in-Best-clause-ending g c =
     subst (λ (p : PosedProblem). IsWordEnding (IsRunOf c.args.command.now c.args.number p) c.report_word.result
@@ -22,7 +37,7 @@ pub returns-in-Serial-clause-ending : goal.returns-in-Serial-clause-ending
 returns-in-Serial-clause-ending g c =
     subst (λ (p : PosedProblem). IsWordEnding (IsRunOf c.args.command.now c.args.number p) c.report_word-in-Serial.result
     (g.G.Gate.runs c.args.gate.now) (g.G.Gate.runs c.args.gate.now) (g.K.Sink.held c.args.out.now)
-    (g.K.Sink.held c.report_word-in-Serial.new.out)) c.admitted-problem.ensures
+    (g.K.Sink.held c.report_word-in-Serial.new.out)) c.admitted-problem-in-Serial.ensures
     (c.report_word-in-Serial.ensures.ending c.args.command.now (g.G.Gate.runs c.args.gate.now)
     (sym (ap (λ (it : Command). it.mode) c.command.view_is) ∙ c.in-Serial.is))
 
@@ -30,10 +45,10 @@ pub returns-in-Wins-clause-ending : goal.returns-in-Wins-clause-ending
 returns-in-Wins-clause-ending g c =
     subst (λ (p : PosedProblem). IsWordEnding (IsRunOf c.args.command.now c.args.number p) c.report_word-in-Wins.result
     (g.G.Gate.runs c.args.gate.now) (g.G.Gate.runs c.report_word-in-Wins.new.gate) (g.K.Sink.held c.args.out.now)
-    (g.K.Sink.held c.report_word-in-Wins.new.out)) c.admitted-problem.ensures c.report_word-in-Wins.ensures.ending
+    (g.K.Sink.held c.report_word-in-Wins.new.out)) c.admitted-problem-in-Wins.ensures c.report_word-in-Wins.ensures.ending
 
 pub returns-in-Replay-clause-ending : goal.returns-in-Replay-clause-ending
 returns-in-Replay-clause-ending g c =
     subst (λ (p : PosedProblem). IsWordEnding (IsRunOf c.args.command.now c.args.number p) c.report_word-in-Replay.result
     (g.G.Gate.runs c.args.gate.now) (g.G.Gate.runs c.report_word-in-Replay.new.gate) (g.K.Sink.held c.args.out.now)
-    (g.K.Sink.held c.report_word-in-Replay.new.out)) c.admitted-problem.ensures c.report_word-in-Replay.ensures.ending
+    (g.K.Sink.held c.report_word-in-Replay.new.out)) c.admitted-problem-in-Replay.ensures c.report_word-in-Replay.ensures.ending

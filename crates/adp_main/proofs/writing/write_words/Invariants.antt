@@ -4,14 +4,14 @@ use Rattle.std.specs.List.{concat}
 use Rattle.std.specs.Io.KnownBytes.{Appends}
 use Rattle.adp_io.specs.Streams.{SameTold}
 use Rattle.evaluators.specs.declared.finished.RunNote.{RunNote}
-use Rattle.adp_main.specs.CompiledWords.{IsKeptFor}
+use Rattle.adp_main.specs.CompiledWords.{ServesItsLength}
 use Rattle.adp_main.specs.Posed.{posed_words}
 use Rattle.adp_main.specs.RunNotes.{AddsNotes, AreRunsOf}
 use Rattle.adp_main.proofs.writing.write_words.Given as goal
 
 abbrev pub invariant-loop-place : goal.invariant-loop-place
 invariant-loop-place g l = record {
-  kept : IfSome l.kept (IsKeptFor l.command.second l.job.checked.grammar l.job.checked.algebra);
+  kept : IfSome l.kept (ServesItsLength l.command.second l.job.checked);
   told : SameTold (g.K.Sink.held l.initial.out) (g.K.Sink.held l.out);
   faults : g.K.Sink.faults l.out ≡ g.K.Sink.faults l.initial.out;
   ran : (reports : List (List ℕ)) × (notes : List RunNote)

@@ -10,7 +10,7 @@ returns-in-None g c = λ tree derived.
     let keeps = c.admissible.ensures in
     let whole : length p.word - 0 ≡ length p.word = omega arith in
     let within : IsWithinSizes p.grammar p.grammar.axiom (length p.word) = subst (λ n. IsWithinSizes p.grammar p.grammar.axiom n) whole
-    (c.derived_lengths_are_within_sizes.ensures.within p keeps.least keeps.greatest keeps.ranks keeps.checked keeps.limits.letters (axiom_cell p) tree derived) in
+    (c.derived_lengths_are_within_sizes.ensures.within p keeps.least keeps.greatest keeps.ranks keeps.checked (axiom_cell p) tree derived) in
     let here = subst (λ (q : PosedProblem). IsDemanded q c.axiom_cell.result) (sym c.requires) (subst (λ x. IsDemanded p x) (sym c.axiom_cell.ensures) (Axiom within)) in
     let told = c.in-None.ensures.demanded here in
     cc (told)

@@ -18,6 +18,7 @@ loop-at-preserved c =
     let is_in = token_is_in c.args.line.now c.loop-at.at c.in-Some.further c.in-Some.kind c.loop-at-test.true begins in
     record {
       within = is_in.inside;
-      found = goes_on c.args.line.now c.loop-at.at c.in-Some.further c.in-Some.kind c.loop-at.tokens.items c.push.new.self.items c.loop-at-test.true c.loop-at.invariant.found begins c.in_ok-push.ensures.items;
+      found = goes_on c.args.line.now c.loop-at.at c.in-Some.further c.in-Some.kind c.loop-at.tokens.items c.push.new.self.items
+          c.loop-at-test.true c.loop-at.invariant.found begins c.in_ok-push.ensures.items;
       spans = rw c.in_ok-push.ensures.items (All-push (IsIn c.args.line.now) _ _ c.loop-at.invariant.spans is_in);
     }

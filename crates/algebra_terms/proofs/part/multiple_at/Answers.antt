@@ -16,4 +16,5 @@ returns-in_default c = record {
 pub returns-clause-part : goal.returns-clause-part
 returns-clause-part c =
     rw (c.in_ok-symbol.ensures.says, c.in-Word.is, c.amount_of-amount.ensures)
-    (at_multiple c.args.negative c.args.number.now c.in-Word.variable.now (map (said c.args.line.now) c.in_ok-symbol.rest.now) c.requires.number (sym c.begins_number.ensures ∙ c.if-begins_number.false))
+    (at_multiple c.args.negative c.args.number.now c.in-Word.variable.now (map (said c.args.line.now) c.in_ok-symbol.rest.now) c.requires.number
+    (sym c.begins_number.ensures ∙ c.if-begins_number.false))

@@ -10,7 +10,8 @@ loop-parts-preserved c =
     let within = rw c.in-Some-2.is at c.in_ok-part.ensures.within in
     record {
       read = goes_on c.loop-parts.parts.items c.push-in-Some-2.new.self.items c.in-Some-2.part
-          (further_parts (map (said c.args.line.now) c.loop-parts.rest.now)) (further_parts (map (said c.args.line.now) c.in-Some-2.after.now)) (parts_of (map (said c.args.line.now) c.args.tokens.now))
+          (further_parts (map (said c.args.line.now) c.loop-parts.rest.now)) (further_parts (map (said c.args.line.now) c.in-Some-2.after.now))
+          (parts_of (map (said c.args.line.now) c.args.tokens.now))
           c.in_ok-push-2.ensures.items found c.loop-parts.invariant.read;
       within = within;
     }

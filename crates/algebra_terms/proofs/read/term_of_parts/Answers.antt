@@ -40,7 +40,8 @@ loop-variable-preserved c =
     let narrow : FitsSigned w64 c.unwrap_or-factor.result = rw own (taken_fits (take i c.args.vars.now) parts variable fit) in
     let pushed = simp to_z-of_z at c.in_ok-push.ensures.items in
     record {
-      factors = factors_more parts c.args.vars.now i item variable c.loop-variable.factors.items c.push.new.self.items c.unwrap_or-factor.result c.loop-variable-test.true at c.loop-variable.invariant.factors own pushed;
+      factors = factors_more parts c.args.vars.now i item variable c.loop-variable.factors.items c.push.new.self.items
+          c.unwrap_or-factor.result c.loop-variable-test.true at c.loop-variable.invariant.factors own pushed;
       left = left_step (λ name. get_by (λ key. slice_cmp nat_cmp name key.now) c.loop-variable.totals) (λ name. get_by (λ key. slice_cmp nat_cmp name key.now) c.remove.new.self)
           c.args.vars.now i item variable parts c.loop-variable-test.true at c.loop-variable.invariant.left
           (btree_map_updates_str variable c.loop-variable.totals c.remove.new.self _ c.remove.ensures.updates);
@@ -50,7 +51,8 @@ pub returns-then-not-is_empty : goal.returns-then-not-is_empty
 returns-then-not-is_empty c =
     let parts = parts_seen c.args.parts.now in
     let fit : totals_fit parts ≡ true = sym c.totals_fit.ensures ∙ c.if-not-totals_fit.false in
-    let left : HasLeft c.loop-variable.totals c.args.vars.now parts = subst (λ taken. HasLeft c.loop-variable.totals taken parts) (take_all c.loop-variable.variable-index c.args.vars.now c.loop-variable-test.false) c.loop-variable.invariant.left in
+    let left : HasLeft c.loop-variable.totals c.args.vars.now parts =
+    subst (λ taken. HasLeft c.loop-variable.totals taken parts) (take_all c.loop-variable.variable-index c.args.vars.now c.loop-variable-test.false) c.loop-variable.invariant.left in
     unknown parts c.args.vars.now c.requires.names c.requires.numbers fit
     (some_left c.loop-variable.totals c.args.vars.now parts left (λ empty. let is : c.is_empty.result ≡ true = c.is_empty.ensures.1 empty in cc c.if-not-is_empty.true))
 
@@ -67,7 +69,8 @@ returns c =
     let fit : totals_fit parts ≡ true = sym c.totals_fit.ensures ∙ c.if-not-totals_fit.false in
     let wide : FitsSigned w128 c.constant_of-constant.result = record { sfits = c.constant_of-constant.type_inv } in
     let narrow : FitsSigned w64 c.constant_of-constant.result = rw c.constant_of-constant.ensures (total_fits parts None fit) in
-    let left : HasLeft c.loop-variable.totals c.args.vars.now parts = subst (λ taken. HasLeft c.loop-variable.totals taken parts) (take_all c.loop-variable.variable-index c.args.vars.now c.loop-variable-test.false) c.loop-variable.invariant.left in
+    let left : HasLeft c.loop-variable.totals c.args.vars.now parts =
+    subst (λ taken. HasLeft c.loop-variable.totals taken parts) (take_all c.loop-variable.variable-index c.args.vars.now c.loop-variable-test.false) c.loop-variable.invariant.left in
     let known : are_declared c.args.vars.now parts ≡ true = none_left c.loop-variable.totals c.args.vars.now parts left (c.is_empty.ensures.0 c.if-not-is_empty.false) in
     let factors : factors_after [] c.args.vars.now parts ≡ c.loop-variable.factors.items =
     none_behind parts c.args.vars.now c.loop-variable.variable-index c.loop-variable.factors.items c.loop-variable-test.false c.loop-variable.invariant.factors in

@@ -10,4 +10,4 @@ pub returns-clause-faultless : goal.returns-clause-faultless
 returns-clause-faultless c = faultless
 
 pub returns-clause-spelled : goal.returns-clause-spelled
-returns-clause-spelled c = λ job grammar words. spelled job.grammar job.words grammar words
+returns-clause-spelled c = λ job grammar words. spelled job.version job.grammar job.words job.of_version grammar words

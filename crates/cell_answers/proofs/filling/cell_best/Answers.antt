@@ -66,7 +66,7 @@ turned-requires c =
     let count : c.loop-number.number ≤ length (alternatives_of p.grammar c.args.cell.rule) = omega (arith, count_is at', c.loop-number-test.false, c.loop-number.auto.number-end) in
     let it = found c in
     let fits_score : FitsSigned w64 c.in-Some.field-0.score = search rules in
-    simp to_z-of_z (score_low p (admissible at) (best_within p (admissible at) (c.bounds_are_sound.ensures.score p)) c.args.cell c.loop-number.number c.in-Some.field-0.score c.requires.in_word c.requires.rule count (c.in-Some.field-0.alt, it.before, it.gives))
+    simp to_z-of_z (score_low (record { rises = c.magnitudes_rise.ensures; within = c.values_are_within_magnitudes.ensures }) p (admissible at) (best_within p (admissible at) (c.bounds_are_sound.ensures.score p)) c.args.cell c.loop-number.number c.in-Some.field-0.score c.requires.in_word c.requires.rule count (c.in-Some.field-0.alt, it.before, it.gives))
 
 pub returns : goal.returns
 returns c =

@@ -1,11 +1,11 @@
 use Rattle.std.proofs.Common.{◌≤◌, List, length, sym, ap, subst, arith, length-append}
 use Rattle.adp_model.specs.declared.grammar.Arg.{Arg}
 use Rattle.adp_model.specs.Parts.{arguments_of}
-use Rattle.split_lines.specs.Laid.{Demands}
+use Rattle.split_lines.specs.Laid.{Demands, DemandsBy}
 use Rattle.split_lines.specs.Ways.{IsOpening}
 use Rattle.cell_tables.specs.Marks.{AreMarkedFrom}
 use Rattle.cell_demands.proofs.Fronts.{demanded_behind, marked_behind_front}
-use Rattle.cell_demands.proofs.MarkSteps.{none_marked}
+use Rattle.cell_demands.proofs.MarkSteps.{marked_like, none_marked}
 use Rattle.cell_demands.proofs.Splitting.{split_of_demands}
 use Rattle.cell_demands.proofs.Dividing.{cover_forward}
 use Rattle.cell_demands.proofs.marking.mark_alternative.Goals as goal
@@ -31,9 +31,11 @@ mark_others-requires-clause-counted c = λ child demands.
     let kept = c.args.alternative.now in
     let cell = c.args.cell in
     let D : List Arg → Type 0 = λ arguments. Demands p arguments cell.from cell.to child in
-    c.requires.counted child
-    (subst D (sym c.requires.alternative.arguments)
-    (demanded_behind p kept.front.now kept.others.now cell.from cell.to c.requires.alternative.in_front.fixed c.in-Some.end (opened at).covers (opened at).only child demands))
+    c.requires.counted child (
+      (opened at).allowed c.args.alt c.requires.alternative,
+      subst D (sym c.requires.alternative.arguments)
+          (demanded_behind p kept.front.now kept.others.now cell.from cell.to c.requires.alternative.in_front.fixed c.in-Some.end (opened at).covers (opened at).only child demands),
+    )
 
 pub returns-in-Some : goal.returns-in-Some
 returns-in-Some c =
@@ -42,9 +44,12 @@ returns-in-Some c =
     let kept = c.args.alternative.now in
     let cell = c.args.cell in
     let M : List Arg → Type 0 = λ arguments. AreMarkedFrom cell.from c.args.marks.now c.mark_others.new.marks (Demands p arguments cell.from cell.to) in
-    subst M (sym c.requires.alternative.arguments)
+    let allowed = (opened at).allowed c.args.alt c.requires.alternative in
+    marked_like cell.from c.args.marks.now c.mark_others.new.marks (Demands p (arguments_of p.grammar cell.rule c.args.alt) cell.from cell.to) (DemandsBy p cell c.args.alt)
+    (λ child demands. (allowed, demands)) (λ child demands. demands.1)
+    (subst M (sym c.requires.alternative.arguments)
     (marked_behind_front p kept.front.now kept.others.now cell.from cell.to c.requires.alternative.in_front.fixed c.in-Some.end (opened at).covers
-    (opened at).only cell.from c.args.marks.now c.mark_others.new.marks c.mark_others.ensures)
+    (opened at).only cell.from c.args.marks.now c.mark_others.new.marks c.mark_others.ensures))
 
 pub returns-in_default : goal.returns-in_default
 returns-in_default c =
@@ -53,5 +58,5 @@ returns-in_default c =
     let cell = c.args.cell in
     let is = c.requires.alternative in
     let few : length (arguments_of p.grammar cell.rule c.args.alt) ≤ 4 = omega (arith, is.few, ap length is.arguments, length-append kept.front.now kept.others.now) in
-    none_marked cell.from c.args.marks.now (Demands p (arguments_of p.grammar cell.rule c.args.alt) cell.from cell.to)
+    none_marked cell.from c.args.marks.now (DemandsBy p cell c.args.alt)
     (λ child demands. let split = split_of_demands p cell c.args.alt child c.requires.in_range few demands in c.in_default.ensures c.args.alt split.0 is split.1)

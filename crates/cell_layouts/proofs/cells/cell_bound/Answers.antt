@@ -1,4 +1,4 @@
-use Rattle.std.proofs.Common.{◌≡◌, ◌↔◌, ℕ, ◌+◌, ◌<◌, ◌≤◌, length, sym, ap, subst, arith}
+use Rattle.std.proofs.Common.{◌≡◌, ◌↔◌, ℕ, ◌+◌, ◌<◌, ◌≤◌, length, refl, sym, ap, subst, arith}
 use Rattle.adp_model.specs.Cells.{IsPlaceOf, AreCountedEnds}
 use Rattle.cell_layouts.specs.declared.cells.RuleBounds.{RuleBounds}
 use Rattle.cell_layouts.specs.CountedCells.{LeavesSpan, bounds_in}
@@ -18,7 +18,7 @@ loop-from-preserved c =
     let bounds_are : c.of_rule-bounds.result ≡ bounds_in sizes.least sizes.greatest anchors.left anchors.right rule = cc in
     let B : RuleBounds → Type 0 = λ bounds. (to : ℕ) → LeavesSpan bounds c.args.n from to ↔ ((first ≤ to) × (to < past)) in
     let ends : AreCountedEnds g c.args.n rule from first past =
-    ends_counted g sizes.least sizes.greatest anchors.left anchors.right rule known c.sizes_are_numbers.ensures (c.requires.sizes.least_are rule known) (c.requires.sizes.greatest_are rule known) c.requires.anchors.left c.requires.anchors.right
+    ends_counted g sizes.least sizes.greatest anchors.left anchors.right rule known c.sizes_are_numbers.ensures (c.requires.sizes.least_are rule known) (sizes.greatest, c.requires.sizes.greatest_are, known, refl) c.requires.anchors.left c.requires.anchors.right
     c.args.n from first past (subst B bounds_are c.ends-ends.ensures.ends) in
     let P : ℕ → Type 0 = λ more. IsPlaceOf g c.args.n (record { rule = rule; from = from + 1; to = 0 }) (c.loop-from.count + more) in
     record {

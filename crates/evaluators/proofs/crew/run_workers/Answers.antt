@@ -1,3 +1,7 @@
+use Rattle.evaluators.proofs.gated.GatedWorker.TheSendSync as gated
+use Rattle.evaluators.proofs.worker.Worker.TheSendSync as worker
+use denote.Param.Send.{sendable}
+use Rattle.std.proofs.Crossing.{crosses}
 use Rattle.std.proofs.Common.{◌≡◌, true, map, All, sym, ap, ◌∙◌, subst}
 use Rattle.memo_words.specs.Passes.{problem_of}
 use Rattle.evaluators.specs.Posts.{posts_of}
@@ -5,6 +9,8 @@ use Rattle.evaluators.specs.Joined.{IsJoined}
 use Rattle.evaluators.specs.Runs.{HasFirstEnded, ended_of}
 use Rattle.evaluators.specs.Working.{TableWorker, post_of}
 use Rattle.evaluators.specs.declared.gated.GatedWorker.{GatedWorker}
+use Rattle.cell_core.proofs.SharedParts.{machine_send}
+use Rattle.evaluators.proofs.SentProbes.{probe_send}
 use Rattle.evaluators.proofs.Listed.{map_after, map_written_back}
 use Rattle.evaluators.proofs.Finishing.{all_ended, first_of_ended}
 use Rattle.evaluators.proofs.crew.run_workers.Goals as goal
@@ -49,3 +55,7 @@ pub finish-requires-clause-joined : goal.finish-requires-clause-joined
 finish-requires-clause-joined g c =
     subst (λ count. IsJoined c.in_ok-table.table c.args.seed count c.in_ok-left.left)
     (sym (c.in_ok-table.ensures {u = tt}).seats) (c.in_ok-left.ensures {u = tt}).joined
+
+pub run_all-requires-send-W : goal.run_all-requires-send-W
+run_all-requires-send-W g c κs within =
+    search (sendable, crosses, gated.the_send, worker.the_send, machine_send, probe_send) depth 60 fits 100000

@@ -1,8 +1,14 @@
 use Rattle.std.proofs.Common.{length, ap, subst, arith}
 use Rattle.adp_model.specs.Cells.{IsCellBound}
 use Rattle.grammar_check.specs.CheckedGrammar.{CheckedGrammar}
+use Rattle.grammar_check.proofs.CheckedSizes.{sizes_are}
 use Rattle.grammar_check.proofs.Limits.{letters_fault, cells_fault}
 use Rattle.grammar_check.proofs.admission.cells_within_limits.Goals as goal
+
+pub cell_bound-cells-requires-clause-sizes : goal.cell_bound-cells-requires-clause-sizes
+cell_bound-cells-requires-clause-sizes c =
+    let fields = c.checked.inside in
+    sizes_are fields.grammar fields.algebra fields.sizes.least fields.sizes.greatest fields.ranks c.checked.invariant.found
 
 pub returns-then-letters-gt-MOST_LETTERS : goal.returns-then-letters-gt-MOST_LETTERS
 returns-then-letters-gt-MOST_LETTERS c =

@@ -1,4 +1,5 @@
 use Rattle.std.proofs.Common.{refl}
+use Rattle.adp_model.specs.GrammarSigns.{known_signs}
 use Rattle.adp_model.specs.Parts.{sign_at, term_for}
 use Rattle.grammar_check.proofs.checking.check.Goals as goal
 
@@ -13,13 +14,14 @@ invariant_of-result c =
         well_formed = c.requires;
         algebra_known = faultless.named.in_range;
         least_each = sizes.least_each;
-        greatest_each = sizes.greatest_each;
+        greatest_each = sizes.greatest_are.are.each;
         ranks_each = ranks.each;
         least_are = sizes.least_are;
-        greatest_are = sizes.greatest_are;
+        greatest_are = λ rule inside. (c.in_ok-found.found.sizes.greatest, sizes.greatest_are, inside, refl);
         ranks_fall = ranks.fall;
         ranks_fit = ranks.fit;
-        orderly = λ sign inside. c.monotone_terms_keep_order.ensures (term_for grammar c.in_ok-found.found.algebra sign) (sign_at grammar sign).kinds (faultless.monotone sign inside);
+        possible = λ rule alternative inside. faultless.possible rule (c.alternatives_fit.ensures.rule grammar rule alternative inside) c.in_ok-found.found.sizes.least c.in_ok-found.found.sizes.greatest sizes alternative inside;
+        orderly = λ sign inside. c.monotone_terms_keep_order.ensures (known_signs grammar c.in_ok-found.found.algebra) (term_for grammar c.in_ok-found.found.algebra sign) (sign_at grammar sign).kinds (faultless.monotone sign inside);
       };
       anchored = c.in_ok-found.ensures.2;
     }

@@ -1,6 +1,7 @@
 use Rattle.std.proofs.Common.{subst}
 use Rattle.yield_sizes.specs.LoopAnswers.{IsFirstLoop}
 use Rattle.grammar_check.specs.CheckAnswers.{IsFirstUnproductive}
+use Rattle.grammar_check.proofs.ImpossibleFaults.{impossible_fault}
 use Rattle.grammar_check.proofs.FirstFaults.{no_algebra, rule_read, sign_read, unproductive_fault, loop_fault, term_fault}
 use Rattle.grammar_check.proofs.checking.faultless.Goals as goal
 
@@ -37,6 +38,16 @@ returns-in-Some-first_other_term c =
     term_fault grammar c.args.algebra.now c.in-Some.number sign _ c.refusal-in-Some-first_other_term.result c.in-Some.ensures productive free first
     (sign_read grammar c.as_slice-in-Some-first_other_term.result.now sign c.index-as_slice-sign.result c.as_slice-in-Some-first_other_term.ensures first.in_range) c.refusal-in-Some-first_other_term.ensures
 
+pub returns-in-Some-first_impossible : goal.returns-in-Some-first_impossible
+returns-in-Some-first_impossible c =
+    let grammar = c.args.grammar.now in
+    let rule = c.in-Some-first_impossible.rule in
+    let productive = subst (IsFirstUnproductive grammar) c.in_default-2.is c.in_ok-rule.ensures in
+    let free = subst (IsFirstLoop grammar) c.in_default-3.is c.in_ok-rule-2.ensures in
+    let first = c.in-Some-first_impossible.ensures in
+    impossible_fault grammar c.args.algebra.now c.in-Some.number rule _ c.refusal-in-Some-first_impossible.result c.in-Some.ensures productive free c.in_default-first_other_term.ensures first
+    (rule_read grammar c.as_slice-in-Some-first_impossible.result.now rule c.index-as_slice-rule-in-Some-first_impossible.result c.as_slice-in-Some-first_impossible.ensures first.in_range) c.refusal-in-Some-first_impossible.ensures
+
 pub returns : goal.returns
 returns c =
     let grammar = c.args.grammar.now in
@@ -47,6 +58,7 @@ returns c =
         productive = productive;
         no_loop = λ rule inside. free rule;
         monotone = c.in_default-first_other_term.ensures;
+        possible = c.in_default-first_impossible.ensures;
       },
       free,
       c.in_ok-sizes.ensures,

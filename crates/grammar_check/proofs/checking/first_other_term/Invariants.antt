@@ -1,5 +1,5 @@
 use Rattle.std.proofs.Common.{ℕ, ◌<◌}
-use Rattle.adp_model.specs.GrammarFaults.{HasMonotoneTerm}
+use Rattle.adp_model.specs.GrammarSigns.{HasMonotoneTerm}
 use Rattle.grammar_check.proofs.checking.first_other_term.Given as goal
 
 abbrev pub invariant-loop-sign : goal.invariant-loop-sign

@@ -7,13 +7,21 @@ use Rattle.grammar_check.specs.Fills.{IsRuleWide, plan_at}
 use Rattle.grammar_check.specs.GrammarPlans.{entry_in, grammar_plan, lengths_of}
 use Rattle.grammar_check.specs.KeptPlans.{Keeps}
 use Rattle.grammar_check.proofs.KeptPlanSteps.{each_push}
-use Rattle.grammar_check.proofs.PlanLists.{few_at}
+use Rattle.grammar_check.proofs.OwnWays.{fits_in, few_in}
+use Rattle.grammar_check.proofs.PlanLists.{few_at, leaves_at}
 use Rattle.grammar_check.proofs.plan.plans.Goals as goal
 
 pub rule_plan-requires-clause-few : goal.rule_plan-requires-clause-few
 rule_plan-requires-clause-few c =
     let same = c.as_slice-rule-items.ensures in
     few_at c.args.grammar.now (c.arguments_are_few_and_known.ensures.few c.args.grammar.now c.requires.well_formed) c.loop-rule.rule-index c.rule-item.result c.as_slice-in-loop-rule.result.now
+    (omega (arith, ap length same, c.loop-rule-test.true)) (subst (λ rs. c.rule-item.result ≡ slice_index_or rs c.loop-rule.rule-index c.rule-item.result) same c.rule-item.is) c.as_slice-in-loop-rule.ensures
+
+pub rule_plan-requires-clause-terms : goal.rule_plan-requires-clause-terms
+rule_plan-requires-clause-terms c =
+    let same = c.as_slice-rule-items.ensures in
+    let fits = fits_in c.args.grammar.now (c.terms_fit_their_alternatives.ensures.fit c.args.grammar.now c.requires.well_formed) c.args.measure in
+    leaves_at c.args.grammar.now c.args.measure (λ rule alternative inside. few_in c.args.grammar.now c.args.measure _ _ (fits rule alternative inside)) c.loop-rule.rule-index c.rule-item.result c.as_slice-in-loop-rule.result.now
     (omega (arith, ap length same, c.loop-rule-test.true)) (subst (λ rs. c.rule-item.result ≡ slice_index_or rs c.loop-rule.rule-index c.rule-item.result) same c.rule-item.is) c.as_slice-in-loop-rule.ensures
 
 pub loop-rule-preserved : goal.loop-rule-preserved

@@ -17,3 +17,6 @@ job_of-requires-clause-declarations c =
     ap (map declaration_seen) c.deref-2.ensures.value
     ∙ sym (all_is (text_seen c.in_ok-text.text) c.in_ok-text.text.header.sorts.items (map declaration_seen declared) (c.in_ok-text.ensures.says ∙ sym (length-map declared declaration_seen)) refl)
     ∙ ap declarations c.in_ok-text.ensures.seen
+
+pub job_of-requires-clause-version : goal.job_of-requires-clause-version
+job_of-requires-clause-version c = ap (λ (text : TextLines). text.version) c.in_ok-text.ensures.seen

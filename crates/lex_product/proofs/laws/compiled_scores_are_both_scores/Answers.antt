@@ -7,5 +7,5 @@ returns c = both_scores (record {
   rules = c.alternatives_fit.ensures.rule;
   signs = c.alternatives_fit.ensures.sign;
   terms = c.terms_fit_their_signs.ensures.terms;
-  factors = c.terms_fit_their_signs.ensures.factors;
+  fits = c.terms_fit_their_signs.ensures.fit;
 })

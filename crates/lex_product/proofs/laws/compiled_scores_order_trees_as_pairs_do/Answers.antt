@@ -7,7 +7,7 @@ returns-clause-before c = before_pairs (record {
   rules = c.alternatives_fit.ensures.rule;
   signs = c.alternatives_fit.ensures.sign;
   terms = c.terms_fit_their_signs.ensures.terms;
-  factors = c.terms_fit_their_signs.ensures.factors;
+  fits = c.terms_fit_their_signs.ensures.fit;
 })
 
 pub returns-clause-preferred : goal.returns-clause-preferred
@@ -16,5 +16,5 @@ returns-clause-preferred c = preferred_pairs (record {
   rules = c.alternatives_fit.ensures.rule;
   signs = c.alternatives_fit.ensures.sign;
   terms = c.terms_fit_their_signs.ensures.terms;
-  factors = c.terms_fit_their_signs.ensures.factors;
+  fits = c.terms_fit_their_signs.ensures.fit;
 })

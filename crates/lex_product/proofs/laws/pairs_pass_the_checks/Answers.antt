@@ -10,7 +10,8 @@ returns-clause-second c grammar first second least greatest ranks pair =
 
 pub returns-clause-compiled : goal.returns-clause-compiled
 returns-clause-compiled c grammar first second least greatest ranks pair bound low =
-    let fitting = fitting_terms c.terms_fit_their_signs.ensures.terms c.terms_fit_their_signs.ensures.factors grammar
+    let fitting = fitting_terms c.terms_fit_their_signs.ensures.terms c.terms_fit_their_signs.ensures.fit grammar
     pair.checked.well_formed in
     IsChecked-compiled grammar first second (multiplier_of bound) least greatest ranks pair.checked
-    (fitting first pair.checked.algebra_known) (fitting second pair.known) c.monotone_terms_keep_order.ensures low
+    (fitting first pair.checked.algebra_known (λ sign inside. (pair.adding sign inside).0))
+    (fitting second pair.known (λ sign inside. (pair.adding sign inside).1)) c.monotone_terms_keep_order.ensures low

@@ -11,7 +11,7 @@ returns-clause-report c number p second bound can admissible =
       rules = c.alternatives_fit.ensures.rule;
       signs = c.alternatives_fit.ensures.sign;
       terms = c.terms_fit_their_signs.ensures.terms;
-      factors = c.terms_fit_their_signs.ensures.factors;
+      fits = c.terms_fit_their_signs.ensures.fit;
     }) p second bound can number found.0 found.1
 
 pub returns-clause-one : goal.returns-clause-one
@@ -22,6 +22,6 @@ returns-clause-one c number p second bound can admissible =
       rules = c.alternatives_fit.ensures.rule;
       signs = c.alternatives_fit.ensures.sign;
       terms = c.terms_fit_their_signs.ensures.terms;
-      factors = c.terms_fit_their_signs.ensures.factors;
+      fits = c.terms_fit_their_signs.ensures.fit;
     }) p second bound can (λ t u first other. c.preferred_tree_is_unique.ensures compiled (axiom_cell p) t u admissible.checked.well_formed first other)
     (c.demanded_cells_are_unique.ensures.count p) number

@@ -17,11 +17,11 @@ some c alternative in_range =
 pub returns-then-not-may_span : goal.returns-then-not-may_span
 returns-then-not-may_span c =
     let at = (goal.at.returns-then-not-may_span c).After-alternatives_fit in
-    closed_at_other_lengths c.args.tables.now c.args.alternative.now c.requires.front c.args.cell (some at)
+    closed_at_other_lengths c.args.tables.now c.args.alternative.now c.requires.front c.args.cell (some at) c.requires.short
     (λ may. false≢true (sym c.if-not-may_span.true ∙ c.may_span.ensures.1 may))
 
 pub returns : goal.returns
 returns c =
     let at = (goal.at.returns c).After-alternatives_fit in
     opened_by_front c.args.tables.now c.args.alternative.now c.requires.front c.args.cell (some at)
-    (c.may_span.ensures.0 c.if-not-may_span.false) c.front_end.result c.front_end.ensures
+    c.requires.short (c.may_span.ensures.0 c.if-not-may_span.false) c.front_end.result c.front_end.ensures

@@ -13,7 +13,7 @@ returns c =
     let whole : length p.word - 0 ≡ length p.word = omega arith in
     record {
       within = λ tree derived. subst (λ n. IsWithinSizes p.grammar p.grammar.axiom n) whole
-          (c.derived_lengths_are_within_sizes.ensures.within p keeps.least keeps.greatest keeps.ranks keeps.checked keeps.limits.letters (axiom_cell p) tree derived);
+          (c.derived_lengths_are_within_sizes.ensures.within p keeps.least keeps.greatest keeps.ranks keeps.checked (axiom_cell p) tree derived);
       short = λ tree derived.
           let few : node_count tree ≤ bound.0 p.grammar.axiom (length p.word) =
           subst (λ n. node_count tree ≤ bound.0 p.grammar.axiom n) whole

@@ -13,12 +13,12 @@ pub returns-in-Some-clause-next : goal.returns-in-Some-clause-next
 returns-in-Some-clause-next g c =
     let p = g.M.Matcher.posed c.args.matcher.now in
     let cuts = c.args.cuts.now in
-    next_visited p c.args.cell c.args.alt c.requires.viable.in_range cuts c.in-Some.found
+    next_visited p c.args.cell c.args.alt c.requires.viable.in_range c.requires.viable.allowed cuts c.in-Some.found
     (subst (λ xs. IsNextFrom p c.args.cell xs c.args.cell.from 0 cuts c.in-Some.found) (rw c.problem.ensures at c.arguments-arguments.ensures.arguments) c.in-Some.ensures)
 
 pub returns-in-None-clause-last : goal.returns-in-None-clause-last
 returns-in-None-clause-last g c =
     let p = g.M.Matcher.posed c.args.matcher.now in
     let cuts = c.args.cuts.now in
-    last_visited p c.args.cell c.args.alt c.requires.viable.in_range cuts
+    last_visited p c.args.cell c.args.alt c.requires.viable.in_range c.requires.viable.allowed cuts
     (subst (λ xs. IsLastFrom p c.args.cell xs c.args.cell.from 0 cuts) (rw c.problem.ensures at c.arguments-arguments.ensures.arguments) c.in-None.ensures)

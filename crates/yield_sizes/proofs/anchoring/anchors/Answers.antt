@@ -1,6 +1,6 @@
 use Rattle.std.proofs.Common.{List, Bool, sym, subst, length}
 use Rattle.adp_model.specs.ProblemFields.{AreLeftAnchors, AreRightAnchors}
-use Rattle.adp_model.specs.Sizes.{Reaches}
+use Rattle.yield_sizes.specs.References.{Reaches}
 use Rattle.yield_sizes.specs.Relations.{IsTableOf}
 use Rattle.yield_sizes.proofs.anchoring.anchors.Goals as goal
 

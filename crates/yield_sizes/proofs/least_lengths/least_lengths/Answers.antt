@@ -34,4 +34,4 @@ returns c =
     let new = c.improve.new.known in
     let items = written_items c.loop.known c.deref_mut.result.now new c.improve.auto.known c.deref_mut.ensures.value in
     let P : List (Option ℕ) → Type 0 = AreLeastLengths grammar in
-    subst P (sym items) (lengths_found grammar new (c.numbers_fit_together.ensures.runs_in_order grammar c.requires) c.improve.ensures.lengths (c.improve.ensures.least c.loop-test.false))
+    subst P (sym items) (lengths_found grammar new (c.numbers_fit_together.ensures.runs_in_order grammar c.requires) (c.numbers_fit_together.ensures.sizes_fit grammar c.requires) c.improve.ensures.lengths (c.improve.ensures.least c.loop-test.false))

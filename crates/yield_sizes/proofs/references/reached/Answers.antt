@@ -1,5 +1,5 @@
 use Rattle.std.proofs.Common.{length}
-use Rattle.adp_model.specs.Sizes.{Reaches}
+use Rattle.yield_sizes.specs.References.{Reaches}
 use Rattle.yield_sizes.specs.Relations.{IsTableOf, Leads}
 use Rattle.yield_sizes.proofs.Searching.{if_ok_weaker}
 use Rattle.yield_sizes.proofs.ArgumentFacts.{reached_table}

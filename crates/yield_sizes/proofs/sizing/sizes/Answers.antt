@@ -1,6 +1,6 @@
-use Rattle.std.proofs.Common.{◌≡◌, ◌<◌, ℕ, None, Option, List, length, map, get_or, sym, ap, subst, ◌∙◌}
+use Rattle.std.proofs.Common.{◌≡◌, ◌<◌, ℕ, Option, List, length, map, get_or, sym, ap, subst, ◌∙◌}
 use Rattle.std.proofs.lemmas.List.{length-map}
-use Rattle.adp_model.specs.Sizes.{IsLeastSize, IsGreatestSize}
+use Rattle.adp_model.specs.Sizes.{IsLeastSize, AreGreatestSizes}
 use Rattle.yield_sizes.proofs.LeastLengths.{or_zero, least_told}
 use Rattle.yield_sizes.proofs.sizing.sizes.Goals as goal
 
@@ -11,10 +11,8 @@ returns c =
     let least : c.new.result ≡ map or_zero known = c.new.ensures ∙ c.in_ok-or_zero.ensures ∙ ap (map or_zero) c.deref.ensures.value in
     let greatest : c.new-2.result ≡ c.in_ok-greatest.greatest.items = c.new-2.ensures in
     let P : List ℕ → Type 0 = λ sizes. (rule : ℕ) → rule < length grammar.rules → IsLeastSize grammar rule (get_or sizes rule 0) in
-    let Q : List (Option ℕ) → Type 0 = λ sizes. (rule : ℕ) → rule < length grammar.rules → IsGreatestSize grammar rule (get_or sizes rule None) in
     record {
       least_each = ap length least ∙ length-map known or_zero ∙ c.in_ok-least.ensures.each;
-      greatest_each = ap length greatest ∙ c.in_ok-greatest.ensures.each;
       least_are = subst P (sym least) (least_told grammar known c.in_ok-least.ensures c.requires.productive);
-      greatest_are = subst Q (sym greatest) c.in_ok-greatest.ensures.greatest;
+      greatest_are = subst (AreGreatestSizes grammar) (sym greatest) c.in_ok-greatest.ensures;
     }

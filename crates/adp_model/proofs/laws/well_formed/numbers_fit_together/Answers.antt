@@ -1,4 +1,4 @@
-use Rattle.adp_model.proofs.WellFormedParts.{axiom-formed, rules-few, named-formed, runs-formed}
+use Rattle.adp_model.proofs.WellFormedParts.{axiom-formed, rules-few, named-formed, runs-formed, bounds-formed}
 use Rattle.adp_model.proofs.laws.well_formed.numbers_fit_together.Goals as goal
 
 pub returns : goal.returns
@@ -7,4 +7,5 @@ returns c = record {
   axiom_known = axiom-formed;
   named_known = named-formed;
   runs_in_order = runs-formed;
+  sizes_fit = bounds-formed;
 }

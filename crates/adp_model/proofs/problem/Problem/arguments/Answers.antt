@@ -1,4 +1,4 @@
-use Rattle.std.proofs.Common.{◌≡◌, List, [], get_or, ap, ◌∙◌}
+use Rattle.std.proofs.Common.{None, ◌≡◌, List, [], get_or, ap, ◌∙◌}
 use Rattle.std.proofs.lemmas.List.{get_or_default}
 use Rattle.adp_model.specs.declared.grammar.Alt.{Alt}
 use Rattle.adp_model.specs.Parts.{arguments_of}
@@ -7,7 +7,7 @@ use Rattle.adp_model.proofs.problem.Problem.arguments.Goals.{After-as_slice}
 
 read : (c : After-as_slice) → c.as_slice.result.now ≡ arguments_of c.args.self.now.grammar c.args.rule c.args.alt
 read c =
-    let none : Alt = record { sign = 0; args = [] } in
+    let none : Alt = record { sign = 0; args = []; size = None } in
     c.as_slice.ensures
     ∙ ap (λ (alt : Alt). alt.args)
     (get_or_default c.alternatives.result.now c.args.alt c.index-alternatives-alt.result none

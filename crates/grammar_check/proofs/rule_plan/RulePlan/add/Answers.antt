@@ -1,13 +1,12 @@
-use Rattle.std.proofs.Common.{◌≡◌, ℕ, ◌+◌, ◌-◌, ◌^◌, min, List, length, Result, Ok, Err, OnOk, sym, ap, subst, ◌∙◌, arith}
+use Rattle.std.proofs.Common.{◌≡◌, ℕ, ◌+◌, ◌-◌, ◌^◌, min, List, length, Result, Ok, Err, OnOk, sym, ap, subst, ◌∙◌, arith, inl}
 use Rattle.std.specs.List.{All}
 use Rattle.adp_model.specs.LimitFaults.{told}
-use Rattle.grammar_check.specs.declared.part.Part.{Part}
 use Rattle.grammar_check.specs.Plans.{open_parts, fixed_length, fixed_worth}
-use Rattle.grammar_check.specs.RuleValues.{IsWide, plan_of}
+use Rattle.grammar_check.specs.RuleValues.{Kept, IsWide, plan_of}
 use Rattle.grammar_check.specs.TokenNumbers.{greatest_of, token_number}
 use Rattle.grammar_check.specs.KeptPlans.{AddsKept}
 use Rattle.grammar_check.proofs.Kept.{length-open}
-use Rattle.grammar_check.proofs.KeptPlanSteps.{keeps_more}
+use Rattle.grammar_check.proofs.KeptPlanSteps.{keeps_linear}
 use Rattle.grammar_check.proofs.rule_plan.RulePlan.add.Goals as goal
 
 on_ok : {E : Type 0} {P Q : Type 0} (result : Result (Unit {0}) E) → (P → Q) → OnOk result P → OnOk result Q
@@ -30,11 +29,11 @@ returns-clause-keeps c =
     let parts = c.args.parts.now in
     on_ok c.add_kept.result
     (λ adds entries keeps.
-    keeps_more entries (plan_of before.alternatives.items) (plan_of after.alternatives.items) before.tokens.items after.tokens.items parts c.args.constant keeps
-    (subst (λ (items : List (ℕ × ℕ × List Part)). AddsKept items (plan_of after.alternatives.items) (told (c.args.constant + fixed_worth parts), min (fixed_length parts) (2 ^ 64 - 1), open_parts parts))
+    keeps_linear entries (plan_of before.alternatives.items) (plan_of after.alternatives.items) before.tokens.items after.tokens.items parts c.args.constant keeps
+    (subst (λ (items : List Kept). AddsKept items (plan_of after.alternatives.items) (inl (told (c.args.constant + fixed_worth parts)), min (fixed_length parts) (2 ^ 64 - 1), open_parts parts))
     (ap (λ v. plan_of v.items) c.add_tokens.ensures.alternatives)
-    (subst (λ (kept : ℕ × ℕ × List Part). AddsKept (plan_of middle.alternatives.items) (plan_of after.alternatives.items) kept)
-    (λ i. (summed c.cut_sum-constant.result c.args.constant c.fixed_worth.result (fixed_worth parts) c.cut_sum-constant.ensures c.fixed_worth.ensures i, c.fixed_length.ensures i, c.in_ok-open.ensures i)) adds))
+    (subst (λ (kept : Kept). AddsKept (plan_of middle.alternatives.items) (plan_of after.alternatives.items) kept)
+    (λ i. (inl (summed c.cut_sum-constant.result c.args.constant c.fixed_worth.result (fixed_worth parts) c.cut_sum-constant.ensures c.fixed_worth.ensures i), c.fixed_length.ensures i, c.in_ok-open.ensures i)) adds))
     (λ len. ap (λ v. greatest_of (token_number len) v.items) c.add_kept.ensures.tokens ∙ c.in_ok-add_tokens.ensures.tokens len))
     c.add_kept.ensures.kept
 

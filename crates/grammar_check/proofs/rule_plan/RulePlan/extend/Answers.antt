@@ -1,11 +1,8 @@
-use Rattle.std.proofs.Common.{◌≡◌, ℕ, ◌<◌, ◌≤◌, ◌+◌, ◌-◌, length, slice_index_or, sym, ap₂, subst, ◌∙◌, arith}
+use Rattle.std.proofs.Common.{◌≡◌, ℕ, ◌<◌, ◌+◌, length, slice_index_or, sym, subst, ◌∙◌, arith}
 use Rattle.std.specs.List.{All}
 use Rattle.std.proofs.lemmas.List.{length-set}
 use Rattle.std.proofs.lemmas.List.Elements.{All-set, AllWithin-more_set}
-use Rattle.grammar_check.specs.declared.part.Part.{Part}
 use Rattle.grammar_check.specs.declared.alternative.Alternative.{Alternative}
-use Rattle.grammar_check.specs.Plans.{IsReadable, lows}
-use Rattle.grammar_check.specs.Alternatives.{AreSpread}
 use Rattle.grammar_check.specs.RuleValues.{IsWide, IsAllReadable, kept_of, plan_of, AreAllRead, IsSpreadTo}
 use Rattle.grammar_check.proofs.Spreads.{ord_max-numbers}
 use Rattle.grammar_check.proofs.RulePlans.{plan-set, plan_at, length-plan, value_step, read_at, spread_less}
@@ -24,14 +21,13 @@ loop-place-preserved c =
     let in_plan : place < length (plan_of before) = omega (arith, length-plan before, inv.each) in
     let old_all = λ (P : Alternative → Type 0) (all : All P now). subst P (sym c.index_mut-alternative.ensures.value) (all place old inside) in
     let spread_of = λ (bound : ℕ → ℕ → ℕ) (reads : AreAllRead bound c.args.bounds.now (plan_of before) c.args.len) (spreads : All (IsSpreadTo bound c.args.len) before).
-    subst (λ n. AreSpread bound new (c.args.len + 1 - n)) (sym (ap₂ (λ f ps. f + lows ps) c.extend-value.ensures.fixed c.extend-value.ensures.parts))
-    (c.extend-value.ensures.spread bound (read_at bound c.args.bounds.now (plan_of before) place c.args.len old in_plan here reads) (old_all (IsSpreadTo bound c.args.len) (inv.older bound reads spreads))) in
+    c.extend-value.ensures.spread bound (read_at bound c.args.bounds.now (plan_of before) place c.args.len old in_plan here reads) (old_all (IsSpreadTo bound c.args.len) (inv.older bound reads spreads)) in
     record {
-      plan = plan-set now place old new c.index_mut-alternative.ensures.value c.extend-value.ensures.constant c.extend-value.ensures.fixed c.extend-value.ensures.parts ∙ inv.plan;
+      plan = plan-set now place old new c.index_mut-alternative.ensures.value c.extend-value.ensures.kept ∙ inv.plan;
       tokens = inv.tokens;
       each = length-set now place new ∙ inv.each;
-      readable = All-set (IsAllReadable c.args.bounds.now.rows) now place new (subst (λ ps. All (λ (part : Part). IsReadable c.args.bounds.now.rows part.worth) ps) (sym c.extend-value.ensures.parts) (old_all (IsAllReadable c.args.bounds.now.rows) inv.readable)) inv.readable;
-      columns = All-set (IsWide c.args.bounds.now.width) now place new (subst (λ w. c.args.bounds.now.width ≤ w) (sym c.extend-value.ensures.width) (old_all (IsWide c.args.bounds.now.width) inv.columns)) inv.columns;
+      readable = All-set (IsAllReadable c.args.bounds.now.rows) now place new c.extend-value.ensures.readable inv.readable;
+      columns = All-set (IsWide c.args.bounds.now.width) now place new c.extend-value.ensures.columns inv.columns;
       value = λ bound reads spreads.
           value_step bound (plan_of before) place c.args.len c.loop-place.best c.extend-value.result c.max-best.result old in_plan here (inv.value bound reads spreads)
           (c.extend-value.ensures.value bound (read_at bound c.args.bounds.now (plan_of before) place c.args.len old in_plan here reads) (old_all (IsSpreadTo bound c.args.len) (inv.older bound reads spreads)))
@@ -41,3 +37,8 @@ loop-place-preserved c =
       spread = λ bound reads spreads.
           AllWithin-more_set now place new inside (IsSpreadTo bound (c.args.len + 1)) (inv.spread bound reads spreads) (spread_of bound reads spreads);
     }
+
+pub returns-clause-spread : goal.returns-clause-spread
+returns-clause-spread c = λ bound reads spreads k d inside.
+    c.loop-place.invariant.spread bound reads spreads k d (omega arith)
+    (omega (arith, inside, c.loop-place.invariant.each, c.loop-place-test.false, c.len-place-end.ensures, c.args.self.now.alternatives.ok.0))

@@ -9,7 +9,7 @@ last_says_words (forms.Says forms.Words) h = refl
 last_says_words found h = cc
 
 pub returns : goal.returns
-returns c = λ line. (
-  λ says. sym (last_is_words line) ∙ ap is_last says,
-  λ words. last_says_words (forms.header_line line) (last_is_words line ∙ words),
+returns c = λ version line. (
+  λ says. sym (last_is_words version line) ∙ ap is_last says,
+  λ words. last_says_words (forms.header_line version line) (last_is_words version line ∙ words),
 )

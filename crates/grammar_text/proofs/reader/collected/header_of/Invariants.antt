@@ -8,5 +8,5 @@ use Rattle.grammar_text.proofs.reader.collected.header_of.Given as goal
 abbrev pub invariant-loop-line : goal.invariant-loop-line
 invariant-loop-line l = record {
   says : says_in l.header.sorts.items ≡ length l.header.declared.items;
-  seen : header_seen l.header ++ heading_from l.lines l.line-index ≡ forms.Skipped ∷ heading_from l.lines 0;
+  seen : header_seen l.header ++ heading_from l.version l.lines l.line-index ≡ forms.Skipped ∷ heading_from l.version l.lines 0;
 }

@@ -11,9 +11,9 @@ owned-requires c = rw c.requires.words (accepted-printable c.args.text.now c.req
 
 pub invariant_of-result : goal.invariant_of-result
 invariant_of-result c =
-    let it = made c.args.text.now c.in_ok-grammar.grammar c.new.result c.requires.faultless (c.in_ok-grammar.ensures ∙ ap declared_grammar c.requires.declarations) (c.new.ensures ∙ c.in_ok-words.ensures ∙ c.requires.words) in
-    record { well_formed = it.well_formed; printable_words = it.printable_words; few_words = it.few_words }
+    let it = made c.args.text.now c.args.version c.in_ok-grammar.grammar c.new.result c.requires.faultless c.requires.version (c.in_ok-grammar.ensures ∙ ap declared_grammar c.requires.declarations) (c.new.ensures ∙ c.in_ok-words.ensures ∙ c.requires.words) in
+    record { of_version = it.of_version; well_formed = it.well_formed; printable_words = it.printable_words; few_words = it.few_words }
 
 pub returns : goal.returns
 returns c =
-    (made c.args.text.now c.in_ok-grammar.grammar c.new.result c.requires.faultless (c.in_ok-grammar.ensures ∙ ap declared_grammar c.requires.declarations) (c.new.ensures ∙ c.in_ok-words.ensures ∙ c.requires.words)).verdict
+    (made c.args.text.now c.args.version c.in_ok-grammar.grammar c.new.result c.requires.faultless c.requires.version (c.in_ok-grammar.ensures ∙ ap declared_grammar c.requires.declarations) (c.new.ensures ∙ c.in_ok-words.ensures ∙ c.requires.words)).verdict

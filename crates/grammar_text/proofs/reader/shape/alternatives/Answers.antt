@@ -1,8 +1,8 @@
-use Rattle.std.proofs.Common.{arith}
+use Rattle.std.proofs.Common.{◌+◌, arith}
 use Rattle.std.proofs.Common.{map, refl}
 use Rattle.grammar_text.specs.Seen.{alternative_seen}
 use Rattle.grammar_text.proofs.Fronts.{front_none}
-use Rattle.grammar_text.proofs.ShapeSteps.{rest_of, one_within, alternatives_end, alternatives_step, alternatives_unended, alternatives_without}
+use Rattle.grammar_text.proofs.ShapeSteps.{rest_of, place_within, alternatives_end, alternatives_step, alternatives_unended, alternatives_without}
 use Rattle.grammar_text.proofs.reader.shape.alternatives.Goals as goal
 
 pub returns-in_default-2 : goal.returns-in_default-2
@@ -11,28 +11,31 @@ returns-in_default-2 c =
     let none = rw (rest_of, c.in_default-2.is) at c.in_ok-arguments.ensures in
     alternatives_without c.args.said.now c.loop-sign.at c.in-Some.sign (map alternative_seen c.loop-sign.alternatives.items) _ first none c.loop-sign.invariant.seen
 
-pub returns-in-Some-End : goal.returns-in-Some-End
-returns-in-Some-End c =
+pub returns-in-End : goal.returns-in-End
+returns-in-End c =
     let first = rw rest_of at c.in-Some.ensures in
     let those = rw (rest_of, c.in-Some-2.is) at c.in_ok-arguments.ensures in
-    let end = rw (c.in-Some-End.field-0-is, rest_of) at c.in-Some-End.ensures in
-    alternatives_end c.args.said.now c.loop-sign.at c.in-Some-2.used c.in-Some.sign c.in-Some-2.arguments.items c.loop-sign.alternatives.items c.push.new.self.items _ _ first those refl c.loop-sign.invariant.seen c.in_ok-push.ensures.items end
+    let ends = rw (rest_of, c.in-End.is) at c.in-Some-behind_alternative.ensures in
+    alternatives_end c.args.said.now c.loop-sign.at c.in-Some-2.used c.in-Some-behind_alternative.used c.in-Some.sign c.in-Some-2.arguments.items c.in-Some-behind_alternative.size c.loop-sign.alternatives.items c.push.new.self.items _ _ first those ends refl c.loop-sign.invariant.seen c.in_ok-push.ensures.items
 
 pub loop-sign-preserved : goal.loop-sign-preserved
 loop-sign-preserved c =
+    let said = c.args.said.now in
     let first = rw rest_of at c.in-Some.ensures in
     let those = rw (rest_of, c.in-Some-2.is) at c.in_ok-arguments.ensures in
-    let bar = rw (c.in-Some-Another.field-0-is, rest_of) at c.in-Some-Another.ensures in
+    let ends = rw (rest_of, c.in-Another.is) at c.in-Some-behind_alternative.ensures in
+    let opened = place_within said c.loop-sign.at 2 c.loop-sign.invariant.within first.1 in
+    let closed = place_within said (c.loop-sign.at + 2) c.in-Some-2.used opened those.1 in
     record {
-      within = one_within _ _ _ _ bar;
-      seen = alternatives_step c.args.said.now c.loop-sign.at c.in-Some-2.used c.in-Some.sign c.in-Some-2.arguments.items c.loop-sign.alternatives.items c.push.new.self.items _ _ first those refl c.loop-sign.invariant.seen c.in_ok-push.ensures.items bar;
+      within = place_within said (c.loop-sign.at + 2 + c.in-Some-2.used) c.in-Some-behind_alternative.used closed ends.1;
+      seen = alternatives_step said c.loop-sign.at c.in-Some-2.used c.in-Some-behind_alternative.used c.in-Some.sign c.in-Some-2.arguments.items c.in-Some-behind_alternative.size c.loop-sign.alternatives.items c.push.new.self.items _ _ first those ends refl c.loop-sign.invariant.seen c.in_ok-push.ensures.items;
     }
 
-pub returns-in-None : goal.returns-in-None
-returns-in-None c =
+pub returns-in_default-behind_alternative : goal.returns-in_default-behind_alternative
+returns-in_default-behind_alternative c =
     let first = rw rest_of at c.in-Some.ensures in
     let those = rw (rest_of, c.in-Some-2.is) at c.in_ok-arguments.ensures in
-    let none = rw rest_of at c.in-None.ensures in
+    let none = rw (rest_of, c.in_default-behind_alternative.is) at c.behind_alternative.ensures in
     alternatives_unended c.args.said.now c.loop-sign.at c.in-Some-2.used c.in-Some.sign c.in-Some-2.arguments.items (map alternative_seen c.loop-sign.alternatives.items) _ first those c.loop-sign.invariant.seen none
 
 pub offset_bounds-said-at : goal.offset_bounds-said-at

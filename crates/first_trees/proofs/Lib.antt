@@ -1,0 +1,15 @@
+pub mod Lists
+pub mod Listed
+pub mod Following
+pub mod Ordering
+pub mod Decisions
+pub mod Viable
+pub mod AllTrees
+pub mod Orderly
+pub mod Pigeons
+pub mod Choices
+pub mod EntryOrder
+pub mod Ends
+pub mod Ranked
+pub mod Lowered
+pub mod Reported

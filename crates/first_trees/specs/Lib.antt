@@ -1,0 +1,4 @@
+pub mod FirstTrees
+pub mod Entries
+pub mod RankedSplits
+pub mod ListReport

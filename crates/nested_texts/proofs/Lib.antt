@@ -1,0 +1,10 @@
+pub mod SplitLines
+pub mod Shapes
+pub mod Scans
+pub mod Replacing
+pub mod EndedLines
+pub mod PlainLines
+pub mod AddedLines
+pub mod HeaderLines
+pub mod Reading
+pub mod WholeTexts

@@ -1,0 +1,4 @@
+pub mod NestedRules
+pub mod PlainTexts
+pub mod IsPlain
+pub mod Seen

@@ -1,0 +1,13 @@
+//! Job texts whose rules may have alternatives as arguments, `adp 3`, as texts without them.
+#![tactic(auto)]
+
+mod header;
+mod lines;
+mod nested;
+mod output;
+mod pile;
+mod plain;
+mod replaced;
+mod shape;
+
+pub use plain::{Plain, plain_text};

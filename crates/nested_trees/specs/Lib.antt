@@ -1,0 +1,9 @@
+pub mod HiddenRules
+pub mod Patterns
+pub mod NestedTree
+pub mod NestedDerivation
+pub mod NestedScores
+pub mod NestedPreference
+pub mod NestedText
+pub mod NestedReport
+pub mod Erasure

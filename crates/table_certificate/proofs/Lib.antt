@@ -1,0 +1,11 @@
+pub mod BlockForms
+pub mod RightScores
+pub mod ToldScores
+pub mod SplitLines
+pub mod WrittenLines
+pub mod ListedCells
+pub mod BestTrees
+pub mod RightLines
+pub mod WrittenRight
+pub mod WrittenForms
+pub mod WrittenLocal

@@ -1,0 +1,4 @@
+pub mod Lowering
+pub mod LoweredParts
+pub mod TermParts
+pub mod Values

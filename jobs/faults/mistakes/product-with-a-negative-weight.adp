@@ -1,0 +1,15 @@
+adp 2
+# A line of letters, some of which pair up.
+class any = "abc" 1
+class odd = "x" 2 "y" -1
+sign end(token)
+sign put(token, score)
+sign pair(token, score, token, score)
+algebra cost min
+let end(text) = 0
+let put(letter, rest) = letter + rest
+let pair(open, within, close, rest) = within * (open + 1) + rest
+rule line = end("") | put([any], line) | pair("a", line, "b", line)
+grammar line
+words
+abc
