@@ -5,3 +5,9 @@ pub mod WrittenCertificate
 pub mod JobSplit
 pub mod Magnitudes
 pub mod ListedCells
+pub mod KeptForms
+pub mod NextForms
+pub mod Claims
+pub mod SplitVerdicts
+pub mod BlockLines
+pub mod Verified

@@ -1,13 +1,20 @@
-//! Certificates: of each word its demanded cells with their scores, line by line, so that others can check them.
+//! Certificates: of each word its demanded cells with their scores, written, and checked line by line.
 #![tactic(auto)]
 
+mod blocks;
+mod claims;
 mod demanded;
+mod forms;
 mod job_split;
 pub mod laws;
 mod magnitudes;
+mod numbers;
+mod splits;
+mod verifying;
 mod writing;
 
 pub use demanded::{DemandedAnswers, demanded_cells};
 pub use job_split::{Rejected, split_input};
 pub use magnitudes::magnitude;
+pub use verifying::{VerifyError, verify_all};
 pub use writing::certificate;

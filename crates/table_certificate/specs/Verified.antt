@@ -1,0 +1,39 @@
+-- What the verification of a certificate answers.
+use Rattle.std.specs.Prelude.{◌≡◌, ℕ, ◌+◌, ◌<◌, ◌⊎◌, false, Some, List, ◌∷◌, length, map, slice_get}
+use Rattle.adp_model.specs.declared.grammar.Grammar.{Grammar}
+use Rattle.adp_model.specs.PosedProblem.{PosedProblem}
+use Rattle.grammar_check.specs.CheckedGrammar.{CheckedGrammar}
+use Rattle.table_certificate.specs.declared.verifying.VerifyError.{VerifyError}
+use Rattle.table_certificate.specs.declared.verifying.VerifyError.TheVariants as errors
+use Rattle.table_certificate.specs.BlockLines.{IsAtHead}
+use Rattle.table_certificate.specs.CertificateLines.{LineForm, CertLine, forms_of}
+use Rattle.table_certificate.specs.LocalCertificate.{IsFirstFalse, is_word_line}
+
+-- the problems of a checked grammar and words
+abbrev pub problems_of : CheckedGrammar → List (List ℕ) → List PosedProblem
+problems_of checked words =
+    map (λ (word : List ℕ). record { grammar = checked.grammar; algebra = checked.algebra; word = word }) words
+
+-- the line behind so many others is told as the first that is false; lines count from 1
+abbrev pub IsFalseLine : ℕ → VerifyError → Type 0
+IsFalseLine place (errors.Rejected rejected) = rejected.line ≡ place + 1
+IsFalseLine place errors.Memory = ⊥
+
+-- the first line that is false has this number, from 1 on; or there was no memory
+abbrev pub IsRejection : List PosedProblem → List LineForm → VerifyError → Type 0
+IsRejection problems forms (errors.Rejected rejected) =
+    (place : ℕ) × (rejected.line ≡ place + 1) × IsFirstFalse problems forms place
+IsRejection problems forms errors.Memory = Unit {0}
+
+-- the text begins with a line `cert`, and behind it stands nothing, or the head of a block
+pub record IsBehindCert (grammar : Grammar) (text behind : List ℕ) : Type 0 where
+  pub cert : forms_of grammar text ≡ CertLine ∷ forms_of grammar behind
+  pub at_head : IsAtHead grammar behind
+  pub fewer : length behind < length text
+
+-- the first line isn't `cert`, or there is none; or the second one stands in no block
+abbrev pub IsFalseBegin : Grammar → List ℕ → ℕ → Type 0
+IsFalseBegin grammar text place =
+    ((place ≡ 0) × (slice_get (forms_of grammar text) 0 ≡ Some CertLine → ⊥))
+    ⊎ ((place ≡ 1) × ((form : LineForm) × (behind : List LineForm)
+    × (forms_of grammar text ≡ CertLine ∷ form ∷ behind) × (is_word_line form ≡ false)))
