@@ -8,8 +8,8 @@ export LC_ALL
 self=${BASH_SOURCE[0]}
 most_bytes=4194304
 # (raised with each format that the program reads)
-version=1.1
-formats='adp 1, adp 2'
+version=1.2
+formats='adp 1, adp 2, adp 3'
 
 help() {
   local usage
@@ -25,23 +25,27 @@ modes
   replay             as wins, with evaluators that are stepped one by one, in the order of a schedule
   lex                the best by one algebra and, among equals, by a second one; as best, with both scores; of jobs in
                      the format adp 1 alone
+  cert               a certificate: every cell that an answer may depend on with its score, and behind them the job, so
+                     that whoever gets it can check it line by line
+  verify             reads a certificate with its job, checks each line by its neighbours, and writes the score of each
+                     word
   big                a word that is made from seed and size: its size, best score and cells; reads no job
 
 options, in any order, each at most once
   --algebra NAME     the algebra that scores; the first of the job where none is named; not of big
   --then NAME        the algebra that decides among equals; of lex, which needs it
-  --workers N        how many evaluators, 1 to 32; 1 where nothing is said
+  --workers N        how many evaluators, 1 to 32; 1 where nothing is said; not of verify
   --seed N           the seed of their visiting orders, and of the word of big, below 2^64; 0 where nothing is said
   --schedule S       who makes each step: 1 to 4096 characters, 0 to 9 and a to v for the evaluators 0 to 31; at its end
                      evaluator 0 goes on alone; of replay, which needs it
   --size N           how many letters are made, 1 to 2046; of big, which needs it
 
-Each FILE is a job, run in its turn; `-`, or no file, is standard input. big reads no job. Of several files standard
-error has the name of each before its run. The status is that of the first run that did not end with 0; after a faulty
-command or a failed output no further file is run.
+Each FILE is a job, or a certificate of one for verify, run in its turn; `-`, or no file, is standard input. big reads
+no job. Of several files standard error has the name of each before its run. The status is that of the first run that
+did not end with 0; after a faulty command or a failed output no further file is run.
 
 of the launcher
-  --words FILE       more words, a line each, behind those of each job; `-` is standard input
+  --words FILE       more words, a line each, behind those of each job; `-` is standard input; not of verify
   --time-limit S     ends each run after S seconds, with status 124 and a line that says at which word it was
   --explain          tells behind a fault's line, and of words without a tree, what is wrong, where, and what to do
   --version, -V      what stands here: version, formats, the number of its sources, and the toolchain that built it
@@ -49,7 +53,7 @@ of the launcher
 
 status
   0 done   2 faulty command   3 input failed   4 output failed   5 faulty text   6 faulty grammar   7 a limit is passed
-  8 no memory   1 the program could not be built or found   124 the time limit came
+  8 no memory   10 a false line of a certificate   1 the program could not be built or found   124 the time limit came
 
 Each fault is one line on standard error: docs/FAULTS.md has them all, with the mend; of a faulty command and of input
 that cannot be read a line `adp: ..` behind it says the cause. A reader that ends early, as head, is a failed output. On
@@ -58,6 +62,7 @@ a terminal a run of more than two seconds shows there at which word it is, and f
 How to write a job: docs/GUIDE.md, and exactly: docs/FORMAT.md. Jobs to begin with: jobs/, as ./adp best jobs/bar.adp
 Reports as JSON, trees, DOT or SVG: tools/report. A page that draws them: tools/view.html, opened in a browser.
 The longest word that a job admits: tools/longest. Words from FASTA files: tools/fasta. From Python: tools/adp.py.
+A second opinion on a certificate, without this program: tools/check-certificate.
 All of this as a page: man -l docs/adp.1
 TEXT
   printf '%s\n' "$usage"
@@ -310,7 +315,10 @@ find_program() {
 # goes to the program, which refuses it.
 takes() {
   case $1 in
-    --words) [ -z "$words_file" ] && { [ "$2" = - ] || [ -e "$2" ]; } ;;
+    --words)
+      case $mode in big | verify) return 1 ;; esac
+      [ -z "$words_file" ] && { [ "$2" = - ] || [ -e "$2" ]; }
+      ;;
     --time-limit) [ -z "$time_limit" ] && [[ $2 =~ ^[0-9]{1,9}(\.[0-9]{1,6})?$ ]] && [[ $2 == *[1-9]* ]] ;;
     *) false ;;
   esac
@@ -321,7 +329,7 @@ sort_arguments() {
   local word option=''
   for word; do
     if [ -n "$option" ]; then
-      if [ "$mode" = big ] && [ "$option" = --words ] || ! takes "$option" "$word"; then
+      if ! takes "$option" "$word"; then
         words+=("$option" "$word")
       elif [ "$option" = --words ]; then
         words_file=$word
@@ -570,7 +578,8 @@ follow() {
 # Lets what the program writes pass on to file 9; the lines that tell how far it is go to the file `counts`, too.
 relay() {
   local ended
-  tee /dev/fd/8 8>&1 >&9 9>&- 2>/dev/null | grep --line-buffered -aE '^(word [0-9]+|none)$' >"$counts" 9>&-
+  tee /dev/fd/8 8>&1 >&9 9>&- 2>/dev/null |
+    grep --line-buffered -aE '^(word [0-9]+( cells [0-9]+)?|none)$' >"$counts" 9>&-
   ended=${PIPESTATUS[0]}
   return "$ended"
 }
@@ -611,7 +620,8 @@ run() {
     exec {lines}<&-
     wait "$passer" 2>/dev/null || is_cut=1
     find_finished
-    read -r treeless_count treeless < <(awk '
+    # (a certificate ends with the words of its job)
+    [ "$mode" = cert ] || read -r treeless_count treeless < <(awk '
       $1 == "none" && ++count <= 20 { these = these " " last }
       { last = $2 }
       END { print count + 0 these }' "$counts")
@@ -652,7 +662,9 @@ say_cause() {
   esac
   if [ -t 2 ] && [ -z "$cause" ]; then
     case $fault in
-      "fault text line "* | "fault grammar "* | "fault limit "*) say "--explain says what is wrong, and what to do" ;;
+      "fault text line "* | "fault grammar "* | "fault limit "* | "fault certificate "*)
+        say "--explain says what is wrong, and what to do"
+        ;;
     esac
   fi
 }
@@ -665,13 +677,17 @@ first_word() {
 # Explains a fault, or words without a tree; a faulty command in one line where it is to be brief. A command and its
 # cause are known; of a job what its text tells.
 explain() {
-  local colour='' name=$1
+  local colour='' name=$1 job=$job reason=''
   need awk
+  case $mode$fault in
+    "verifyfault certificate "*) reason=$(why_false) ;;
+    verify*) part_job ;;
+  esac
   [ -t 2 ] && [ -z "${NO_COLOR-}" ] && [ "${TERM-dumb}" != dumb ] && colour=1
   (
     export ADP_FAULT=${fault##*$'\n'} ADP_JOB=$job ADP_NAME=$name ADP_COLOUR=$colour ADP_GUIDE=$top/docs/FAULTS.md
     export ADP_COMMAND=$command ADP_BRIEF=$brief ADP_CAUSE=$cause ADP_WORDS=$words_file ADP_FRONT=$front
-    export ADP_TREELESS="$treeless_count $treeless" ADP_LONGEST
+    export ADP_TREELESS="$treeless_count $treeless" ADP_REASON=$reason ADP_LONGEST
     ADP_LONGEST=$(longest)
     exec awk -f "$top/tools/explain.awk" -- ${words[@]+"${words[@]}"} >&2
   ) &
@@ -680,10 +696,28 @@ explain() {
   child=
 }
 
+# Why a line of a certificate is false, where Python is there to tell.
+why_false() {
+  local words=("${words[@]:1}")
+  [ -n "$job" ] && python3 "$top/tools/check-certificate" --explain "${words[@]}" "$job" 2>&1 >/dev/null | sed 1,2d
+}
+
+# The job behind a certificate, whose lines a fault counts.
+part_job() {
+  [ "$name" != - ] || name="standard input"
+  name="the job of $name"
+  [ -z "$job" ] || { make_file && awk 'is_there; /^job\r?$/ { is_there = 1 }' "$job" >"$made" && job=$made; }
+}
+
 # The length up to which this job admits words, where one passes a limit that depends on it.
 longest() {
+  local asked=${words[0]-}
+  # (a certificate's job is admitted as any is)
+  [ "$asked" != verify ] || asked=best
   case $fault in
-    "fault limit "*" kind "[2-9]" "*) ADP=$program "$top/tools/longest" "$job" "${words[@]}" 2>/dev/null ;;
+    "fault limit "*" kind "[2-9]" "*)
+      ADP=$program "$top/tools/longest" "$job" "$asked" "${words[@]:1}" 2>/dev/null
+      ;;
   esac
 }
 

@@ -27,7 +27,7 @@ from collections.abc import Iterable, Iterator, Mapping, Sequence
 from dataclasses import dataclass, field
 from typing import Any, Union
 
-__version__ = "1.1"
+__version__ = "1.2"
 __all__ = ["Fault", "Job", "Malformed", "Node", "Place", "Report", "find_program", "places", "quoted", "read_reports",
            "read_tree", "record_of", "solve", "solve_big", "write_job"]
 
@@ -376,6 +376,7 @@ class Job:
         self._terms: dict[str, dict[str, _Steps]] = {}
         self._is_least: dict[str, bool] = {}
         self._by_sign: dict[str, list[_Alternative]] = {}
+        self._hidden_rules = 0
         readers = {"class": self._read_class, "algebra": self._read_algebra, "let": self._read_let,
                    "rule": self._read_rule, "grammar": self._read_grammar}
         header = text[: found.start()] if (found := _WORDS_LINE.search(text, text.find("\n") + 1)) else text
@@ -425,18 +426,38 @@ class Job:
     def _read_rule(self, tokens: list[tuple[str, bool]]) -> None:
         at = 3
         while at < len(tokens):
-            sign, arguments, mark = tokens[at][0], [], ","
-            at += 2
-            while mark == ",":
-                argument, at = self._argument(tokens, at)
-                arguments.append(argument)
-                mark = tokens[at][0]
-                at += 1
-            alternative = _Alternative(tokens[1][0], arguments)
+            alternative, at = self._read_alternative(tokens, at)
             if tokens[at : at + 1] == [("with", False)]:
                 at = self._read_size(tokens, at + 2, alternative)
-            self._by_sign.setdefault(sign, []).append(alternative)
             at += 1
+
+    def _read_alternative(self, tokens: list[tuple[str, bool]], at: int) -> tuple[_Alternative, int]:
+        """An alternative from a place of the tokens on, and the place behind it. One that stands as an argument is that
+        of a hidden rule."""
+        whole = self._added(tokens[1][0], tokens[at][0])
+        unfinished = [whole]
+        at += 2
+        while unfinished:
+            if tokens[at + 1] == ("(", False):
+                self._hidden_rules += 1
+                inner = self._added(f"h_{self._hidden_rules}", tokens[at][0])
+                unfinished[-1].arguments.append(_Argument(rule=inner.rule))
+                unfinished.append(inner)
+                at += 2
+                continue
+            argument, at = self._argument(tokens, at)
+            unfinished[-1].arguments.append(argument)
+            while unfinished and tokens[at] == (")", False):
+                unfinished.pop()
+                at += 1
+            # (a comma)
+            at += bool(unfinished)
+        return whole, at
+
+    def _added(self, rule: str, sign: str) -> _Alternative:
+        alternative = _Alternative(rule, [])
+        self._by_sign.setdefault(sign, []).append(alternative)
+        return alternative
 
     @staticmethod
     def _read_size(tokens: list[tuple[str, bool]], at: int, alternative: _Alternative) -> int:
@@ -543,6 +564,11 @@ def _line(text: str) -> str:
     return text
 
 
+def _is_nested(alternative: str) -> bool:
+    """Whether an alternative has another one as an argument."""
+    return sum(mark == "(" for _, _, mark in _TOKEN.findall(alternative)) > 1
+
+
 def write_job(*, signs: Mapping[str, Sequence[str]], algebras: Mapping[str, tuple[str, Mapping[str, str]]],
               rules: Mapping[str, Sequence[str]], words: Iterable[str] = (),
               classes: Mapping[str, Mapping[str, int]] | None = None, grammar: str | None = None,
@@ -550,12 +576,13 @@ def write_job(*, signs: Mapping[str, Sequence[str]], algebras: Mapping[str, tupl
     """The text of a job. `signs`: of each its kinds, 'token' or 'score'. `algebras`: of each 'min' or 'max', and of
     each sign with its variables, as 'put(x, y)', its term. `rules`: of each its alternatives; the first is that of the
     whole word, unless `grammar` names another. `classes`: of each the weight of each letter, or of several letters at
-    once. `version` is the format, 1 or 2; where it is not given the first one, if that has such terms and
+    once. `version` is the format, 1, 2 or 3; where it is not given the first one that has such terms and
     alternatives."""
     if version is None:
         terms = [term for _, lets in algebras.values() for term in lets.values()]
         alternatives = [alternative for its in rules.values() for alternative in its]
         version = 1 if all(map(_SUM.fullmatch, terms)) and not any(map(_SIZE.search, alternatives)) else 2
+        version = 3 if any(map(_is_nested, alternatives)) else version
     lines = [f"adp {version}"]
     for name, weights in (classes or {}).items():
         lines.append(f"class {name} = " + " ".join(f"{quoted(it)} {weight}" for it, weight in weights.items()))

@@ -4,6 +4,7 @@
 # called it; ADP_COMMAND, the line of the command; ADP_CAUSE, why the input cannot be read; ADP_WORDS and ADP_FRONT, the
 # file of more words and the number of lines before them; ADP_TREELESS, how many words have no tree, and the first of
 # them; ADP_GUIDE, the file docs/FAULTS.md; ADP_LONGEST, the greatest length that the job admits, where that is known;
+# ADP_REASON, why a line of a certificate is false, where that is known (ADP_JOB is the certificate then);
 # ADP_COLOUR, for a terminal; ADP_BRIEF, where of a faulty command the cause alone is to be told, in a line.
 #
 # It needs no more than POSIX awk, and is to be run with LC_ALL=C: a letter is a byte.
@@ -34,6 +35,7 @@ BEGIN {
   if (part[2] == "text" && part[3] == "line") explain_text(part[4] + 0, part[6] + 0, part[8])
   else if (part[2] == "grammar") explain_grammar(part[4] + 0, part[6])
   else if (part[2] == "limit") explain_limit(part[4] + 0, part[6] + 0, part[8])
+  else if (part[2] == "certificate") explain_certificate(part[4] + 0)
   else if (part[2] == "usage") explain_usage()
   else explain_run()
   exit
@@ -49,6 +51,8 @@ function fill_tables() {
       "step: as `--schedule 0110`")
   add_mode("lex", "--algebra --then --workers --seed", "--then", "a second algebra, which decides among the trees that " \
       "are equal by the first: as `--then NAME`")
+  add_mode("cert", "--algebra --workers --seed")
+  add_mode("verify", "--algebra")
   add_mode("big", "--workers --seed --size", "--size", "a size, which says how many letters are made: as `--size 400`")
   add_option("--algebra", "name")
   add_option("--then", "name")
@@ -65,7 +69,7 @@ function fill_tables() {
 function add_mode(name, its_options, needed, what,    list, i) {
   MODES[++said_modes] = name
   is_of[name, "--time-limit"] = 1
-  if (name != "big") is_of[name, "--words"] = 1
+  if (name != "big" && name != "verify") is_of[name, "--words"] = 1
   for (i = split(its_options, list, " "); i; i--) is_of[name, list[i]] = 1
   if (needed != "") needed_by[name] = needed
   needed_as[name] = what
@@ -164,6 +168,17 @@ function tell_section(chapter, number,    line, here, there, fenced, text) {
   tell_prose(text, "")
 }
 
+# Prints the prose of a chapter.
+function tell_chapter(chapter,    line, here, fenced, text) {
+  while ((getline line < guide) > 0) {
+    if (line ~ /^## /) here = index(line, "## " chapter) == 1
+    else if (line ~ /^```/) fenced = !fenced
+    else if (here && !fenced && line != "") text = text " " line
+  }
+  close(guide)
+  tell_prose(text, "")
+}
+
 # Prints the mend of a fault that is none of a job, from the guide's table.
 function tell_row(line_of_fault,    line, cell) {
   while ((getline line < guide) > 0) {
@@ -177,7 +192,7 @@ function tell_row(line_of_fault,    line, cell) {
 # Prints a text of the guide, without what only a page can show: where links lead, and the names of the examples.
 function tell_prose(text, indent) {
   if (text == "") return
-  gsub(/ \(`[a-z]+-[0-9]+(-[a-z]+)?`\)/, "", text)
+  gsub(/ \(`(certificate|[a-z]+-[0-9]+)(-[a-z]+)?`\)/, "", text)
   gsub(/\]\([^)]*\)/, "", text)
   gsub(/\[/, "", text)
   gsub(/\001/, "|", text)
@@ -209,7 +224,8 @@ function read_job(wanted,    line, number, bytes) {
   }
   close(job)
   is_small = bytes <= MOST_HEADER
-  is_second = header[1] == "adp 2"
+  is_third = header[1] == "adp 3"
+  is_second = header[1] == "adp 2" || is_third
 }
 
 function header_end() { return words_line ? words_line : lines }
@@ -256,15 +272,12 @@ function match_token(rest,    byte) {
 function has_form(number,    text) {
   text = parsed = header[number]
   shape = declared = wrong = ""
-  if (text ~ /[^ -~]/) {
-    match(text, /[^ -~]/)
-    wrong_at = RSTART
-    wrong = strange(text, RSTART)
-    return 0
-  }
+  strange_at = match(text, /[^ -~]/) ? RSTART : 0
+  if (strange_at && !(is_third && text ~ /^ *rule /)) return fails_strange(text)
   find_tokens(text)
   at = 1
-  if (parse_line() && !offence) return 1
+  if (parse_line() && !offence) return strange_at && !is_strange_within(text) ? fails_strange(text) : 1
+  if (strange_at) return fails_strange(text)
   if (offence && at > offence) at = offence
   wrong_at = column[at]
   if (is_cut && at > tokens - 2) {
@@ -273,6 +286,23 @@ function has_form(number,    text) {
   }
   if (at == offence && !is_told_better()) wrong = offending(text, column[offence])
   return 0
+}
+
+function fails_strange(text) {
+  wrong_at = strange_at
+  return fails(strange(text, strange_at))
+}
+
+# Whether each byte of a rule that is not printable ASCII stands in an alternative within another one: the line of that
+# one's hidden rule is faulty then, and not this line.
+function is_strange_within(text,    i, behind) {
+  behind = 1
+  for (i = 1; i <= alternatives; i++) {
+    if (!outer[i] || outer[outer[i]]) continue
+    if (substr(text, behind, column[alternative_at[i]] - behind) ~ /[^ -~]/) return 0
+    behind = column[close_at[i]] + 1
+  }
+  return substr(text, behind) !~ /[^ -~]/
 }
 
 # Whether what is wrong at an offending byte was told by its place.
@@ -651,7 +681,7 @@ function parse_rule() {
   if (token[at] != "=" && is_word(token[at]) && token[at + 1] == "=") return \
       fails("a name is one word: letters, digits and `_`")
   if (!eat("=")) return 0
-  alternatives = 0
+  alternatives = tops = 0
   do {
     if (!parse_alternative()) return 0
   } while (token[at] == "|" && at++)
@@ -660,12 +690,15 @@ function parse_rule() {
   return fails(seen() ", where `|` or the end of the line should be")
 }
 
-function parse_alternative() {
+# An alternative of the rule, with those within it, which stand behind it in the order in which they begin. Those that
+# are open wait on a stack: `opened` of them.
+function parse_alternative(    i, top) {
   if (substr(token[at], 1, 1) == "\"" || token[at] == "[") return fails("an alternative is a sign with its " \
       "arguments in brackets, and no " (token[at] == "[" ? "letter" : "literal") " alone: give it a sign")
   if (!eat_word("an alternative")) return 0
-  alternative_at[++alternatives] = at - 1
-  arguments[alternatives] = 0
+  opened = 0
+  top = add_alternative(at - 1)
+  tops++
   if (is_hyphened()) return fails_hyphened()
   if (token[at] != "(") {
     if (at > tokens || token[at] == "|") return fails(quoted(token[at - 1]) \
@@ -675,20 +708,63 @@ function parse_alternative() {
     return eat("(")
   }
   at++
-  do {
-    if (!parse_argument(++arguments[alternatives])) return 0
-  } while (token[at] == "," && at++)
+  while (opened) {
+    i = stacked[opened]
+    if (is_third && is_word(token[at]) && token[at + 1] == "(") {
+      add_nested(i, ++arguments[i])
+      at += 2
+      continue
+    }
+    if (!parse_argument(i, ++arguments[i]) || !close_alternatives()) return 0
+  }
+  return parse_size(top)
+}
+
+function add_alternative(place,    i) {
+  i = ++alternatives
+  alternative_at[i] = place
+  arguments[i] = size_at[i] = 0
+  size_low[i] = size_high[i] = ""
+  outer[i] = opened ? stacked[opened] : 0
+  top_of[i] = opened ? top_of[stacked[opened]] : tops + 1
+  stacked[++opened] = i
+  return i
+}
+
+# The j-th argument of an alternative, which is one itself.
+function add_nested(i, j) {
+  argument_at[i, j] = at
+  sort[i, j] = "nested"
+  low[i, j] = high[i, j] = ""
+  argument[i, j] = add_alternative(at)
+}
+
+# What stands behind an argument: the alternatives that end there are closed.
+function close_alternatives() {
+  while (opened) {
+    if (token[at] == ",") { at++; return 1 }
+    if (token[at] != ")") return fails_behind_argument()
+    close_at[stacked[opened--]] = at++
+    if (opened && token[at] == "with") return fails("an alternative within another one has no size: put it behind " \
+        "the outermost one, or give this one a rule of its own")
+  }
+  return 1
+}
+
+function fails_behind_argument() {
+  if (token[at] == "(" && is_third) return fails("an alternative within another one begins with a sign, and " \
+      quoted(token[at - 1]) " is none")
   if (token[at] == "(") return fails("an argument is a rule, letters in quotes, or a class in square brackets: a " \
-      "nested " quoted(token[at - 1] "(..)") " needs a rule of its own")
+      "nested " quoted(token[at - 1] "(..)") " needs a rule of its own, or `adp 3` in line 1")
+  if (token[at] == "|" && is_third) return fails("`|` stands here, where `)` should be: an argument is one " \
+      "alternative, and several need a rule of their own")
   if (is_word(token[at]) || token[at] == "[" || substr(token[at], 1, 1) == "\"") return \
       fails("a `,` is missing before " quoted(token[at]))
-  return eat(")") && parse_size(alternatives)
+  return eat(")")
 }
 
 # The size of an alternative, where it has one.
 function parse_size(i) {
-  size_at[i] = 0
-  size_low[i] = size_high[i] = ""
   if (token[at] ~ /^(with|size|sizes|minsize|maxsize|length|suchthat)$/ && (!is_second || token[at] != "with" || \
       token[at + 1] != "size")) return fails_size()
   if (token[at] != "with") return 1
@@ -716,15 +792,14 @@ function is_rule_elsewhere(word,    number) {
   return 0
 }
 
-function parse_argument(j,    i) {
-  i = alternatives
+function parse_argument(i, j) {
   argument_at[i, j] = at
   low[i, j] = high[i, j] = ""
   if (substr(token[at], 1, 1) == "\"" && at <= tokens && at != offence) { sort[i, j] = "literal"; argument[i, j] = \
       token[at++]; return 1 }
   if (is_word(token[at])) { sort[i, j] = "rule"; argument[i, j] = token[at++]; return 1 }
-  if (token[at] != "[") return fails(seen() ", where an argument should be: a rule, letters in quotes, or a class " \
-      "in square brackets")
+  if (token[at] != "[") return fails(seen() ", where an argument should be: a rule, letters in quotes, " (is_third ? \
+      "a class in square brackets, or an alternative" : "or a class in square brackets"))
   at++
   if (token[at] ~ /^[0-9]/) return class_first()
   if (!eat_word("the name of a class")) return 0
@@ -772,6 +847,19 @@ function read_header(    number, section, noted) {
       names_of[shape] = names_of[shape] " " declared
     }
   }
+  declare_hidden()
+}
+
+# Hidden rules come last, and one whose name a rule has already is `taken`, by the line of that rule.
+function declare_hidden(    n, name) {
+  # (in a header that is too long to be read whole, their numbers are not known)
+  if (!is_small) return
+  for (n = 1; n <= hidden_count; n++) {
+    name = "h_" n
+    if (("rule", name) in line_of) { taken[name] = line_of["rule", name]; continue }
+    line_of["rule", name] = hidden_line[name]
+    rules[++rules_count] = name
+  }
 }
 
 # What a line declares by its first two words alone, in a header that is too long to be read whole.
@@ -794,21 +882,38 @@ function note_sign(number,    j) {
   for (j = 1; j <= kinds; j++) kind_of[declared, j] = kind[j]
 }
 
-function note_rule(number,    i, j) {
-  if (("rule", declared) in line_of) return
-  rules[++rules_count] = declared
-  alternatives_of[declared] = alternatives
+# Keeps the alternatives of a rule, and a hidden rule for each one within another.
+function note_rule(number,    i, name, is_new) {
+  is_new = !(("rule", declared) in line_of)
+  if (is_new) {
+    rules[++rules_count] = declared
+    alternatives_of[declared] = tops
+  }
   for (i = 1; i <= alternatives; i++) {
-    sign_of[declared, i] = token[alternative_at[i]]
-    arguments_of[declared, i] = arguments[i]
-    size_low_of[declared, i] = size_low[i]
-    size_high_of[declared, i] = size_high[i]
-    for (j = 1; j <= arguments[i]; j++) {
-      sort_of[declared, i, j] = sort[i, j]
-      argument_of[declared, i, j] = argument[i, j]
-      low_of[declared, i, j] = low[i, j]
-      high_of[declared, i, j] = high[i, j]
-    }
+    if (outer[i]) hidden_count++
+    hidden_name[i] = outer[i] ? "h_" hidden_count : ""
+  }
+  for (i = 1; i <= alternatives; i++) {
+    name = hidden_name[i]
+    if (name == "") { if (is_new) note_alternative(i, declared, top_of[i]); continue }
+    hidden_line[name] = number
+    hidden_column[name] = column[alternative_at[i]]
+    alternatives_of[name] = 1
+    note_alternative(i, name, 1)
+  }
+}
+
+function note_alternative(i, rule, a,    j) {
+  sign_of[rule, a] = token[alternative_at[i]]
+  arguments_of[rule, a] = arguments[i]
+  size_low_of[rule, a] = size_low[i]
+  size_high_of[rule, a] = size_high[i]
+  for (j = 1; j <= arguments[i]; j++) {
+    is_nested[rule, a, j] = sort[i, j] == "nested"
+    sort_of[rule, a, j] = is_nested[rule, a, j] ? "rule" : sort[i, j]
+    argument_of[rule, a, j] = is_nested[rule, a, j] ? hidden_name[argument[i, j]] : argument[i, j]
+    low_of[rule, a, j] = low[i, j]
+    high_of[rule, a, j] = high[i, j]
   }
 }
 
@@ -927,12 +1032,14 @@ function tell_first_line() {
   if (wanted_line ~ /^\357\273\277/) tell(sentence(strange(wanted_line, 1)))
   else if (wanted_line ~ /^\377\376|^\376\377/ || wanted_line ~ /^a?$/ && lines > 1 && wanted_line != "") \
       tell("The file seems to be UTF-16: save it as plain text, ASCII or UTF-8.")
-  else if (wanted_line ~ /^[ \t]*$/) tell("The first line is empty: `adp 1` or `adp 2` has to be the very first one.")
-  else if (wanted_line ~ /^#/) tell("A comment stands first: `adp 1` or `adp 2` has to be the very first line.")
-  else if (tolower(wanted_line) ~ /^[ \t]*adp[ \t]*[12][ \t]*$/) tell("Only `adp " (wanted_line ~ /1/ ? 1 : 2) \
-      "` itself will do: small letters, one space, and none before or behind.")
-  else if (wanted_line ~ /^adp [0-9]+$/) tell("This program reads the formats `adp 1` and `adp 2`.")
-  else tell("A job begins with the line `adp 1` or `adp 2`.")
+  else if (wanted_line ~ /^[ \t]*$/) tell("The first line is empty: `adp 1`, `adp 2` or `adp 3` has to be the very " \
+      "first one.")
+  else if (wanted_line ~ /^#/) tell("A comment stands first: `adp 1`, `adp 2` or `adp 3` has to be the very first " \
+      "line.")
+  else if (tolower(wanted_line) ~ /^[ \t]*adp[ \t]*[123][ \t]*$/) tell("Only `adp " (wanted_line ~ /1/ ? 1 : \
+      wanted_line ~ /2/ ? 2 : 3) "` itself will do: small letters, one space, and none before or behind.")
+  else if (wanted_line ~ /^adp [0-9]+$/) tell("This program reads the formats `adp 1`, `adp 2` and `adp 3`.")
+  else tell("A job begins with the line `adp 1`, `adp 2` or `adp 3`.")
 }
 
 function tell_strange_byte(number,    text) {
@@ -1047,11 +1154,28 @@ function tell_twice(number,    i, j, first, place) {
     tell("The variable " quoted(token[place]) " stands twice: give each argument a name of its own.")
     return
   }
+  if (shape == "rule" && !(first && first < number) && has_told_taken(number)) return
   show(number, header[number], column[place])
   if (first && first < number) {
     tell("The " shape " " quoted(declared) " was declared before:")
     show(first, header[first], 0)
   }
+}
+
+# Tells of an alternative of the line whose hidden rule has the name of a declared one; 0 where there is none.
+function has_told_taken(number,    n, name) {
+  if (!is_small) return 0
+  for (n = 1; n <= hidden_count; n++) {
+    name = "h_" n
+    if (hidden_line[name] != number || !(name in taken)) continue
+    show(number, header[number], hidden_column[name])
+    tell("This alternative within another one is the hidden rule " quoted(name) ", and a rule of that name is " \
+        "declared:")
+    show(taken[name], header[taken[name]], index(header[taken[name]], name))
+    tell("Give that rule another name.")
+    return 1
+  }
+  return 0
 }
 
 # A class with a letter twice, or with none.
@@ -1149,19 +1273,39 @@ function tell_undeclared(number,    i, j, at_token, told, names) {
     tell_missing("rule", declared, 2, "")
   } else if (shape == "let") tell_undeclared_in_let(number)
   else if (shape == "rule") {
+    if (strange_at) { tell_strange_within(number); return }
     for (i = 1; i <= alternatives && told < 4; i++) {
       at_token = alternative_at[i]
       if (!(("sign", token[at_token]) in line_of)) told += tell_undeclared_in_rule(number, "sign", token[at_token], \
-          at_token, "in alternative " i " ")
+          at_token, (outer[i] ? "within" : "in") " alternative " top_of[i] " ")
       for (j = 1; j <= arguments[i] && told < 4; j++) {
-        if (sort[i, j] == "literal") continue
+        if (sort[i, j] == "literal" || sort[i, j] == "nested") continue
         names = sort[i, j] == "rule" ? "rule" : "class"
         at_token = argument_at[i, j] + (names == "class")
         if (!((names, argument[i, j]) in line_of)) told += tell_undeclared_in_rule(number, names, argument[i, j], \
-            at_token, "in alternative " i ", " shown_alternative(i) ", ")
+            at_token, place_of_alternative(i, "in") ", ")
       }
     }
   }
+}
+
+# Tells of a byte in an alternative within another one: the hidden rule is not declared for it.
+function tell_strange_within(number) {
+  show(number, header[number], strange_at)
+  tell(sentence(strange(header[number], strange_at)))
+  tell("It stands in an alternative within another one, whose hidden rule is not declared for want of form.")
+}
+
+# Where an alternative of the line at hand stands, in words that begin with `in` or `In`, and the alternative.
+function place_of_alternative(i, word) {
+  if (!outer[i]) return word " alternative " top_of[i] ", " shown_alternative(i)
+  return (word == "in" ? "within" : "Within") " alternative " top_of[i] ", in " shown_alternative(i)
+}
+
+# An alternative of the line at hand as what a sentence is about, and a mark behind it, which may be none.
+function alternative_in_words(i, mark) {
+  if (outer[i]) return "Within alternative " top_of[i] (mark == ":" ? "," : "") " " shown_alternative(i) mark
+  return "Alternative " top_of[i] ", " shown_alternative(i) (mark == "" ? "," : mark)
 }
 
 function tell_undeclared_in_rule(number, sort_of_name, name, at_token, what) {
@@ -1195,7 +1339,10 @@ function tell_undeclared_in_let(number,    i, j, is_there, list) {
 
 # An alternative of the line at hand, as it stands.
 function shown_alternative(i,    text, last) {
-  last = i < alternatives ? column[alternative_at[i + 1]] : length(header[wanted_number]) + 1
+  if (outer[i]) return quoted(substr(header[wanted_number], column[alternative_at[i]], column[close_at[i]] - \
+      column[alternative_at[i]] + 1))
+  for (last = i + 1; last <= alternatives && outer[last]; last++) continue
+  last = last <= alternatives ? column[alternative_at[last]] : length(header[wanted_number]) + 1
   text = substr(header[wanted_number], column[alternative_at[i]], last - column[alternative_at[i]])
   sub(/[ |]*$/, "", text)
   return quoted(text)
@@ -1215,20 +1362,20 @@ function tell_arguments(number,    i, j, sign, wanted, told) {
     wanted = kinds_of[sign]
     if (arguments[i] != wanted) {
       show(number, header[number], column[alternative_at[i]])
-      tell("Alternative " i ", " shown_alternative(i) ", has " plural(arguments[i], "argument") ", and its sign " \
-          wanted ":")
+      tell(alternative_in_words(i, "") " has " plural(arguments[i], "argument") ", and its sign " wanted ":")
       show(line_of["sign", sign], header[line_of["sign", sign]], 0)
       told++
       continue
     }
     for (j = 1; j <= wanted && told < 4; j++) {
-      if ((sort[i, j] == "rule") == (kind_of[sign, j] == "score")) continue
+      if ((sort[i, j] ~ /^(rule|nested)$/) == (kind_of[sign, j] == "score")) continue
       show(number, header[number], column[argument_at[i, j]])
-      tell("Alternative " i ", " shown_alternative(i) ": its " nth(j) " argument is " in_words(i, j) \
-          ", and there the sign " quoted(sign) " wants a " kind_of[sign, j] ":")
+      tell(alternative_in_words(i, ":") " its " nth(j) " argument is " in_words(i, j) ", and there the sign " \
+          quoted(sign) " wants a " kind_of[sign, j] ":")
       show(line_of["sign", sign], header[line_of["sign", sign]], 0)
-      tell(kind_of[sign, j] == "score" ? "A `score` is a part with a tree of its own: put a rule there" (sort[i, j] \
-          == "literal" ? "." : ", as `rule r = s([" argument[i, j] "])`.") : \
+      tell(kind_of[sign, j] == "score" ? "A `score` is a part with a tree of its own: put a rule " (is_third ? \
+          "or an alternative " : "") "there" (sort[i, j] == "literal" ? "." : ", as `rule r = s([" argument[i, j] \
+          "])`.") : \
           "A `token` is letters of the word: put letters in quotes, or a class in square brackets" ((("class", \
           argument[i, j]) in line_of) ? ", as [" argument[i, j] "]." : "."))
       told++
@@ -1245,6 +1392,7 @@ function class_first(    bounds) {
 
 function in_words(i, j) {
   if (sort[i, j] == "rule") return "the rule " quoted(argument[i, j])
+  if (sort[i, j] == "nested") return "the alternative " shown_alternative(argument[i, j])
   if (sort[i, j] == "literal") return "the literal " quoted(argument[i, j])
   return sort[i, j] == "run" ? "a run of the class " quoted(argument[i, j]) : "a letter of the class " \
       quoted(argument[i, j])
@@ -1254,7 +1402,7 @@ function tell_run(number,    i, j) {
   for (i = 1; i <= alternatives; i++) for (j = 1; j <= arguments[i]; j++) {
     if (high[i, j] == "" || high[i, j] + 0 >= low[i, j] + 0) continue
     show(number, header[number], column[argument_at[i, j]])
-    tell("In alternative " i ", " shown_alternative(i) ", the run goes from " low[i, j] + 0 " to " high[i, j] + 0 \
+    tell(place_of_alternative(i, "In") ", the run goes from " low[i, j] + 0 " to " high[i, j] + 0 \
         " letters: write [" argument[i, j] " " high[i, j] + 0 ".." low[i, j] + 0 "], or [" argument[i, j] " " low[i, \
         j] + 0 "..] for " low[i, j] + 0 " and more.")
     return
@@ -1262,9 +1410,9 @@ function tell_run(number,    i, j) {
   for (i = 1; i <= alternatives; i++) {
     if (size_high[i] == "" || size_high[i] + 0 >= size_low[i] + 0) continue
     show(number, header[number], column[size_at[i]])
-    tell("The size of alternative " i ", " shown_alternative(i) ", goes from " size_low[i] + 0 " to " size_high[i] + 0 \
-        " letters: write with size " size_high[i] + 0 ".." size_low[i] + 0 ", or with size " size_low[i] + 0 ".. for " \
-        size_low[i] + 0 " and more.")
+    tell("The size of alternative " top_of[i] ", " shown_alternative(i) ", goes from " size_low[i] + 0 " to " \
+        size_high[i] + 0 " letters: write with size " size_high[i] + 0 ".." size_low[i] + 0 ", or with size " \
+        size_low[i] + 0 ".. for " size_low[i] + 0 " and more.")
     return
   }
 }
@@ -1275,8 +1423,8 @@ function tell_variable_twice(number,    i, first) {
     if (token[i] !~ /^[A-Za-z]/ || ((token[i] == "max" || token[i] == "min") && token[i + 1] == "(")) continue
     if (!(token[i] in first)) { first[token[i]] = i; continue }
     show(number, header[number], column[i])
-    tell("The variable " quoted(token[i]) " stands here again, and at column " column[first[token[i]]] " before. In " \
-        "`adp 2` a term names each variable once: " once_for(token[i], first[token[i]], i) ".")
+    tell("The variable " quoted(token[i]) " stands here again, and at column " column[first[token[i]]] " before. In `" \
+        header[1] "` a term names each variable once: " once_for(token[i], first[token[i]], i) ".")
     return
   }
 }
@@ -1304,9 +1452,13 @@ function tell_count(number, counted,    what, most, mend) {
     what = "leaves of a term, which are its numbers, its variables and a 0 for each first `-`"; most = 32
     mend = "Add up numbers that stand side by side, or make it two signs, with a rule between them."
   }
-  else if (counted == alternatives && alternatives != 129) { what = "alternatives of a rule"; most = 64; mend = \
+  else if (counted != 129) { what = "alternatives of a rule"; most = 64; mend = \
       "Divide them between two rules, of which a sign with one score in the first names the second." }
-  else { what = "rules"; most = 128 }
+  else {
+    what = "rules"; most = 128
+    if (hidden_count) mend = "An alternative within another one counts as a rule: give one that stands at several " \
+        "places a rule of its own."
+  }
   tell("These are " counted " " what ", and there may be at most " most ". " mend)
 }
 
@@ -1426,8 +1578,13 @@ function tell_algebras(name,    list, n, i) {
 function head_of(sort, name,    number) {
   number = line_of[sort, name]
   print bold name_of_job ", line " number ":" plain
-  show(number, header[number], 0)
+  show(number, header[number], name in hidden_column ? hidden_column[name] : 0)
+  if (name in hidden_column) tell("The rule " quoted(name) " is an alternative within another one, " spelled(name, 1) \
+      ".")
 }
+
+# A rule in words: a hidden one by its alternative.
+function shown_rule(rule) { return rule in hidden_line && !(rule in taken) ? spelled(rule, 1) : quoted(rule) }
 
 # The least length of each rule's trees, up to a great number: `least[rule]`; none where a rule has no tree.
 function find_least(    i, a, rule, sum, has_changed) {
@@ -1469,13 +1626,16 @@ function letters_of(literal) {
 }
 
 # An alternative of a rule of the grammar, in words.
-function spelled(rule, a,    j, text) {
+function spelled(rule, a) { return quoted(spelling(rule, a)) }
+
+function spelling(rule, a,    j, text) {
   for (j = 1; j <= arguments_of[rule, a]; j++) text = text (j > 1 ? ", " : "") spelled_argument(rule, a, j)
-  return quoted(sign_of[rule, a] "(" text ")" (size_low_of[rule, a] == "" ? "" : " with size " size_low_of[rule, a] \
-      ".." size_high_of[rule, a]))
+  return sign_of[rule, a] "(" text ")" (size_low_of[rule, a] == "" ? "" : " with size " size_low_of[rule, a] ".." \
+      size_high_of[rule, a])
 }
 
 function spelled_argument(rule, a, j,    which) {
+  if (is_nested[rule, a, j]) return spelling(argument_of[rule, a, j], 1)
   which = sort_of[rule, a, j]
   if (which == "letter") return "[" argument_of[rule, a, j] "]"
   if (which == "run") return "[" argument_of[rule, a, j] " " low_of[rule, a, j] ".." high_of[rule, a, j] "]"
@@ -1490,7 +1650,8 @@ function tell_unproductive(rule,    a, j, n, told) {
   for (a = 1; a <= n && a <= 6; a++) {
     for (j = 1; j <= arguments_of[rule, a]; j++) if (least_of_argument(rule, a, j) < 0) {
       tell("Alternative " a ", " spelled(rule, a) ", needs a tree of " (argument_of[rule, a, j] == rule ? \
-          "the rule itself." : "the rule " quoted(argument_of[rule, a, j]) ", which has none."))
+          "the rule itself." : (is_nested[rule, a, j] ? "" : "the rule ") quoted(spelled_argument(rule, a, j)) \
+          ", which has none."))
       break
     }
     if (j > arguments_of[rule, a]) tell("Alternative " a ", " spelled(rule, a) ", has " \
@@ -1531,8 +1692,9 @@ function tell_loop(rule,    queue, first, last, here, i, came, by, way, steps) {
   way[steps + 1] = rule
   for (i = steps + 1; i > 1; i--) {
     by = edge(way[i], way[i - 1])
-    tell(quoted(way[i]) " leads to " (way[i] == way[i - 1] ? "itself" : quoted(way[i - 1])) " by its alternative " \
-        by ", " spelled(way[i], by) empty_beside(way[i], by, edge_argument) ".")
+    tell(shown_rule(way[i]) " leads to " (way[i] == way[i - 1] ? "itself" : shown_rule(way[i - 1])) \
+        (way[i] in hidden_line ? "" : " by its alternative " by ", " spelled(way[i], by)) \
+        empty_beside(way[i], by, edge_argument) ".")
   }
 }
 
@@ -1742,9 +1904,10 @@ function beside(rule, a, which,    j, text, one) {
 function tell_second_format(sign,    number) {
   print bold name_of_job ", line 1:" plain
   show(1, header[1], 0)
-  tell("In the mode lex both algebras add the scores of parts as they are, in the format `adp 1`; a job in `adp 2` " \
-      "is refused there whatever its terms are, at its first sign, " quoted(sign) ". Where no term has a product of two " \
-      "variables, brackets, `max` or `min`, and no alternative a size, write `adp 1` in line 1.")
+  tell("In the mode lex both algebras add the scores of parts as they are, in the format `adp 1`; a job in `" \
+      header[1] "` is refused there whatever its terms are, at its first sign, " quoted(sign) ". Where no term has a " \
+      "product of two variables, brackets, `max` or `min`, and no alternative a size" (is_third ? " or another one " \
+      "within" : "") ", write `adp 1` in line 1.")
 }
 
 # The value of an option of the command; nothing where it is not given.
@@ -1886,8 +2049,9 @@ function find_anchors(    has_changed, i, a, j, k, rule, other, axiom) {
 
 function frees(rule, side, by, a) {
   if ((rule, side) in is_free) return 0
-  if (side == "end") freed_by[rule] = "in " spelled(by, a) " of the rule " quoted(by) (((by, "end") in is_free) && \
-      ends_with(by, a, rule) ? ", which does not go to the end itself" : ", where something stands behind it")
+  if (side == "end") freed_by[rule] = "in " spelled(by, a) (by in hidden_line ? "" : " of the rule " quoted(by)) \
+      (((by, "end") in is_free) && ends_with(by, a, rule) ? ", which does not go to the end itself" : \
+      ", where something stands behind it")
   is_free[rule, side] = 1
   return 1
 }
@@ -1929,7 +2093,7 @@ function tell_cells(n,    i, rule, told, most, best, cells, is_shown) {
         cells[rules[i]]; best = rules[i] }
     if (most <= n + 1 && told > 0 || most == 0) break
     is_shown[best] = 1
-    tell("  " quoted(best) ", " most " cells: " (((best, "end") in is_free && (best, "front") in is_free) ? \
+    tell("  " shown_rule(best) ", " most " cells: " (((best, "end") in is_free && (best, "front") in is_free) ? \
         "for each pair of places, since it is named " freed_by[best] "." : "one for each place."))
   }
 }
@@ -1945,7 +2109,8 @@ function tell_doubling(    i, a, j, rule, names, told) {
           j) == 0) names++
       if (names < 2) continue
       if (!told++) tell("These alternatives name several rules that can be empty:")
-      show(line_of["rule", rule], rule " = .. " substr(spelled(rule, a), 2, length(spelled(rule, a)) - 2) " ..", 0)
+      show(line_of["rule", rule], rule in hidden_line ? ".. " spelling(rule, 1) " .." : rule " = .. " \
+          spelling(rule, a) " ..", 0)
     }
   }
 }
@@ -2447,6 +2612,20 @@ function wrong_value(word, value) {
 }
 
 # Faults of reading, writing and memory.
+# What is wrong with a line of a certificate was found by tools/check-certificate; without it the line is shown alone.
+function explain_certificate(number,    line, at) {
+  print ""
+  print bold name_of_job ", line " number ":" plain
+  if (ENVIRON["ADP_REASON"] != "") print ENVIRON["ADP_REASON"]
+  else {
+    while (at < number && (getline line < job) > 0) at++
+    close(job)
+    if (at == number) show(number, line)
+    tell("Why it is false tells tools/check-certificate --explain, which needs Python.")
+  }
+  tell_chapter("False lines of a certificate")
+}
+
 function explain_run() {
   print ""
   print bold (ARGV[1] == "big" ? "adp big" : name_of_job) ":" plain

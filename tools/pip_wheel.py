@@ -38,7 +38,7 @@ def _files():
         files |= {"adp/lib/adp": "adp", "adp/lib/docs/FAULTS.md": "docs/FAULTS.md",
                   "adp/lib/prebuilt/adp": program,
                   "adp/lib/prebuilt/sources": os.path.join(os.path.dirname(program), "sources")}
-        files |= {f"adp/lib/tools/{name}": f"tools/{name}" for name in ("explain.awk", "longest")}
+        files |= {f"adp/lib/tools/{name}": f"tools/{name}" for name in ("check-certificate", "explain.awk", "longest")}
     return files
 
 

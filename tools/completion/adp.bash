@@ -3,13 +3,14 @@
 # The options of a mode: a line for each.
 _adp_options_of() {
   case $1 in
-    best | serial | wins) echo '--algebra --workers --seed --words' ;;
+    best | serial | wins | cert) echo '--algebra --workers --seed --words' ;;
     replay) echo '--algebra --workers --seed --schedule --words' ;;
     lex) echo '--algebra --then --workers --seed --words' ;;
+    verify) echo '--algebra' ;;
     big) echo '--workers --seed --size' ;;
   esac
 }
-_adp_modes='best serial wins replay lex big'
+_adp_modes='best serial wins replay lex cert verify big'
 _adp_common='--time-limit --explain --help --version'
 
 # The mode that is named already.
@@ -20,10 +21,11 @@ _adp_mode() {
   done
 }
 
-# Jobs and folders that begin so; where there are none, files of any name. What is hidden has to be begun.
-_adp_jobs() {
+# Files with this ending, and folders, that begin so; where there are none, files of any name. What is hidden has to be
+# begun.
+_adp_files() {
   local found
-  mapfile -t found < <(compgen -f -X '!*.adp' -- "$1"; compgen -d -- "$1")
+  mapfile -t found < <(compgen -f -X "!*.$2" -- "$1"; compgen -d -- "$1")
   case ${1##*/} in .*) ;; *) mapfile -t found < <(printf '%s\n' "${found[@]}" | grep -Ev '(^|/)\.[^/]*$|^$') ;; esac
   [ ${#found[@]} != 0 ] || mapfile -t found < <(compgen -f -- "$1")
   COMPREPLY=("${found[@]}")
@@ -52,7 +54,7 @@ _adp() {
     mapfile -t COMPREPLY < <(compgen -W "$_adp_modes $_adp_common" -- "$word")
   elif [ "$mode" != big ]; then
     compopt -o filenames 2>/dev/null
-    _adp_jobs "$word"
+    case $mode in verify) _adp_files "$word" cert ;; *) _adp_files "$word" adp ;; esac
   fi
 }
 complete -F _adp adp ./adp

@@ -5,7 +5,7 @@ endif
 syntax case match
 
 " the header: line 1, then lines by their first word, up to `words`
-syntax match adpFormat /\%1l^adp [12]$/
+syntax match adpFormat /\%1l^adp [123]$/
 syntax match adpComment /^#.*$/
 syntax match adpKeyword /^ *\%(class\|sign\|algebra\|let\|rule\|grammar\)\ze\%( \|$\)/ nextgroup=adpName skipwhite
 syntax match adpName /\<[A-Za-z]\w*\>/ contained

@@ -5,7 +5,7 @@ use Rattle.adp_model.specs.declared.grammar.Grammar.{Grammar}
 use Rattle.adp_model.specs.declared.job.Job.{Job}
 use Rattle.verdicts.specs.Command as asked
 use Rattle.adp_model.specs.GrammarFaults.{IsFaultless, IsGrammarFault, NoAlgebra, Unproductive, Loop, NotMonotone, Impossible}
-use Rattle.job_texts.specs.JobText.{IsText}
+use Rattle.nested_jobs.specs.NestedJob.{IsNestedText}
 use Rattle.adp_model.specs.Parts.{rule_at, sign_at}
 use Rattle.verdicts.specs.Verdict.{AsksFor, AsksUnder, asked_name, greatest_length}
 use Rattle.adp_model.specs.WellFormed.{is_name}
@@ -13,7 +13,7 @@ use Rattle.grammar_check.specs.CheckAnswers.{MatchCheck}
 use Rattle.grammar_check.specs.CheckedGrammar.{CheckedGrammar}
 use Rattle.grammar_check.specs.declared.error.CheckError.{CheckError}
 use Rattle.grammar_check.specs.declared.error.CheckError.TheVariants as check_errors
-use Rattle.grammar_text.specs.Reading.{MatchReading}
+use Rattle.nested_jobs.specs.Reading.{MatchNestedReading}
 use Rattle.grammar_text.specs.declared.error.TextError.{TextError}
 use Rattle.grammar_text.specs.declared.error.TextError.TheVariants as text_errors
 use Rattle.verdicts.specs.SecondAlgebra.{IsFaultWith, MakesPairWith}
@@ -26,20 +26,20 @@ use Rattle.report.specs.declared.fault.Fault.TheVariants as faults
 use Rattle.adp_main.specs.Seconds.{IsSecondOf}
 use Rattle.adp_main.specs.Reporting.{IsJobFault, IsJobRefusal, IsPairRefusal, grammar_refusal, pair_refusal, text_refusal}
 
-pub is_text : (bytes : List ℕ) (job : Job) (given : Result Job TextError) → MatchReading bytes given → given ≡ Ok job → IsText bytes job
-is_text bytes job given read is = subst (MatchReading bytes) is read
+pub is_text : (bytes : List ℕ) (job : Job) (given : Result Job TextError) → MatchNestedReading bytes given → given ≡ Ok job → IsNestedText bytes job
+is_text bytes job given read is = subst (MatchNestedReading bytes) is read
 
-unread : (words : List (List ℕ)) (bytes : List ℕ) (error : TextError) → asked.AsksForJob words → length bytes ≤ greatest_length → MatchReading bytes (Err error)
+unread : (words : List (List ℕ)) (bytes : List ℕ) (error : TextError) → asked.AsksForJob words → length bytes ≤ greatest_length → MatchNestedReading bytes (Err error)
     → IsJobRefusal words bytes (text_refusal error)
 unread words bytes (text_errors.Fault fault) asks fits found = (asks, fits, found)
 unread words bytes text_errors.Memory asks fits found = tt
 
 -- the text's fault is the verdict
 pub text_refused : (words : List (List ℕ)) (bytes : List ℕ) (given : Result Job TextError) (fault : Fault)
-    → asked.AsksForJob words → length bytes ≤ greatest_length → MatchReading bytes given
+    → asked.AsksForJob words → length bytes ≤ greatest_length → MatchNestedReading bytes given
     → (error : TextError) × (given ≡ Err error) × (fault ≡ text_refusal error) → IsJobRefusal words bytes fault
 text_refused words bytes given fault asks fits read (error, is, turned) =
-    subst (IsJobRefusal words bytes) (sym turned) (unread words bytes error asks fits (subst (MatchReading bytes) is read))
+    subst (IsJobRefusal words bytes) (sym turned) (unread words bytes error asks fits (subst (MatchNestedReading bytes) is read))
 
 -- the grammar's own fault, whether or not a second algebra is asked for
 own_fault : (second : Option (List ℕ)) (grammar : Grammar) (name : List ℕ) (fault : GrammarFault)
@@ -86,6 +86,7 @@ refused_pair words bytes command job checked asks same sound (Some name) is faul
 refused_pair words bytes command job checked asks same sound (Some name) is faults.TooLong found = absurd found
 refused_pair words bytes command job checked asks same sound (Some name) is (faults.Text fault) found = absurd found
 refused_pair words bytes command job checked asks same sound (Some name) is (faults.Limit word fault) found = absurd found
+refused_pair words bytes command job checked asks same sound (Some name) is (faults.Rejected line) found = absurd found
 
 pub pair_refused : (words : List (List ℕ)) (bytes : List ℕ) (command : asked.Command) (job : Job) (name : List ℕ)
     (given : Result CheckedGrammar CheckError) (checked : CheckedGrammar) (fault : Fault) → AsksFor words bytes command job
@@ -108,6 +109,7 @@ pair_fault (Some name) checked faults.Write found = absurd found
 pair_fault (Some name) checked faults.TooLong found = absurd found
 pair_fault (Some name) checked (faults.Text fault) found = absurd found
 pair_fault (Some name) checked (faults.Limit word fault) found = absurd found
+pair_fault (Some name) checked (faults.Rejected line) found = absurd found
 
 -- each name is short, and rules and signs have names
 pub record AreNamed (grammar : Grammar) : Type 0 where

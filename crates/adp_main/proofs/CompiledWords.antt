@@ -20,7 +20,7 @@ use Rattle.lex_product.specs.PairOrder.{scores_of}
 use Rattle.verdicts.specs.SecondAlgebra.{IsSecond}
 use Rattle.adp_main.specs.CompiledWords.{IsCompiledFor, ServesItsLength, compiled_word}
 use Rattle.adp_main.specs.KeptLengths.{IsCompiledBound}
-use Rattle.adp_main.specs.Posed.{posed_word}
+use Rattle.verdicts.specs.Posed.{posed_word}
 use Rattle.adp_main.specs.declared.lex.Compiled.{Compiled}
 
 module _ (name : Option (List ℕ)) (p : PosedProblem) (compiled : Compiled) (for : IsCompiledFor name p compiled) where

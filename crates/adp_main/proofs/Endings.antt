@@ -9,10 +9,11 @@ use Rattle.adp_io.specs.declared.whole.WriteFault.{WriteFault as Unwritten}
 use Rattle.adp_io.specs.Causes.{RisesWhere, Rose}
 use Rattle.adp_io.specs.Streams.{AppendsProperPrefix, AsksForAtMost, CallsAtMost, LosesAtMost, SameTold, job_limit, piece_limit}
 use Rattle.adp_model.specs.declared.fault.LimitFault.{LimitFault}
-use Rattle.verdicts.specs.CheckableJobs.{AreCheckable}
-use Rattle.verdicts.specs.declared.command.Mode.TheVariants.{Big}
-use Rattle.verdicts.specs.Command.{Command, IsCommand, HasCommand, AsksForJob}
-use Rattle.verdicts.specs.Verdict.{Verdict, IsLimit, IsReports, IsVerdict}
+use Rattle.verdicts.specs.CheckableJobs.{IsCheckableInput}
+use Rattle.verdicts.specs.declared.command.Mode.{Mode}
+use Rattle.verdicts.specs.declared.command.Mode.TheVariants.{Best, Serial, Wins, Replay, Lex, Cert, Verify, Big}
+use Rattle.verdicts.specs.Command.{Command, IsCommand, HasCommand, AsksForJob, AsksToVerify}
+use Rattle.verdicts.specs.Verdict.{Verdict, IsLimit, IsReports, IsVerdict, greatest_length}
 use Rattle.evaluators.specs.declared.finished.RunNote.{RunNote}
 use Rattle.adp_main.specs.RunNotes.{IsBigRun, ShowsRuns}
 use Rattle.adp_main.specs.Writing.{IsWordEnding}
@@ -21,7 +22,7 @@ use Rattle.verdicts.specs.Verdict as verdicts
 use Rattle.report.specs.declared.fault.Fault.{Fault}
 use Rattle.report.specs.declared.fault.Fault.TheVariants as faults
 use Rattle.adp_main.specs.declared.status.Status.{Status}
-use Rattle.adp_main.specs.declared.status.Status.TheVariants.{Done, Usage, ReadFault, WriteFault, Text, Grammar, Limit, Memory}
+use Rattle.adp_main.specs.declared.status.Status.TheVariants.{Done, Usage, ReadFault, WriteFault, Text, Grammar, Limit, Memory, Rejected}
 use Rattle.adp_main.specs.Faults.{fault_verdict, reading_fault, status_after, status_of}
 use Rattle.adp_main.specs.Ending.{Ending, InputAfter, IsInput, IsOfVerdict, OutputAfter, ShowsFirst, ShowsPart, ShowsVerdict, WritesText, verdict_status}
 
@@ -29,7 +30,7 @@ use Rattle.adp_main.specs.Ending.{Ending, InputAfter, IsInput, IsOfVerdict, Outp
 abbrev pub OnlyReports : Type 0
 OnlyReports = (words : List (List ℕ)) (bytes : List ℕ) (reports : List (List ℕ)) (verdict : Verdict)
     → IsVerdict words bytes (verdicts.Reports reports) → IsVerdict words bytes verdict
-    → (IsLimit verdict → AreCheckable words bytes) → IsReports verdict
+    → (IsLimit verdict → IsCheckableInput words bytes) → IsReports verdict
 
 -- what holds of all values holds of the one that there may be
 always : {A : Type 0} (value : Option A) (P : A → Type 0) → ((x : A) → P x) → IfSome value P
@@ -52,6 +53,7 @@ done_of status verdicts.TooLong is same = absurd is
 done_of status (verdicts.Text fault) is same = absurd is
 done_of status (verdicts.Grammar fault) is same = absurd is
 done_of status (verdicts.Limit word fault) is same = absurd is
+done_of status (verdicts.Rejected line) is same = absurd is
 
 limit_status : (verdict : Verdict) → IsLimit verdict → verdict_status verdict ≡ Limit
 limit_status (verdicts.Limit word fault) is = refl
@@ -59,12 +61,13 @@ limit_status verdicts.Usage is = absurd is
 limit_status verdicts.TooLong is = absurd is
 limit_status (verdicts.Text fault) is = absurd is
 limit_status (verdicts.Grammar fault) is = absurd is
+limit_status (verdicts.Rejected line) is = absurd is
 limit_status (verdicts.Reports reports) is = absurd is
 
 -- where the verdict are reports, a run that comes to a verdict is done
 is_done : OnlyReports → (words : List (List ℕ)) (bytes : List ℕ) (status : Status) (held held' : Option (List ℕ))
     (reports : List (List ℕ)) → IsVerdict words bytes (verdicts.Reports reports)
-    → ShowsVerdict words bytes status held held' → (status ≡ Limit → AreCheckable words bytes) → status ≡ Done
+    → ShowsVerdict words bytes status held held' → (status ≡ Limit → IsCheckableInput words bytes) → status ≡ Done
 is_done only words bytes status held held' reports is shown checks =
     done_of status shown.verdict (only words bytes reports shown.verdict is shown.is_verdict
     (λ limit. checks (shown.status_is ∙ limit_status shown.verdict limit))) shown.status_is
@@ -110,6 +113,33 @@ not_read_at_all left read_faults calls asked words input status none unread = re
   asked_little = asked_none (asked input);
 }
 
+-- ---- the verdict on a job, and on a certificate
+
+abbrev pub OneCommand : Type 0
+OneCommand = (words : List (List ℕ)) (a b : Command) → IsCommand words a → IsCommand words b → a ≡ b
+
+-- words that are a command in another mode ask to check no certificate
+pub finds_answers : OneCommand → (words : List (List ℕ)) (command : Command) → IsCommand words command
+    → (command.mode ≡ Verify → ⊥) → AsksToVerify words → ⊥
+finds_answers one words command is other (found, found_is, verifies) =
+    other (ap (λ (c : Command). c.mode) (one words command found is found_is) ∙ verifies)
+
+verify_or_not : (mode : Mode) → (mode ≡ Verify) ⊎ (mode ≡ Verify → ⊥)
+verify_or_not Verify = inl refl
+verify_or_not mode = inr (λ e. cc)
+
+usage_verdict : (words : List (List ℕ)) (bytes : List ℕ) → (HasCommand words → ⊥)
+    → IsVerdict words bytes verdicts.Usage
+usage_verdict words bytes none = inl (λ verifies. none (verifies.0, verifies.1), none)
+
+too_long_verdict : OneCommand → (words : List (List ℕ)) (bytes : List ℕ) → AsksForJob words
+    → greatest_length < length bytes → IsVerdict words bytes verdicts.TooLong
+too_long_verdict one words bytes asks long = by (verify_or_not asks.0.mode)
+  where
+    by : (asks.0.mode ≡ Verify) ⊎ (asks.0.mode ≡ Verify → ⊥) → IsVerdict words bytes verdicts.TooLong
+    by (inl verifies) = inr ((asks.0, asks.1, verifies), long)
+    by (inr other) = inl (finds_answers one words asks.0 asks.1 other, (asks, long))
+
 -- the words are no command
 pub ends_usage : {S K G : Type 0} (left : S → Option (List ℕ)) (read_faults : S → ℕ) (calls asked : S → Option ℕ)
     (held : K → Option (List ℕ)) (write_faults : K → ℕ) (runs : G → Option (List RunNote))
@@ -122,29 +152,29 @@ ends_usage left read_faults calls asked held write_faults runs words input out g
   writing = unwritten held write_faults out Usage (λ e. cc);
   verdict = λ _ bytes _. record {
     verdict = verdicts.Usage;
-    is_verdict = no_command;
+    is_verdict = usage_verdict words bytes no_command;
     status_is = refl;
     written = Appends-nil _;
   };
   part = λ e. cc;
   first = λ e. cc;
-  noted = inl (refl, λ e. cc);
+  noted = inl (refl, λ e. absurd cc);
   complete = λ _ _. inl tt;
-  accepted = λ bytes _ reports is _ _. absurd (only words bytes reports verdicts.Usage is no_command
+  accepted = λ bytes _ reports is _ _. absurd (only words bytes reports verdicts.Usage is (usage_verdict words bytes no_command)
       (λ limit. absurd limit));
 }
 
 -- the input is not read whole
 pub ends_unread : {S K G T : Type 0} (left : S → Option (List ℕ)) (read_faults : S → ℕ) (calls asked : S → Option ℕ)
     (held : K → Option (List ℕ)) (write_faults : K → ℕ) (runs : G → Option (List RunNote))
-    (words : List (List ℕ)) (input input' : S) (out : K) (gate : G) (fault : JobFault) → OnlyReports → AsksForJob words
+    (words : List (List ℕ)) (input input' : S) (out : K) (gate : G) (fault : JobFault) → OnlyReports → OneCommand → AsksForJob words
     → RisesWhere (read_faults input) (read_faults input') (IsErrOf {T = T} (Err fault) job_faults.ReadFault)
     → SameTold (left input) (left input') → LosesAtMost (left input) (left input') (job_limit + 1)
     → (IsErrOf {T = T} (Err fault) job_faults.ReadFault → LosesAtMost (left input) (left input') job_limit)
     → (IsErrOf {T = T} (Err fault) job_faults.TooLong → IfSome (left input) (λ bytes. job_limit < length bytes))
     → IsRead left calls asked input input'
     → Ending left read_faults calls asked held write_faults runs words input input' out out gate gate (status_of (reading_fault fault))
-ends_unread left read_faults calls asked held write_faults runs words input input' out gate job_faults.ReadFault only asks counted same lost within long read = record {
+ends_unread left read_faults calls asked held write_faults runs words input input' out gate job_faults.ReadFault only one asks counted same lost within long read = record {
   usage = (λ e. cc, λ no_command. absurd (no_command (asks.0, asks.1)));
   reading = record {
     read_fault = record { later = counted.later; rises = λ _. counted.rises refl; stands = λ no. absurd (no refl) };
@@ -161,11 +191,11 @@ ends_unread left read_faults calls asked held write_faults runs words input inpu
   verdict = λ of. absurd of;
   part = λ e. cc;
   first = λ e. cc;
-  noted = inl (refl, λ e. cc);
+  noted = inl (refl, λ e. absurd cc);
   complete = λ not_rose _. absurd (not_rose (omega (arith, counted.rises refl)));
   accepted = λ _ _ _ _ not_rose _. absurd (not_rose (omega (arith, counted.rises refl)));
 }
-ends_unread left read_faults calls asked held write_faults runs words input input' out gate job_faults.TooLong only asks counted same lost within long read = record {
+ends_unread left read_faults calls asked held write_faults runs words input input' out gate job_faults.TooLong only one asks counted same lost within long read = record {
   usage = (λ e. cc, λ no_command. absurd (no_command (asks.0, asks.1)));
   reading = record {
     read_fault = record { later = counted.later; rises = λ e. cc; stands = λ _. counted.stands (λ e. cc) };
@@ -181,25 +211,22 @@ ends_unread left read_faults calls asked held write_faults runs words input inpu
   writing = unwritten held write_faults out Text (λ e. cc);
   verdict = λ _ bytes input_is. record {
     verdict = verdicts.TooLong;
-    is_verdict = (
-      asks,
-      of_told (left input) bytes (λ bytes. job_limit < length bytes) (long refl)
-          (told_input words (left input) bytes asks input_is),
-    );
+    is_verdict = too_long_verdict one words bytes asks
+        (of_told (left input) bytes (λ bytes. job_limit < length bytes) (long refl)
+        (told_input words (left input) bytes asks input_is));
     status_is = refl;
     written = Appends-nil _;
   };
   part = λ e. cc;
   first = λ e. cc;
-  noted = inl (refl, λ e. cc);
+  noted = inl (refl, λ e. absurd cc);
   complete = λ _ _. inl tt;
-  accepted = λ bytes input_is reports is _ _. absurd (only words bytes reports verdicts.TooLong is (
-    asks,
-    of_told (left input) bytes (λ bytes. job_limit < length bytes) (long refl)
-        (told_input words (left input) bytes asks input_is),
-  ) (λ limit. absurd limit));
+  accepted = λ bytes input_is reports is _ _. absurd (only words bytes reports verdicts.TooLong is
+      (too_long_verdict one words bytes asks
+      (of_told (left input) bytes (λ bytes. job_limit < length bytes) (long refl)
+      (told_input words (left input) bytes asks input_is))) (λ limit. absurd limit));
 }
-ends_unread left read_faults calls asked held write_faults runs words input input' out gate job_faults.Memory only asks counted same lost within long read = record {
+ends_unread left read_faults calls asked held write_faults runs words input input' out gate job_faults.Memory only one asks counted same lost within long read = record {
   usage = (λ e. cc, λ no_command. absurd (no_command (asks.0, asks.1)));
   reading = record {
     read_fault = record { later = counted.later; rises = λ e. cc; stands = λ _. counted.stands (λ e. cc) };
@@ -216,10 +243,22 @@ ends_unread left read_faults calls asked held write_faults runs words input inpu
   verdict = λ of. absurd of;
   part = λ e. cc;
   first = λ _ bytes _. inl (Appends-nil _);
-  noted = inl (refl, λ e. cc);
+  noted = inl (refl, λ e. absurd cc);
   complete = λ _ _. inr refl;
   accepted = λ _ _ _ _ _ _. inr refl;
 }
+
+-- the verdict that the fault of an input tells that is not read whole
+pub unread_fault : {T : Type 0} (left : Option (List ℕ)) (words : List (List ℕ)) (fault : JobFault) → OneCommand
+    → AsksForJob words
+    → (IsErrOf {T = T} (Err fault) job_faults.TooLong → IfSome left (λ bytes. job_limit < length bytes))
+    → IfSome (fault_verdict (reading_fault fault)) (λ verdict. (bytes : List ℕ) → IsInput words left bytes
+    → IsVerdict words bytes verdict)
+unread_fault left words job_faults.ReadFault one asks long = tt
+unread_fault left words job_faults.Memory one asks long = tt
+unread_fault left words job_faults.TooLong one asks long = λ bytes input_is.
+    too_long_verdict one words bytes asks
+    (of_told left bytes (λ bytes. job_limit < length bytes) (long refl) (told_input words left bytes asks input_is))
 
 -- an input that was read to its end lost all its bytes
 consumes_all : (old new : Option (List ℕ)) (bytes : List ℕ) → SameTold old new → IfSome old (λ left. bytes ≡ left) → IsAtEnd new → Consumes old new bytes
@@ -252,6 +291,7 @@ completes Usage before now no_read counted not_rose = inl tt
 completes Text before now no_read counted not_rose = inl tt
 completes Grammar before now no_read counted not_rose = inl tt
 completes Limit before now no_read counted not_rose = inl tt
+completes Rejected before now no_read counted not_rose = inl tt
 completes Memory before now no_read counted not_rose = inr refl
 completes ReadFault before now no_read counted not_rose = absurd (no_read refl)
 completes WriteFault before now no_read counted not_rose = absurd (not_rose (omega (arith, counted.rises refl)))
@@ -270,6 +310,7 @@ not_usage (Err faults.TooLong) refuses e = cc
 not_usage (Err (faults.Text fault)) refuses e = cc
 not_usage (Err (faults.Grammar fault)) refuses e = cc
 not_usage (Err (faults.Limit word fault)) refuses e = cc
+not_usage (Err (faults.Rejected line)) refuses e = cc
 not_usage (Err faults.Memory) refuses e = cc
 
 not_read : (result : Result (Unit {0}) Fault) → (IsErrOf result faults.Read → ⊥) → status_after result ≡ ReadFault → ⊥
@@ -281,6 +322,7 @@ not_read (Err faults.TooLong) refuses e = cc
 not_read (Err (faults.Text fault)) refuses e = cc
 not_read (Err (faults.Grammar fault)) refuses e = cc
 not_read (Err (faults.Limit word fault)) refuses e = cc
+not_read (Err (faults.Rejected line)) refuses e = cc
 not_read (Err faults.Memory) refuses e = cc
 
 by_write : (result : Result (Unit {0}) Fault) → status_after result ≡ WriteFault → IsErrOf result faults.Write
@@ -292,6 +334,7 @@ by_write (Err faults.TooLong) e = cc
 by_write (Err (faults.Text fault)) e = cc
 by_write (Err (faults.Grammar fault)) e = cc
 by_write (Err (faults.Limit word fault)) e = cc
+by_write (Err (faults.Rejected line)) e = cc
 by_write (Err faults.Memory) e = cc
 
 by_memory : (result : Result (Unit {0}) Fault) → status_after result ≡ Memory → IsErrOf result faults.Memory
@@ -303,6 +346,7 @@ by_memory (Err faults.TooLong) e = cc
 by_memory (Err (faults.Text fault)) e = cc
 by_memory (Err (faults.Grammar fault)) e = cc
 by_memory (Err (faults.Limit word fault)) e = cc
+by_memory (Err (faults.Rejected line)) e = cc
 by_memory (Err faults.Memory) e = refl
 
 by_limit : (result : Result (Unit {0}) Fault) → status_after result ≡ Limit
@@ -315,6 +359,7 @@ by_limit (Err faults.Write) e = cc
 by_limit (Err faults.TooLong) e = cc
 by_limit (Err (faults.Text fault)) e = cc
 by_limit (Err (faults.Grammar fault)) e = cc
+by_limit (Err (faults.Rejected line)) e = cc
 by_limit (Err faults.Memory) e = cc
 
 -- notes beside the bytes that came, which are those that an input tells
@@ -339,7 +384,7 @@ pub ends : {S K G : Type 0} (left : S → Option (List ℕ)) (read_faults : S �
     → IsRead left calls asked input input'
     → (IsErrOf result faults.Usage → ⊥) → (IsErrOf result faults.Read → ⊥)
     → OutputAfter held write_faults out out' (status_after result)
-    → ((word : ℕ) (limit : LimitFault) → IsErrOf result (faults.Limit word limit) → AreCheckable words bytes)
+    → ((word : ℕ) (limit : LimitFault) → IsErrOf result (faults.Limit word limit) → IsCheckableInput words bytes)
     → (IsOfVerdict (status_after result)
     → ShowsVerdict words bytes (status_after result) (held out) (held out'))
     → (IsErrOf result faults.Write → ShowsPart words bytes (held out) (held out'))
@@ -373,7 +418,7 @@ ends left read_faults calls asked held write_faults runs words came bytes input 
           (completes status (write_faults out) (write_faults out') unread writing.write_fault not_rose)
           (λ of. is_done only words other status (held out) (held out') reports reported (shown of other is)
           (λ e. let limit = by_limit result e in
-          subst (λ it. AreCheckable words it) (here other is) (checkable limit.0 limit.1 limit.2)));
+          subst (λ it. IsCheckableInput words it) (here other is) (checkable limit.0 limit.1 limit.2)));
     }
 
 -- words that ask for a word to be made ask for no job
@@ -393,7 +438,8 @@ pub ends_made : {S K G : Type 0} (left : S → Option (List ℕ)) (read_faults :
     → IsWordEnding (IsBigRun command) result (runs gate) (runs gate') (held out) (held out')
     → Ending left read_faults calls asked held write_faults runs words input input out out' gate gate' (status_after result)
 ends_made left read_faults calls asked held write_faults runs words input out out' gate gate' command result only is makes none same counted ending =
-    let made = made_ending words command is makes result (runs gate) (runs gate') (held out) (held out') ending in
+    let made = made_ending words command is makes
+    (λ verifies. none (verifies.0, verifies.1, λ big. (let e = sym verifies.2 ∙ big in cc))) result (runs gate) (runs gate') (held out) (held out') ending in
     let unread : status_after result ≡ ReadFault → ⊥ = made.not_read in
     record {
       usage = (λ e. absurd (made.not_usage e), λ no_command. absurd (no_command (command, is)));

@@ -8,7 +8,7 @@ use Rattle.adp_model.specs.PosedProblem.{PosedProblem}
 use Rattle.adp_model.specs.ProblemFields.{KeepsLimits}
 use Rattle.verdicts.specs.SecondAlgebra.{IsAdmissibleWith, IsLimitWith, KeepsLimitsWith}
 use Rattle.verdicts.specs.Verdict.{IsFirstLimit}
-use Rattle.adp_main.specs.Posed.{posed_words}
+use Rattle.verdicts.specs.Posed.{posed_words}
 use Rattle.grammar_check.specs.declared.error.AdmitError.{AdmitError}
 use Rattle.grammar_check.specs.declared.error.AdmitError.TheVariants as admit_errors
 use Rattle.adp_main.specs.Reporting.{AreShort, IsLengthRefusal, IsLimitOf, limit_refusal}

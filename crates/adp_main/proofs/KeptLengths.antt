@@ -8,7 +8,7 @@ use Rattle.adp_model.specs.ProblemFields.{KeepsLimits}
 use Rattle.lex_product.specs.PairLimits.{KeepsPairLimits}
 use Rattle.verdicts.specs.SecondAlgebra.{IsAdmissibleWith}
 use Rattle.adp_main.specs.KeptLengths.{AreKeptLengths, HasKept, HaveKept, IsCompiledBound, IsFound, IsKeptBound}
-use Rattle.adp_main.specs.Posed.{posed_word}
+use Rattle.verdicts.specs.Posed.{posed_word}
 
 module _ (grammar : Grammar) (algebra : ℕ) where
   pub admissible_by_length : (second : Option (List ℕ)) (word other : List ℕ) → length other ≡ length word

@@ -8,7 +8,11 @@ pub mod Noting
 pub mod Running
 pub mod Written
 pub mod FirstLimit
+pub mod NestedReports
 pub mod Reported
 pub mod SecondAlgebras
 pub mod KeptLengths
 pub mod CompiledWords
+pub mod Behind
+pub mod Verifying
+pub mod Blocks

@@ -6,7 +6,7 @@ use Rattle.std.proofs.lemmas.List.{append-nil}
 use Rattle.adp_io.specs.Streams.{AppendsProperPrefix}
 use Rattle.adp_model.specs.BigReport.{IsBigReport}
 use Rattle.verdicts.specs.declared.command.Mode.TheVariants.{Big}
-use Rattle.verdicts.specs.Command.{Command, IsCommand}
+use Rattle.verdicts.specs.Command.{Command, IsCommand, AsksToVerify}
 use Rattle.verdicts.specs.Verdict.{IsVerdict}
 use Rattle.verdicts.specs.Verdict as verdicts
 use Rattle.evaluators.specs.declared.finished.RunNote.{RunNote}
@@ -35,10 +35,11 @@ pub record MadeEnding (words : List (List ℕ)) (status : Status) (old new : Opt
 one_report : (report : List ℕ) → concat (report ∷ []) ≡ report
 one_report report = append-nil report
 
-module _ (words : List (List ℕ)) (command : Command) (is : IsCommand words command) (makes : command.mode ≡ Big) where
+module _ (words : List (List ℕ)) (command : Command) (is : IsCommand words command) (makes : command.mode ≡ Big)
+    (other : AsksToVerify words → ⊥) where
   reported : (bytes report : List ℕ) → IsBigReport command.seed command.size report
       → IsVerdict words bytes (verdicts.Reports (report ∷ []))
-  reported bytes report made = inr (command, is, makes, report, made, refl)
+  reported bytes report made = inl (other, inr (command, is, makes, report, made, refl))
 
   pub made_ending : (result : Result (Unit {0}) Fault) (old new : Option (List RunNote)) (held held' : Option (List ℕ))
       → IsWordEnding (IsBigRun command) result old new held held' → MadeEnding words (status_after result) old new held held'
@@ -81,7 +82,7 @@ module _ (words : List (List ℕ)) (command : Command) (is : IsCommand words com
       written = subst (AppendsProperPrefix held held') (sym (one_report report)) part;
     };
     first = λ e. cc;
-    noted = λ _. inl (same, λ e. cc);
+    noted = λ _. inl (same, λ e. absurd cc);
   }
   made_ending (Err faults.Memory) old new held held' (same, inl none) = record {
     not_usage = λ e. cc;
@@ -92,7 +93,7 @@ module _ (words : List (List ℕ)) (command : Command) (is : IsCommand words com
     verdict = λ of. absurd of;
     part = λ e. cc;
     first = λ _ bytes. inl none;
-    noted = λ _. inl (same, λ e. cc);
+    noted = λ _. inl (same, λ e. absurd cc);
   }
   made_ending (Err faults.Memory) old new held held' (same, inr (report, noted, (made, note, one, for), whole)) = record {
     not_usage = λ e. cc;
@@ -108,7 +109,7 @@ module _ (words : List (List ℕ)) (command : Command) (is : IsCommand words com
       reported bytes report made,
       subst (Appends held held') (sym (one_report report)) whole,
     );
-    noted = λ _. inl (same, λ e. cc);
+    noted = λ _. inl (same, λ e. absurd cc);
   }
   made_ending (Err faults.Usage) old new held held' h = absurd h
   made_ending (Err faults.Read) old new held held' h = absurd h
@@ -116,3 +117,4 @@ module _ (words : List (List ℕ)) (command : Command) (is : IsCommand words com
   made_ending (Err (faults.Text fault)) old new held held' h = absurd h
   made_ending (Err (faults.Grammar fault)) old new held held' h = absurd h
   made_ending (Err (faults.Limit word fault)) old new held held' h = absurd h
+  made_ending (Err (faults.Rejected line)) old new held held' h = absurd h

@@ -142,6 +142,7 @@ module _ (agree : CountsAgree) (command : Command) (p : PosedProblem) (finished 
   run_unwritten report (faults.Text fault) runs held held' h = absurd h
   run_unwritten report (faults.Grammar fault) runs held held' h = absurd h
   run_unwritten report (faults.Limit word fault) runs held held' h = absurd h
+  run_unwritten report (faults.Rejected line) runs held held' h = absurd h
   run_unwritten report faults.Memory runs held held' h = absurd h
 
   -- memory ran out when the gate was told

@@ -28,11 +28,11 @@ use Rattle.adp_main.specs.Writing.{IsReportWritten, IsRunWith, IsWordEnding}
 use Rattle.adp_main.proofs.Written.{AllReported, stopped, one_more, grew_more, broken}
 
 -- wins of so many evaluators, none of which has won
-abbrev no_wins : ℕ → List ℕ
+abbrev pub no_wins : ℕ → List ℕ
 no_wins zero = []
 no_wins (suc count) = 0 ∷ no_wins count
 
-no_wins_number : (count : ℕ) → length (no_wins count) ≡ count
+pub no_wins_number : (count : ℕ) → length (no_wins count) ≡ count
 no_wins_number zero = refl
 no_wins_number (suc count) = ap suc (no_wins_number count)
 
@@ -50,11 +50,11 @@ note_in mode other command p note for = for
 
 -- a report beside what was noted of it is one that the command asks for
 pub run_report : (command : Command) (number : ℕ) (p : PosedProblem) (report : List ℕ) (noted : List RunNote)
-    → IsRunOf command number p report noted → IsReportIn command number p report
+    → IsRunOf command None number p report noted → IsReportIn command None number p report
 run_report command number p report noted (inl (serial, none, is)) = (
   no_wins command.workers,
   no_wins_number command.workers,
-  subst (λ mode. IsReportWith mode command.second number p (no_wins command.workers) report) (sym serial) is,
+  subst (λ mode. IsReportWith mode command.second None number p (no_wins command.workers) report) (sym serial) is,
 )
 run_report command number p report noted (inr (other, note, one, for, is)) =
     (note.wins, note_wins command.mode command p note for, is)
@@ -63,12 +63,12 @@ run_report command number p report noted (inr (other, note, one, for, is)) =
 
 module _ (command : Command) where
   runs_joined : (number : ℕ) (ps qs : List PosedProblem) (rs ss : List (List ℕ)) (notes others : List RunNote)
-      → AreRunsOf command number ps rs notes → AreRunsOf command (number + length ps) qs ss others
-      → AreRunsOf command number (ps ++ qs) (rs ++ ss) (notes ++ others)
+      → AreRunsOf command None number ps rs notes → AreRunsOf command None (number + length ps) qs ss others
+      → AreRunsOf command None number (ps ++ qs) (rs ++ ss) (notes ++ others)
   runs_joined number [] qs [] ss notes others h k =
       let e : number + 0 ≡ number = omega arith in
-      subst (λ (it : List RunNote). AreRunsOf command number qs ss (it ++ others)) (sym h)
-      (subst (λ n. AreRunsOf command n qs ss others) e k)
+      subst (λ (it : List RunNote). AreRunsOf command None number qs ss (it ++ others)) (sym h)
+      (subst (λ n. AreRunsOf command None n qs ss others) e k)
   runs_joined number [] qs (r ∷ rs) ss notes others h k = absurd h
   runs_joined number (p ∷ ps) qs [] ss notes others h k = absurd h
   runs_joined number (p ∷ ps) qs (r ∷ rs) ss notes others (noted, rest, is, run, runs) k =
@@ -78,24 +78,24 @@ module _ (command : Command) where
         ap (λ (it : List RunNote). it ++ others) is ∙ append_assoc noted rest others,
         run,
         runs_joined (number + 1) ps qs rs ss rest others runs
-            (subst (λ n. AreRunsOf command n qs ss others) e k),
+            (subst (λ n. AreRunsOf command None n qs ss others) e k),
       )
 
   -- one more word
   pub one_more_run : (ps : List PosedProblem) (k : ℕ) (p : PosedProblem) → k < length ps → p ≡ get_or ps k p
-      → (rs : List (List ℕ)) (notes : List RunNote) → AreRunsOf command 1 (take k ps) rs notes
-      → (report : List ℕ) (noted : List RunNote) → IsRunOf command (k + 1) p report noted
-      → AreRunsOf command 1 (take (k + 1) ps) (rs ++ report ∷ []) (notes ++ noted)
+      → (rs : List (List ℕ)) (notes : List RunNote) → AreRunsOf command None 1 (take k ps) rs notes
+      → (report : List ℕ) (noted : List RunNote) → IsRunOf command None (k + 1) p report noted
+      → AreRunsOf command None 1 (take (k + 1) ps) (rs ++ report ∷ []) (notes ++ noted)
   one_more_run ps k p below is rs notes runs report noted run =
       let e : k + 1 ≡ 1 + length (take k ps) = omega (arith, length-take-le k ps (omega arith)) in
       let more : take (k + 1) ps ≡ take k ps ++ p ∷ [] =
       take_more ps k p below ∙ ap (λ q. take k ps ++ q ∷ []) (sym is) in
-      subst (λ qs. AreRunsOf command 1 qs (rs ++ report ∷ []) (notes ++ noted)) (sym more)
+      subst (λ qs. AreRunsOf command None 1 qs (rs ++ report ∷ []) (notes ++ noted)) (sym more)
       (runs_joined 1 (take k ps) (p ∷ []) rs (report ∷ []) notes noted runs
-      (noted, [], sym (append-nil noted), subst (λ n. IsRunOf command n p report noted) e run, refl))
+      (noted, [], sym (append-nil noted), subst (λ n. IsRunOf command None n p report noted) e run, refl))
 
   pub run_reports : (number : ℕ) (ps : List PosedProblem) (rs : List (List ℕ)) (notes : List RunNote)
-      → AreRunsOf command number ps rs notes → AreReportsOf command number ps rs
+      → AreRunsOf command None number ps rs notes → AreReportsOf command number ps rs
   run_reports number [] [] notes h = tt
   run_reports number [] (r ∷ rs) notes h = absurd h
   run_reports number (p ∷ ps) [] notes h = absurd h
@@ -116,14 +116,14 @@ adds_more (Some old) mid new notes noted h k =
 
 module _ (command : Command) (each : AllReported command) (ps : List PosedProblem)
     (admissible : AllByRecursion (IsAdmissibleWith command.second) ps) (k : ℕ) (rs : List (List ℕ)) (notes : List RunNote)
-    (runs : AreRunsOf command 1 (take k ps) rs notes) (old mid new : Option (List RunNote))
+    (runs : AreRunsOf command None 1 (take k ps) rs notes) (old mid new : Option (List RunNote))
     (held held' held'' : Option (List ℕ)) (told : AddsNotes old mid notes) (grew : Appends held held' (concat rs)) where
   reports : AreReportsOf command 1 (take k ps) rs
   reports = run_reports command 1 (take k ps) rs notes runs
 
   -- a word was not reported
   pub failed_written : (p : PosedProblem) → k < length ps → p ≡ get_or ps k p → (fault : Fault)
-      → IsWordEnding (IsRunOf command (k + 1) p) (Err fault) mid new held' held''
+      → IsWordEnding (IsRunOf command None (k + 1) p) (Err fault) mid new held' held''
       → (all : List (List ℕ)) × AreReportsOf command 1 ps all × HasWritten (Err fault) held held'' all
   failed_written p below is faults.Write (same, report, noted, run, part) =
       broken command each ps k p below is admissible rs reports report report
@@ -141,9 +141,10 @@ module _ (command : Command) (each : AllReported command) (ps : List PosedProble
   failed_written p below is (faults.Text fault) h = absurd h
   failed_written p below is (faults.Grammar fault) h = absurd h
   failed_written p below is (faults.Limit word fault) h = absurd h
+  failed_written p below is (faults.Rejected line) h = absurd h
 
   stopped_noted : (status : Status) → (status ≡ Done → ⊥) → new ≡ mid → (more : List ℕ) → Appends held' held'' more
-      → AreNoted command ps status old new held held''
+      → AreNoted command None ps [] status old new held held''
   stopped_noted status undone same more after = record {
     count = k;
     reports = rs;
@@ -155,8 +156,8 @@ module _ (command : Command) (each : AllReported command) (ps : List PosedProble
   }
 
   pub failed_noted : (p : PosedProblem) (fault : Fault)
-      → IsWordEnding (IsRunOf command (k + 1) p) (Err fault) mid new held' held''
-      → AreNoted command ps (status_of fault) old new held held''
+      → IsWordEnding (IsRunOf command None (k + 1) p) (Err fault) mid new held' held''
+      → AreNoted command None ps [] (status_of fault) old new held held''
   failed_noted p faults.Write (same, report, noted, run, part) =
       stopped_noted WriteFault (λ e. cc) same (take part.0 report) part.2
   failed_noted p faults.Memory (same, inl none) = stopped_noted Memory (λ e. cc) same [] none
@@ -167,9 +168,10 @@ module _ (command : Command) (each : AllReported command) (ps : List PosedProble
   failed_noted p (faults.Text fault) h = absurd h
   failed_noted p (faults.Grammar fault) h = absurd h
   failed_noted p (faults.Limit word fault) h = absurd h
+  failed_noted p (faults.Rejected line) h = absurd h
 
   -- all words were reported
-  pub all_noted : length ps ≤ k → AreNoted command ps Done old mid held held'
+  pub all_noted : length ps ≤ k → AreNoted command None ps [] Done old mid held held'
   all_noted all = record {
     count = k;
     reports = rs;
@@ -177,7 +179,7 @@ module _ (command : Command) (each : AllReported command) (ps : List PosedProble
     runs = runs;
     noted = told;
     written = ([], subst (Appends held held') (sym (append-nil (concat rs))) grew);
-    done = λ _. (all, grew);
+    done = λ _. (all, subst (λ (pieces : List (List ℕ)). Appends held held' (concat pieces)) (sym (append-nil rs)) grew);
   }
 
 -- ---- one word
@@ -200,6 +202,7 @@ ending_of more (Err faults.TooLong) old new held held' h = absurd h
 ending_of more (Err (faults.Text fault)) old new held held' h = absurd h
 ending_of more (Err (faults.Grammar fault)) old new held held' h = absurd h
 ending_of more (Err (faults.Limit word fault)) old new held held' h = absurd h
+ending_of more (Err (faults.Rejected line)) old new held held' h = absurd h
 
 -- memory ran out before the report was written
 pub not_written : {A : List ℕ → List RunNote → Type 0} (runs : Option (List RunNote)) (held : Option (List ℕ))
@@ -210,7 +213,7 @@ not_written runs held = (refl, inl (Appends-nil held))
 pub swept_word : (command : Command) (number : ℕ) (p : PosedProblem) (report bytes : List ℕ)
     → command.mode ≡ Serial → IsReport number p report → bytes ≡ report → (result : Result (Unit {0}) Fault)
     (runs : Option (List RunNote)) (held held' : Option (List ℕ)) → IsReportWritten result held held' bytes
-    → IsWordEnding (IsRunOf command number p) result runs runs held held'
+    → IsWordEnding (IsRunOf command None number p) result runs runs held held'
 swept_word command number p report bytes serial is same (Ok written) runs held held' whole =
     (report, [], inl (serial, refl, is), adds_none runs, subst (Appends held held') same whole)
 swept_word command number p report bytes serial is same (Err faults.Write) runs held held' part =
@@ -221,22 +224,23 @@ swept_word command number p report bytes serial is same (Err faults.TooLong) run
 swept_word command number p report bytes serial is same (Err (faults.Text fault)) runs held held' h = absurd h
 swept_word command number p report bytes serial is same (Err (faults.Grammar fault)) runs held held' h = absurd h
 swept_word command number p report bytes serial is same (Err (faults.Limit word fault)) runs held held' h = absurd h
+swept_word command number p report bytes serial is same (Err (faults.Rejected line)) runs held held' h = absurd h
 swept_word command number p report bytes serial is same (Err faults.Memory) runs held held' h = absurd h
 
 -- a report by evaluators
 pub evaluated_word : (command : Command) (mode : Mode) (number : ℕ) (p : PosedProblem) (finished : Finished)
     (report bytes : List ℕ) → command.mode ≡ mode → (mode ≡ Serial → ⊥) → (mode ≡ Lex → ⊥)
-    → IsReportWith mode command.second number p finished.wins.items report → bytes ≡ report
+    → IsReportWith mode command.second None number p finished.wins.items report → bytes ≡ report
     → (result : Result (Unit {0}) Fault) (old new : Option (List RunNote)) (held held' : Option (List ℕ))
     → IsWordEnding (IsRunWith command p finished bytes) result old new held held'
-    → IsWordEnding (IsRunOf command number p) result old new held held'
+    → IsWordEnding (IsRunOf command None number p) result old new held held'
 evaluated_word command mode number p finished report bytes asked other single is same =
     ending_of (λ written noted (run : IsRunWith command p finished bytes written noted). inr (
       λ serial. other (sym asked ∙ serial),
       run.1,
       run.2,
       note_in command.mode (λ lex. single (sym asked ∙ lex)) command p run.1 run.3,
-      subst (λ (it : Mode × List ℕ × List ℕ). IsReportWith it.0 command.second number p it.1 it.2)
+      subst (λ (it : Mode × List ℕ × List ℕ). IsReportWith it.0 command.second None number p it.1 it.2)
           (λ i. (sym asked i, sym run.4 i, sym (run.0 ∙ same) i)) is,
     ))
 
@@ -247,7 +251,7 @@ pub compiled_run : (command : Command) (number : ℕ) (p q : PosedProblem) (seco
     → IsPairReport number p second report → bytes ≡ report
     → (result : Result (Unit {0}) Fault) (old new : Option (List RunNote)) (held held' : Option (List ℕ))
     → IsWordEnding (IsRunWith command q finished bytes) result old new held held'
-    → IsWordEnding (IsRunOf command number p) result old new held held'
+    → IsWordEnding (IsRunOf command None number p) result old new held held'
 compiled_run command number p q second bound finished report bytes lex named bounded compiled is same =
     ending_of (λ written noted (run : IsRunWith command q finished bytes written noted). inr (
       λ serial. (let e = sym lex ∙ serial in cc),
@@ -255,6 +259,6 @@ compiled_run command number p q second bound finished report bytes lex named bou
       run.2,
       subst (λ mode. IsNoteIn mode command p run.1) (sym lex)
           (second, bound, named, bounded, subst (λ it. IsNoteFor command it run.1) compiled run.3),
-      subst (λ mode. IsReportWith mode command.second number p run.1.wins written) (sym lex)
+      subst (λ mode. IsReportWith mode command.second None number p run.1.wins written) (sym lex)
           (second, named, subst (IsPairReport number p second) (sym (run.0 ∙ same)) is),
     ))

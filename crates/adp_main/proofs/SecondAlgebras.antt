@@ -20,7 +20,7 @@ use Rattle.lex_product.specs.PairFaults.{IsNumberFault}
 use Rattle.lex_product.specs.PairLimits.{IsPairAdmissible, IsPairLimitFault, KeepsPairLimits, OfFirst, OfSecond, OfNumbers, OfCompiled}
 use Rattle.verdicts.specs.SecondAlgebra.{IsAdmissibleWith, IsLimitWith, IsSecond}
 use Rattle.adp_main.specs.KeptLengths.{IsFound, IsPairBound}
-use Rattle.adp_main.specs.Posed.{posed_word}
+use Rattle.verdicts.specs.Posed.{posed_word}
 use Rattle.adp_main.specs.Reporting.{IsLengthRefusal, IsPairLimitRefusal, compile_refusal}
 use Rattle.adp_main.specs.Seconds.{AreSecondRows, IsSecondOf}
 

@@ -1,5 +1,5 @@
 -- Reports that were written, and those that are still to come.
-use Rattle.std.proofs.Common.{◌≡◌, ℕ, zero, suc, ◌+◌, ◌<◌, List, [], ◌∷◌, ◌++◌, length, take, drop, get_or, Option, refl, sym, ap, subst, ◌∙◌, arith}
+use Rattle.std.proofs.Common.{◌≡◌, ℕ, zero, suc, ◌+◌, ◌<◌, List, [], ◌∷◌, ◌++◌, length, take, drop, get_or, Option, None, refl, sym, ap, subst, ◌∙◌, arith}
 use Rattle.std.specs.List.{concat, AllByRecursion}
 use Rattle.std.specs.Io.KnownBytes.{Appends}
 use Rattle.std.proofs.KnownBytes.{Appends-trans}
@@ -25,7 +25,7 @@ pub grew_more : (rs : List (List ℕ)) (report bytes : List ℕ) → bytes ≡ r
 grew_more rs report bytes e old mid new before here =
     subst (Appends old new) (ap (λ l. concat rs ++ l) e ∙ sym (concat_more rs report)) (Appends-trans old mid new (concat rs) bytes before here)
 
-take_past : (a b : List ℕ) (c n : ℕ) → n ≡ length a + c → take n (a ++ b) ≡ a ++ take c b
+pub take_past : (a b : List ℕ) (c n : ℕ) → n ≡ length a + c → take n (a ++ b) ≡ a ++ take c b
 take_past [] b c n e = let f : n ≡ c = omega arith in ap (λ m. take m b) f
 take_past (x ∷ a) b c zero e = absurd (omega arith)
 take_past (x ∷ a) b c (suc n) e = ap (λ l. x ∷ l) (take_past a b c n (omega arith))
@@ -33,7 +33,7 @@ take_past (x ∷ a) b c (suc n) e = ap (λ l. x ∷ l) (take_past a b c n (omega
 -- each admissible word has a report that the command asks for
 abbrev pub AllReported : Command → Type 0
 AllReported command = (number : ℕ) (p : PosedProblem) → IsAdmissibleWith command.second p
-    → (report : List ℕ) × IsReportIn command number p report
+    → (report : List ℕ) × IsReportIn command None number p report
 
 module _ (command : Command) where
   -- reports of some problems, and of those behind them
@@ -70,18 +70,18 @@ module _ (command : Command) where
 
   -- one more report
   pub one_more : (ps : List PosedProblem) (k : ℕ) (p : PosedProblem) → k < length ps → p ≡ get_or ps k p → (rs : List (List ℕ))
-      → AreReportsOf command 1 (take k ps) rs → (report : List ℕ) → IsReportIn command (k + 1) p report
+      → AreReportsOf command 1 (take k ps) rs → (report : List ℕ) → IsReportIn command None (k + 1) p report
       → AreReportsOf command 1 (take (k + 1) ps) (rs ++ report ∷ [])
   one_more ps k p below is rs written report reported =
       let e : k + 1 ≡ 1 + length (take k ps) = omega (arith, length-take-le k ps (omega arith)) in
       let more : take (k + 1) ps ≡ take k ps ++ p ∷ [] = take_more ps k p below ∙ ap (λ q. take k ps ++ q ∷ []) (sym is) in
       subst (λ qs. AreReportsOf command 1 qs (rs ++ report ∷ [])) (sym more)
-      (joined 1 (take k ps) (p ∷ []) rs (report ∷ []) written (subst (λ n. IsReportIn command n p report) e reported, tt))
+      (joined 1 (take k ps) (p ∷ []) rs (report ∷ []) written (subst (λ n. IsReportIn command None n p report) e reported, tt))
 
   -- a write failed within the next report
   pub broken : AllReported command → (ps : List PosedProblem) (k : ℕ) (p : PosedProblem) → k < length ps → p ≡ get_or ps k p → AllByRecursion (IsAdmissibleWith command.second) ps
       → (rs : List (List ℕ)) → AreReportsOf command 1 (take k ps) rs
-      → (report bytes : List ℕ) → IsReportIn command (k + 1) p report → bytes ≡ report → (old mid new : Option (List ℕ)) → Appends old mid (concat rs) → AppendsProperPrefix mid new bytes
+      → (report bytes : List ℕ) → IsReportIn command None (k + 1) p report → bytes ≡ report → (old mid new : Option (List ℕ)) → Appends old mid (concat rs) → AppendsProperPrefix mid new bytes
       → (reports : List (List ℕ)) × AreReportsOf command 1 ps reports × AppendsProperPrefix old new (concat reports)
   broken each ps k p below is admissible rs written report bytes reported e old mid new before part =
       let rest = completed each ps (k + 1) admissible (rs ++ report ∷ []) (one_more ps k p below is rs written report reported) in

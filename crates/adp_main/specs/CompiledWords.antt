@@ -7,7 +7,7 @@ use Rattle.grammar_check.specs.CheckedGrammar.{CheckedGrammar}
 use Rattle.lex_product.specs.CompiledGrammar.{compiled_grammar, has_same_goal, multiplier_of}
 use Rattle.lex_product.specs.PairAnswers.{IsButForAlgebra}
 use Rattle.verdicts.specs.SecondAlgebra.{IsSecond}
-use Rattle.adp_main.specs.Posed.{posed_word}
+use Rattle.verdicts.specs.Posed.{posed_word}
 use Rattle.adp_main.specs.declared.lex.Compiled.{Compiled}
 
 -- the grammar has the compiled algebra of the problem's and the second one, of this name, by the second one's bound at

@@ -9,7 +9,7 @@ use Rattle.verdicts.specs.Verdict.{Verdict, IsVerdict}
 use Rattle.verdicts.specs.Verdict as verdicts
 use Rattle.report.specs.declared.fault.Fault.{Fault}
 use Rattle.adp_main.specs.declared.status.Status.{Status}
-use Rattle.adp_main.specs.declared.status.Status.TheVariants.{Done, Usage, ReadFault, WriteFault, Text, Grammar, Limit, Memory}
+use Rattle.adp_main.specs.declared.status.Status.TheVariants.{Done, Usage, ReadFault, WriteFault, Text, Grammar, Limit, Memory, Rejected}
 use Rattle.report.specs.Faults.{fault_line}
 use Rattle.adp_main.specs.Faults.{status_of, fault_verdict}
 use Rattle.evaluators.specs.declared.finished.RunNote.{RunNote}
@@ -26,6 +26,7 @@ verdict_status verdicts.TooLong = Text
 verdict_status (verdicts.Text fault) = Text
 verdict_status (verdicts.Grammar fault) = Grammar
 verdict_status (verdicts.Limit word fault) = Limit
+verdict_status (verdicts.Rejected line) = Rejected
 verdict_status (verdicts.Reports reports) = Done
 
 -- the reports of a verdict, in order of words: a fault has none
@@ -35,6 +36,7 @@ verdict_reports verdicts.TooLong = []
 verdict_reports (verdicts.Text fault) = []
 verdict_reports (verdicts.Grammar fault) = []
 verdict_reports (verdicts.Limit word fault) = []
+verdict_reports (verdicts.Rejected line) = []
 verdict_reports (verdicts.Reports reports) = reports
 
 -- a run with this status came to a verdict: no read or write failed, and there was memory enough
@@ -44,6 +46,7 @@ IsOfVerdict Usage = Unit {0}
 IsOfVerdict Text = Unit {0}
 IsOfVerdict Grammar = Unit {0}
 IsOfVerdict Limit = Unit {0}
+IsOfVerdict Rejected = Unit {0}
 IsOfVerdict ReadFault = ⊥
 IsOfVerdict WriteFault = ⊥
 IsOfVerdict Memory = ⊥
@@ -55,6 +58,7 @@ IsBeforeWriting ReadFault = Unit {0}
 IsBeforeWriting Text = Unit {0}
 IsBeforeWriting Grammar = Unit {0}
 IsBeforeWriting Limit = Unit {0}
+IsBeforeWriting Rejected = Unit {0}
 IsBeforeWriting Done = ⊥
 IsBeforeWriting WriteFault = ⊥
 IsBeforeWriting Memory = ⊥

@@ -5,7 +5,7 @@ use Rattle.adp_io.specs.declared.job.JobFault.TheVariants as job_faults
 use Rattle.verdicts.specs.Verdict.{Verdict}
 use Rattle.verdicts.specs.Verdict as verdicts
 use Rattle.report.specs.declared.fault.Fault.{Fault}
-use Rattle.report.specs.declared.fault.Fault.TheVariants.{Usage, Read, Write, TooLong, Text, Grammar, Limit, Memory}
+use Rattle.report.specs.declared.fault.Fault.TheVariants.{Usage, Read, Write, TooLong, Text, Grammar, Limit, Rejected, Memory}
 use Rattle.adp_main.specs.declared.status.Status.{Status}
 use Rattle.adp_main.specs.declared.status.Status.TheVariants as statuses
 
@@ -17,6 +17,7 @@ status_of TooLong = statuses.Text
 status_of (Text fault) = statuses.Text
 status_of (Grammar fault) = statuses.Grammar
 status_of (Limit word fault) = statuses.Limit
+status_of (Rejected line) = statuses.Rejected
 status_of Memory = statuses.Memory
 
 -- the status that a run ends with after this result
@@ -33,6 +34,7 @@ fault_verdict TooLong = Some verdicts.TooLong
 fault_verdict (Text fault) = Some (verdicts.Text fault)
 fault_verdict (Grammar fault) = Some (verdicts.Grammar fault)
 fault_verdict (Limit word fault) = Some (verdicts.Limit word fault)
+fault_verdict (Rejected line) = Some (verdicts.Rejected line)
 fault_verdict Memory = None
 
 -- the fault of an input that was not read

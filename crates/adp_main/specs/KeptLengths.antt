@@ -5,7 +5,7 @@ use Rattle.adp_model.specs.declared.grammar.Grammar.{Grammar}
 use Rattle.adp_model.specs.Bounds.{IsScoreBound}
 use Rattle.lex_product.specs.CompiledGrammar.{compiled_grammar, multiplier_of}
 use Rattle.verdicts.specs.SecondAlgebra.{IsAdmissibleWith, IsSecond}
-use Rattle.adp_main.specs.Posed.{posed_word}
+use Rattle.verdicts.specs.Posed.{posed_word}
 
 -- the score bound of words of this length under the compiled algebra of the two
 abbrev pub IsPairBound : Grammar → ℕ → ℕ → ℕ → ℕ → Type 0

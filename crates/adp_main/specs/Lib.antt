@@ -1,6 +1,5 @@
 pub mod Status
 pub mod Faults
-pub mod Posed
 pub mod KeptLengths
 pub mod Seconds
 pub mod CompiledWords
@@ -8,3 +7,4 @@ pub mod RunNotes
 pub mod Ending
 pub mod Writing
 pub mod Reporting
+pub mod Verifying

@@ -1,5 +1,5 @@
 -- The reports of a job's words, and what was written of them.
-use Rattle.std.specs.Prelude.{◌≡◌, ℕ, ◌+◌, ◌<◌, ◌≤◌, ◌⊎◌, List, [], ◌∷◌, length, slice_index_or, take, Option, None, Some, Result, Ok, Err}
+use Rattle.std.specs.Prelude.{◌≡◌, ℕ, ◌+◌, ◌<◌, ◌≤◌, ◌⊎◌, List, [], ◌∷◌, ◌++◌, length, slice_index_or, take, Option, None, Some, Result, Ok, Err}
 use Rattle.std.specs.List.{concat}
 use Rattle.std.specs.Io.KnownBytes.{Appends}
 use Rattle.adp_io.specs.Streams.{AppendsProperPrefix}
@@ -7,8 +7,9 @@ use Rattle.adp_model.specs.declared.grammar.Grammar.{Grammar}
 use Rattle.adp_model.specs.declared.job.Job.{Job}
 use Rattle.adp_model.specs.PosedProblem.{PosedProblem}
 use Rattle.verdicts.specs.Command as asked
-use Rattle.verdicts.specs.Verdict.{IsVerdict, AsksUnder, KeepLimits, IsFirstLimit, IsReportIn, AreReports}
+use Rattle.verdicts.specs.Verdict.{IsJobVerdict, AsksUnder, KeepLimits, IsFirstLimit, IsReportIn, AreReports}
 use Rattle.verdicts.specs.Verdict as verdicts
+use Rattle.verdicts.specs.Certificates.{behind_reports}
 use Rattle.verdicts.specs.SecondAlgebra.{IsLimitWith}
 use Rattle.lex_product.specs.PairFaults.{IsPairFault}
 use Rattle.lex_product.specs.PairLimits.{IsPairLimitFault}
@@ -76,8 +77,8 @@ IsJobFault fault = ⊥
 
 -- the verdict is the fault of the text or of its grammar; of want of memory nothing is said
 abbrev pub IsJobRefusal : List (List ℕ) → List ℕ → Fault → Type 0
-IsJobRefusal words bytes (faults.Text fault) = IsVerdict words bytes (verdicts.Text fault)
-IsJobRefusal words bytes (faults.Grammar fault) = IsVerdict words bytes (verdicts.Grammar fault)
+IsJobRefusal words bytes (faults.Text fault) = IsJobVerdict words bytes (verdicts.Text fault)
+IsJobRefusal words bytes (faults.Grammar fault) = IsJobVerdict words bytes (verdicts.Grammar fault)
 IsJobRefusal words bytes faults.Memory = Unit {0}
 IsJobRefusal words bytes fault = ⊥
 
@@ -103,11 +104,12 @@ abbrev pub IsPairLimitRefusal : Grammar → ℕ → ℕ → ℕ → AdmitError �
 IsPairLimitRefusal grammar first second len (admit_errors.Fault fault) = IsPairLimitFault grammar first second len fault
 IsPairLimitRefusal grammar first second len admit_errors.Memory = Unit {0}
 
--- the reports of these problems in order, the first of which has this number, as the command asks for them
+-- the reports of these problems in order, under their own grammar, the first of which has this number, as the command
+-- asks for them
 abbrev pub AreReportsOf : asked.Command → ℕ → List PosedProblem → List (List ℕ) → Type 0
 AreReportsOf command number [] [] = Unit {0}
 AreReportsOf command number (problem ∷ problems) (report ∷ reports) =
-    IsReportIn command number problem report × AreReportsOf command (number + 1) problems reports
+    IsReportIn command None number problem report × AreReportsOf command (number + 1) problems reports
 AreReportsOf command number problems reports = ⊥
 
 -- what was written of these reports: all of them, a part that is not the whole, or the first of them
@@ -117,21 +119,22 @@ HasWritten (Err faults.Write) old new reports = AppendsProperPrefix old new (con
 HasWritten (Err faults.Memory) old new reports = (count : ℕ) × Appends old new (concat (take count reports))
 HasWritten (Err fault) old new reports = ⊥
 
--- the words keep the limits, and these are their reports
+-- the words keep the limits, and these are their reports under the grammar itself
 pub record IsReported (command : asked.Command) (grammar : Grammar) (algebra : ℕ) (words : List (List ℕ))
     (reports : List (List ℕ)) : Type 0 where
   pub limits : KeepLimits command.second grammar algebra words
-  pub reports_are : AreReports command grammar algebra 1 words reports
+  pub reports_are : AreReports command None grammar algebra 1 words reports
 
--- how the words of a checked job were reported: one of them passes a limit and nothing was written, or it was written
--- of their reports
-abbrev pub IsJobEnding : asked.Command → Grammar → ℕ → List (List ℕ) → Result (Unit {0}) Fault → Option (List ℕ)
-    → Option (List ℕ) → Type 0
-IsJobEnding command grammar algebra words (Err (faults.Limit word fault)) old new =
+-- how the words of a checked job, which came with this input, were reported: one of them passes a limit and nothing was
+-- written, or it was written of their reports and of what stands behind them
+abbrev pub IsJobEnding : asked.Command → Grammar → ℕ → List (List ℕ) → List ℕ → Result (Unit {0}) Fault
+    → Option (List ℕ) → Option (List ℕ) → Type 0
+IsJobEnding command grammar algebra words input (Err (faults.Limit word fault)) old new =
     IsFirstLimit command.second grammar algebra 1 words word fault × Appends old new []
-IsJobEnding command grammar algebra words (Err faults.Memory) old new =
+IsJobEnding command grammar algebra words input (Err faults.Memory) old new =
     Appends old new []
     ⊎ ((reports : List (List ℕ)) × IsReported command grammar algebra words reports
-    × HasWritten (Err faults.Memory) old new reports)
-IsJobEnding command grammar algebra words result old new =
-    (reports : List (List ℕ)) × IsReported command grammar algebra words reports × HasWritten result old new reports
+    × HasWritten (Err faults.Memory) old new (reports ++ behind_reports command.mode (length words) input))
+IsJobEnding command grammar algebra words input result old new =
+    (reports : List (List ℕ)) × IsReported command grammar algebra words reports
+    × HasWritten result old new (reports ++ behind_reports command.mode (length words) input)

@@ -7,19 +7,21 @@ use Rattle.adp_model.specs.PosedProblem.{PosedProblem, axiom_cell}
 use Rattle.adp_model.specs.Answers.{IsAnswer}
 use Rattle.adp_model.specs.Bounds.{IsScoreBound}
 use Rattle.adp_model.specs.Demand.{IsDemandedCount}
-use Rattle.adp_model.specs.Report.{IsReport}
 use Rattle.adp_model.specs.BigReport.{made_problem, IsBigReport}
 use Rattle.verdicts.specs.declared.command.Mode.{Mode}
 use Rattle.verdicts.specs.declared.command.Mode.TheVariants.{Serial, Replay, Lex, Big}
-use Rattle.verdicts.specs.Command.{Command, IsCommand}
+use Rattle.verdicts.specs.Command.{Command, IsCommand, AsksToVerify}
+use Rattle.verdicts.specs.Certificates.{behind_reports}
 use Rattle.verdicts.specs.SecondAlgebra.{IsSecond}
 use Rattle.verdicts.specs.Verdict.{AsksUnder, IsReportWith}
+use Rattle.verdicts.specs.WordReport.{IsWordReport}
+use Rattle.nested_jobs.specs.NestedJob.{hidden_in}
 use Rattle.lex_product.specs.CompiledGrammar.{compiled_problem, multiplier_of}
 use Rattle.evaluators.specs.declared.finished.RunNote.{RunNote}
 use Rattle.evaluators.specs.Schedules.{AreScheduled}
 use Rattle.adp_main.specs.declared.status.Status.{Status}
 use Rattle.adp_main.specs.declared.status.Status.TheVariants.{Done}
-use Rattle.adp_main.specs.Posed.{posed_words}
+use Rattle.verdicts.specs.Posed.{posed_words}
 
 -- how far the machines of a run came, of which this is told: each has ended; or, in the order of a schedule, the first
 -- has ended, and each other one made the steps of its entries
@@ -51,12 +53,13 @@ IsNoteIn Lex command p note =
     × IsNoteFor command (compiled_problem p second (multiplier_of bound)) note
 IsNoteIn mode command p note = IsNoteFor command p note
 
--- the report of the word with this number, and what was noted beside it: the note of the run, or nothing of one sweep
-abbrev pub IsRunOf : Command → ℕ → PosedProblem → List ℕ → List RunNote → Type 0
-IsRunOf command number p report noted =
-    ((command.mode ≡ Serial) × (noted ≡ []) × IsReport number p report)
+-- the report of the word with this number under a grammar of which so many rules are hidden, and what was noted beside
+-- it: the note of the run, or nothing of one sweep
+abbrev pub IsRunOf : Command → Option ℕ → ℕ → PosedProblem → List ℕ → List RunNote → Type 0
+IsRunOf command hidden number p report noted =
+    ((command.mode ≡ Serial) × (noted ≡ []) × IsWordReport hidden number p report)
     ⊎ (((command.mode ≡ Serial) → ⊥) × (note : RunNote) × (noted ≡ note ∷ []) × IsNoteIn command.mode command p note
-    × IsReportWith command.mode command.second number p note.wins report)
+    × IsReportWith command.mode command.second hidden number p note.wins report)
 
 -- the report of the word that is made, and the note of its run beside it
 abbrev pub IsBigRun : Command → List ℕ → List RunNote → Type 0
@@ -65,12 +68,12 @@ IsBigRun command report noted =
     × (note : RunNote) × (noted ≡ note ∷ []) × IsNoteFor command (made_problem command.seed command.size) note
 
 -- the reports of these problems in order, the first of which has this number, and all that was noted beside them
-abbrev pub AreRunsOf : Command → ℕ → List PosedProblem → List (List ℕ) → List RunNote → Type 0
-AreRunsOf command number [] [] notes = notes ≡ []
-AreRunsOf command number (p ∷ ps) (report ∷ reports) notes =
+abbrev pub AreRunsOf : Command → Option ℕ → ℕ → List PosedProblem → List (List ℕ) → List RunNote → Type 0
+AreRunsOf command hidden number [] [] notes = notes ≡ []
+AreRunsOf command hidden number (p ∷ ps) (report ∷ reports) notes =
     (noted : List RunNote) × (others : List RunNote) × (notes ≡ noted ++ others)
-    × IsRunOf command number p report noted × AreRunsOf command (number + 1) ps reports others
-AreRunsOf command number problems reports notes = ⊥
+    × IsRunOf command hidden number p report noted × AreRunsOf command hidden (number + 1) ps reports others
+AreRunsOf command hidden number problems reports notes = ⊥
 
 -- told notes grew by these
 abbrev pub AddsNotes : Option (List RunNote) → Option (List RunNote) → List RunNote → Type 0
@@ -78,31 +81,34 @@ AddsNotes None new notes = new ≡ None
 AddsNotes (Some old) new notes = new ≡ Some (old ++ notes)
 
 -- the first of these problems were reported and noted: notes grew by theirs, each once its report was written whole; a
--- run that is done reported and noted all, and wrote nothing else
-pub record AreNoted (command : Command) (problems : List PosedProblem) (status : Status)
+-- run that is done reported and noted all, and wrote these pieces behind their reports, and nothing else
+pub record AreNoted (command : Command) (hidden : Option ℕ) (problems : List PosedProblem) (behind : List (List ℕ))
+    (status : Status)
     (old new : Option (List RunNote)) (held held' : Option (List ℕ)) : Type 0 where
   pub count : ℕ
   pub reports : List (List ℕ)
   pub notes : List RunNote
-  pub runs : AreRunsOf command 1 (take count problems) reports notes
+  pub runs : AreRunsOf command hidden 1 (take count problems) reports notes
   pub noted : AddsNotes old new notes
   pub written : (more : List ℕ) × Appends held held' (concat reports ++ more)
-  pub done : status ≡ Done → (length problems ≤ count) × Appends held held' (concat reports)
+  pub done : status ≡ Done → (length problems ≤ count) × Appends held held' (concat (reports ++ behind))
 
--- nothing was noted, in a run that is not done; or the first of these problems were reported and noted
-abbrev pub IsJobNoted : Command → List PosedProblem → Status → Option (List RunNote) → Option (List RunNote)
-    → Option (List ℕ) → Option (List ℕ) → Type 0
-IsJobNoted command problems status old new held held' =
-    ((new ≡ old) × (status ≡ Done → ⊥)) ⊎ AreNoted command problems status old new held held'
+-- nothing was noted, in a run that is not done; or the first of these problems were reported, under their own grammar,
+-- and noted
+abbrev pub IsJobNoted : Command → List PosedProblem → List (List ℕ) → Status → Option (List RunNote)
+    → Option (List RunNote) → Option (List ℕ) → Option (List ℕ) → Type 0
+IsJobNoted command problems behind status old new held held' =
+    ((new ≡ old) × (status ≡ Done → ⊥)) ⊎ AreNoted command None problems behind status old new held held'
 
--- the words of a job were reported and noted
+-- the words of a job were reported and noted: where line 1 of the bytes is that of the format with nested alternatives,
+-- the reports tell nested trees
 pub record RunsOfJob (words : List (List ℕ)) (bytes : List ℕ) (status : Status) (old new : Option (List RunNote))
     (held held' : Option (List ℕ)) : Type 0 where
   pub job : Job
   pub algebra : ℕ
   pub asked : AsksUnder words bytes job algebra
-  pub noted : AreNoted asked.command (posed_words job.grammar algebra job.words)
-      status old new held held'
+  pub noted : AreNoted asked.command (hidden_in bytes) (posed_words job.grammar algebra job.words)
+      (behind_reports asked.command.mode (length job.words) bytes) status old new held held'
 
 -- the run for the word that is made was noted
 pub record RunOfMade (words : List (List ℕ)) (old new : Option (List RunNote)) : Type 0 where
@@ -113,11 +119,11 @@ pub record RunOfMade (words : List (List ℕ)) (old new : Option (List RunNote))
   pub is_note : IsNoteFor command (made_problem command.seed command.size) note
   pub noted : AddsNotes old new (note ∷ [])
 
--- what a run with this status told its gate: nothing, which is not done then; notes of the words of the job that its
--- input spells; or, where it is done, the note of the word that is made
+-- what a run with this status told its gate: nothing, which is not done then, or checked a certificate; notes of the
+-- words of the job that its input spells; or, where it is done, the note of the word that is made
 abbrev pub ShowsRuns : List (List ℕ) → Option (List ℕ) → Status → Option (List RunNote) → Option (List RunNote)
     → Option (List ℕ) → Option (List ℕ) → Type 0
 ShowsRuns words left status old new held held' =
-    ((new ≡ old) × (status ≡ Done → ⊥))
+    ((new ≡ old) × (status ≡ Done → AsksToVerify words))
     ⊎ (((bytes : List ℕ) × IfSome left (λ told. bytes ≡ told) × RunsOfJob words bytes status old new held held')
     ⊎ ((status ≡ Done) × RunOfMade words old new))

@@ -10,8 +10,8 @@ use crate::fault::{grammar_refusal, pair_refusal, text_refusal};
 use adp_model::laws::well_formed::{names_are_short_and_printable, parts_have_names};
 use adp_model::{Grammar, Sequence, Text};
 use grammar_check::{Checked, check};
-use grammar_text::read_text;
 use lex_product::check_pair;
+use nested_jobs::read_nested;
 use report::Fault;
 use std::alloc::{AllocError, Global};
 use verdicts::Command;
@@ -37,7 +37,7 @@ pub fn checked_job(alloc: Global, command: &Command<'_>, bytes: &[u8]) -> Result
 {
     names_are_short_and_printable();
     parts_have_names();
-    let job = read_text(alloc, bytes).map_err(text_refusal)?;
+    let job = read_nested(alloc, bytes).map_err(text_refusal)?;
     let name = named_algebra(command, &job.grammar);
     let name = Text::new(Vec::from_slice(alloc, name)?);
     let checked = check(alloc, job.grammar, &name).map_err(grammar_refusal)?;

@@ -20,6 +20,7 @@ pub fn status_of(fault: &Fault) -> Status
         Fault::TooLong | Fault::Text(_) => Status::Text,
         Fault::Grammar(_) => Status::Grammar,
         Fault::Limit { .. } => Status::Limit,
+        Fault::Rejected { .. } => Status::Rejected,
         Fault::Memory => Status::Memory,
     }
 }

@@ -1,5 +1,5 @@
 //! The mode `lex`: reports by two algebras in order, which evaluators find by the compiled one.
-ghost use Rattle.std.specs.Prelude.{◌≡◌, ◌≤◌, ℕ, List, Option, length, IfOk, IfSome};
+ghost use Rattle.std.specs.Prelude.{◌≡◌, ◌≤◌, ℕ, List, Option, length, IfOk, IfSome, None};
 ghost use Rattle.adp_io.specs.Causes.{RisesWhere};
 ghost use Rattle.adp_io.specs.Streams.{SameTold};
 ghost use Rattle.adp_model.specs.PosedProblem.{PosedProblem};
@@ -15,7 +15,7 @@ ghost use Rattle.verdicts.specs.SecondAlgebra.{IsAdmissibleWith, IsSecond};
 ghost use Rattle.adp_main.specs.CompiledWords.{IsCompiledFor, ServesItsLength, compiled_word};
 ghost use Rattle.adp_main.specs.Faults.{status_after};
 ghost use Rattle.adp_main.specs.KeptLengths.{HasKept};
-ghost use Rattle.adp_main.specs.Posed.{posed_word};
+ghost use Rattle.verdicts.specs.Posed.{posed_word};
 ghost use Rattle.adp_main.specs.RunNotes.{IsRunOf};
 ghost use Rattle.adp_main.specs.Seconds.{AreJobRows, IsSecondOf};
 ghost use Rattle.adp_main.specs.Writing.{IsWordEnding};
@@ -78,7 +78,7 @@ pub(crate) fn report_word<R: Threads + Sync, K: Sink, G: Gate>(
     ensures kept { IfSome kept.new (ServesItsLength command.now.second job.now.checked) }
     ensures told { SameTold (K.held out.old) (K.held out.new) }
     ensures faults { RisesWhere (K.faults out.old) (K.faults out.new) (status_after result ≡ WriteFault) }
-    ensures ending { IsWordEnding (IsRunOf command.now number
+    ensures ending { IsWordEnding (IsRunOf command.now None number
         (posed_word job.now.checked.grammar job.now.checked.algebra word.now)) result
         (G.runs gate.old) (G.runs gate.new) (K.held out.old) (K.held out.new) }
 {

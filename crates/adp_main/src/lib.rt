@@ -6,6 +6,7 @@ mod answering;
 mod behind_name;
 mod best;
 mod big;
+mod cert;
 mod checking;
 mod evaluating;
 mod fault;
@@ -16,6 +17,7 @@ mod reporting;
 mod serial;
 mod status;
 mod top_call;
+mod verify;
 mod wins;
 mod writing;
 

@@ -10,7 +10,7 @@ ghost use Rattle.lex_product.specs.PairAnswers.{IsPair};
 ghost use Rattle.lex_product.specs.PairLimits.{KeepsPairLimits};
 ghost use Rattle.verdicts.specs.SecondAlgebra.{IsAdmissibleWith};
 ghost use Rattle.adp_main.specs.KeptLengths.{AreKeptLengths, HasKept, HaveKept, IsFound, IsPairBound};
-ghost use Rattle.adp_main.specs.Posed.{posed_word, posed_words};
+ghost use Rattle.verdicts.specs.Posed.{posed_word, posed_words};
 ghost use Rattle.adp_main.specs.Reporting.{AreShort, IsLengthRefusal, IsLimitOf, IsPairLimitRefusal, compile_refusal, limit_refusal};
 ghost use Rattle.adp_main.specs.Seconds.{AreJobRows, AreSecondRows, IsSecondOf};
 

@@ -1,5 +1,5 @@
 //! The mode `serial`: reports by one sweep over the demanded cells.
-ghost use Rattle.std.specs.Prelude.{◌≡◌, IfOk, List, Option};
+ghost use Rattle.std.specs.Prelude.{◌≡◌, IfOk, List, Option, None};
 ghost use Rattle.adp_io.specs.Causes.{RisesWhere};
 ghost use Rattle.adp_io.specs.Streams.{SameTold};
 ghost use Rattle.adp_model.specs.Report.{IsReport};
@@ -29,7 +29,7 @@ pub(crate) fn report_word<K: Sink>(
     ensures told { SameTold (K.held out.old) (K.held out.new) }
     ensures faults { RisesWhere (K.faults out.old) (K.faults out.new) (status_after result ≡ WriteFault) }
     ensures ending { (command : Command) (runs : Option (List RunNote)) → command.mode ≡ Serial
-        → IsWordEnding (IsRunOf command number problem.now) result runs runs (K.held out.old) (K.held out.new) }
+        → IsWordEnding (IsRunOf command None number problem.now) result runs runs (K.held out.old) (K.held out.new) }
 {
     let report = swept_report(alloc, number, problem)?;
     write_report(out, &report)

@@ -19,6 +19,8 @@ pub enum Status {
     Limit,
     /// There was not enough memory.
     Memory,
+    /// A certificate is not right.
+    Rejected,
 }
 
 impl Status {
@@ -37,6 +39,7 @@ impl Status {
             Status::Grammar => 6,
             Status::Limit => 7,
             Status::Memory => 8,
+            Status::Rejected => 10,
         }
     }
 }

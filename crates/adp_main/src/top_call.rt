@@ -9,6 +9,7 @@ use crate::answering::answer_bytes;
 use crate::big::answer_big;
 use crate::fault::{reading_fault, status_of};
 use crate::status::Status;
+use crate::verify::answer_certificate;
 use adp_io::{Sink, Source, read_job, write_whole};
 use command_words::{Usage, read_words};
 use evaluators::Gate;
@@ -17,7 +18,8 @@ use std::alloc::Global;
 use std::thread::Threads;
 use verdicts::laws::{command_is_unique, verdict_is_unique};
 
-/// Reads a job from `input` and writes the reports of its words to `out`, or the line of a fault to `err`. The words
+/// Reads a job from `input` and writes the reports of its words to `out`, or the line of a fault to `err`. Where a
+/// certificate stands before the job, it is checked. The words
 /// are those after the program's name. Evaluators run in threads where there are any; the gate is passed before each
 /// load of a record word of the table that they share, and told of each run whose report was written. Those that follow
 /// a schedule are stepped in this thread, and pass no gate.
@@ -75,5 +77,9 @@ fn answer<R: Threads + Sync, S: Source, K: Sink, G: Gate>(
         Ok(bytes) => bytes,
         Err(fault) => return Err(reading_fault(fault)),
     };
-    answer_bytes(rt, alloc, &command, &bytes, out, gate)
+    if command.verifies() {
+        answer_certificate(alloc, &command, &bytes, out)
+    } else {
+        answer_bytes(rt, alloc, &command, &bytes, out, gate)
+    }
 }

@@ -1,5 +1,5 @@
 //! The mode `wins`: reports by evaluators on threads, with what each of them put into the table.
-ghost use Rattle.std.specs.Prelude.{◌≡◌};
+ghost use Rattle.std.specs.Prelude.{◌≡◌, None};
 ghost use Rattle.adp_io.specs.Causes.{RisesWhere};
 ghost use Rattle.adp_io.specs.Streams.{SameTold};
 ghost use Rattle.verdicts.specs.declared.command.Mode.TheVariants.{Wins};
@@ -30,7 +30,7 @@ pub(crate) fn report_word<R: Threads + Sync, K: Sink, G: Gate>(
     requires mode { command.now.mode ≡ Wins }
     ensures told { SameTold (K.held out.old) (K.held out.new) }
     ensures faults { RisesWhere (K.faults out.old) (K.faults out.new) (status_after result ≡ WriteFault) }
-    ensures ending { IsWordEnding (IsRunOf command.now number problem.now) result
+    ensures ending { IsWordEnding (IsRunOf command.now None number problem.now) result
         (G.runs gate.old) (G.runs gate.new) (K.held out.old) (K.held out.new) }
 {
     let finished = run_evaluators(rt, alloc, command, problem, &*gate)?;

@@ -1,14 +1,16 @@
 //! The reports of words that keep the limits, found and written one by one.
-ghost use Rattle.std.specs.Prelude.{◌≡◌, ◌<◌, ◌≤◌, List, ℕ, IfSome, get_or, length};
+ghost use Rattle.std.specs.Prelude.{◌≡◌, ◌++◌, ◌<◌, ◌≤◌, [], List, ℕ, IfSome, get_or, length, None};
 ghost use Rattle.std.specs.List.{AllByRecursion};
 ghost use Rattle.adp_io.specs.Causes.{RisesWhere};
 ghost use Rattle.adp_io.specs.Streams.{SameTold};
 ghost use Rattle.verdicts.specs.Command.{ReadsJob};
+ghost use Rattle.verdicts.specs.declared.command.Mode.TheVariants.{Verify};
+ghost use Rattle.verdicts.specs.Certificates.{behind_reports};
 ghost use Rattle.verdicts.specs.SecondAlgebra.{IsAdmissibleWith};
 ghost use Rattle.adp_main.specs.CompiledWords.{ServesItsLength};
 ghost use Rattle.adp_main.specs.Faults.{status_after};
 ghost use Rattle.adp_main.specs.KeptLengths.{HasKept, HaveKept};
-ghost use Rattle.adp_main.specs.Posed.{posed_word, posed_words};
+ghost use Rattle.verdicts.specs.Posed.{posed_word, posed_words};
 ghost use Rattle.adp_main.specs.Reporting.{AreReportsOf, AreShort, HasWritten};
 ghost use Rattle.adp_main.specs.RunNotes.{AreNoted, IsRunOf};
 ghost use Rattle.adp_main.specs.Seconds.{AreJobRows, IsSecondOf};
@@ -19,7 +21,7 @@ use crate::admitting::admitted;
 use crate::checking::CheckedJob;
 use crate::lex::Compiled;
 use crate::limits::Judged;
-use crate::{best, lex, replay, serial, wins};
+use crate::{best, cert, lex, replay, serial, wins};
 use adp_io::{Sink, write_whole};
 use adp_model::Text;
 use evaluators::Gate;
@@ -28,6 +30,63 @@ use std::alloc::Global;
 use std::thread::Threads;
 use verdicts::laws::words_have_reports;
 use verdicts::{Command, Mode};
+
+/// Writes the reports of the words in order, and what the command's mode has behind them, of the input as it came.
+pub(crate) fn write_pieces<R: Threads + Sync, K: Sink, G: Gate>(
+    rt: &R,
+    alloc: Global,
+    command: &Command<'_>,
+    job: &CheckedJob,
+    judged: &Judged,
+    input: &[u8],
+    out: &mut K,
+    gate: &mut G,
+) -> Result<(), Fault>
+    requires reads { ReadsJob command.now.mode }
+    requires finds { command.now.mode ≡ Verify → ⊥ }
+    requires few { length job.now.words ≤ 65536 }
+    requires second { IsSecondOf command.now.second job.now.checked job.now.second }
+    requires rows { AreJobRows job.now.checked job.now.second judged.now.rows }
+    requires known { AreShort judged.now.rows.first.longest job.now.words }
+    requires bounds { HaveKept command.now.second job.now.checked.grammar job.now.checked.algebra
+        judged.now.compiled.items job.now.words }
+    requires admissible { AllByRecursion (IsAdmissibleWith command.now.second)
+        (posed_words job.now.checked.grammar job.now.checked.algebra job.now.words) }
+    ensures told { SameTold (K.held out.old) (K.held out.new) }
+    ensures faults { RisesWhere (K.faults out.old) (K.faults out.new) (status_after result ≡ WriteFault) }
+    ensures written { (reports : List (List ℕ))
+        × AreReportsOf command.now 1
+        (posed_words job.now.checked.grammar job.now.checked.algebra job.now.words) reports
+        × HasWritten result (K.held out.old) (K.held out.new)
+        (reports ++ behind_reports command.now.mode (length job.now.words) input.now) }
+    ensures noted { AreNoted command.now None
+        (posed_words job.now.checked.grammar job.now.checked.algebra job.now.words)
+        (behind_reports command.now.mode (length job.now.words) input.now)
+        (status_after result) (G.runs gate.old) (G.runs gate.new) (K.held out.old) (K.held out.new) }
+{
+    write_words(rt, alloc, command, job, judged, out, gate)?;
+    write_behind(alloc, command, job.words.as_slice().len(), input, out)
+}
+
+/// Writes what the command's mode has behind the reports of so many words.
+fn write_behind<K: Sink>(
+    alloc: Global,
+    command: &Command<'_>,
+    words: usize,
+    input: &[u8],
+    out: &mut K,
+) -> Result<(), Fault>
+    ensures told { SameTold (K.held out.old) (K.held out.new) }
+    ensures faults { RisesWhere (K.faults out.old) (K.faults out.new) (status_after result ≡ WriteFault) }
+    ensures written { HasWritten result (K.held out.old) (K.held out.new)
+        (behind_reports command.now.mode words input.now) }
+{
+    if command.certifies() {
+        cert::write_input(alloc, words, input, out)
+    } else {
+        Ok(())
+    }
+}
 
 /// Writes the reports of the words in order, the first of which has number 1, each in the command's mode. Each word
 /// keeps the limits, and is admitted when its turn comes, so that there is one problem at a time.
@@ -41,6 +100,7 @@ pub(crate) fn write_words<R: Threads + Sync, K: Sink, G: Gate>(
     gate: &mut G,
 ) -> Result<(), Fault>
     requires reads { ReadsJob command.now.mode }
+    requires finds { command.now.mode ≡ Verify → ⊥ }
     requires few { length job.now.words ≤ 65536 }
     requires second { IsSecondOf command.now.second job.now.checked job.now.second }
     requires rows { AreJobRows job.now.checked job.now.second judged.now.rows }
@@ -55,8 +115,8 @@ pub(crate) fn write_words<R: Threads + Sync, K: Sink, G: Gate>(
         × AreReportsOf command.now 1
         (posed_words job.now.checked.grammar job.now.checked.algebra job.now.words) reports
         × HasWritten result (K.held out.old) (K.held out.new) reports }
-    ensures noted { AreNoted command.now
-        (posed_words job.now.checked.grammar job.now.checked.algebra job.now.words)
+    ensures noted { AreNoted command.now None
+        (posed_words job.now.checked.grammar job.now.checked.algebra job.now.words) []
         (status_after result) (G.runs gate.old) (G.runs gate.new) (K.held out.old) (K.held out.new) }
 {
     command.in_range();
@@ -117,6 +177,7 @@ fn write_word<R: Threads + Sync, K: Sink, G: Gate>(
     gate: &mut G,
 ) -> Result<(), Fault>
     requires reads { ReadsJob command.now.mode }
+    requires finds { command.now.mode ≡ Verify → ⊥ }
     requires second { IsSecondOf command.now.second job.now.checked job.now.second }
     requires rows { AreJobRows job.now.checked job.now.second judged.now.rows }
     requires known { length word.now ≤ judged.now.rows.first.longest }
@@ -128,7 +189,7 @@ fn write_word<R: Threads + Sync, K: Sink, G: Gate>(
     ensures kept { IfSome kept.new (ServesItsLength command.now.second job.now.checked) }
     ensures told { SameTold (K.held out.old) (K.held out.new) }
     ensures faults { RisesWhere (K.faults out.old) (K.faults out.new) (status_after result ≡ WriteFault) }
-    ensures ending { IsWordEnding (IsRunOf command.now number
+    ensures ending { IsWordEnding (IsRunOf command.now None number
         (posed_word job.now.checked.grammar job.now.checked.algebra word.now)) result
         (G.runs gate.old) (G.runs gate.new) (K.held out.old) (K.held out.new) }
 {
@@ -150,12 +211,16 @@ fn write_word<R: Threads + Sync, K: Sink, G: Gate>(
             let problem = admitted(&job.checked, rows, word);
             replay::report_word(alloc, command, number, &problem, out, gate)
         },
+        Mode::Cert => {
+            let problem = admitted(&job.checked, rows, word);
+            cert::report_word(rt, alloc, command, number, &problem, out, gate)
+        },
         Mode::Lex => {
             lex::report_word(
                 rt, alloc, command, number, job, judged, word, kept, out, gate,
             )
         },
-        Mode::Big => unreachable!(),
+        Mode::Verify | Mode::Big => unreachable!(),
     }
 }
 

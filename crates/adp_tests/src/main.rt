@@ -11,7 +11,7 @@ use anyhow::{Context, Result};
 use std::fs;
 
 // The files of cases, in order.
-const FILES: [&str; 11] = [
+const FILES: [&str; 14] = [
     "first.cases",
     "commands.cases",
     "texts.cases",
@@ -21,8 +21,11 @@ const FILES: [&str; 11] = [
     "workers.cases",
     "replay.cases",
     "lex.cases",
+    "certificates.cases",
     "wide.cases",
     "sizes.cases",
+    "nested.cases",
+    "nested_certificates.cases",
 ];
 
 fn main(rt: HostRuntime) -> Result<()> {

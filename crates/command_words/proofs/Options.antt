@@ -5,7 +5,7 @@ use Rattle.std.proofs.lemmas.List.Elements.{All-nil, All-cons, All-head, All-tai
 use lib.Pointwise.{pointwise}
 use Rattle.adp_model.specs.WellFormed.{is_name}
 use Rattle.verdicts.specs.declared.command.Mode.{Mode}
-use Rattle.verdicts.specs.declared.command.Mode.TheVariants.{Best, Serial, Wins, Replay, Lex, Big}
+use Rattle.verdicts.specs.declared.command.Mode.TheVariants.{Best, Serial, Wins, Replay, Lex, Cert, Verify, Big}
 use Rattle.verdicts.specs.Command.{Setting, Algebra, Then, Workers, Seed, Schedule, Size, Allows, AreSettings, AreSetOnce, IsValue, IsCommand, HasCommand, algebra_set, second_set, workers_set, seed_set, schedule_set, size_set, mode_word, option_word}
 use Rattle.verdicts.specs.ScheduleText.{machines_of, is_schedule}
 use Rattle.command_words.specs.OptionValues.{OptionValues}
@@ -362,21 +362,26 @@ module _ (option value : List ℕ) (words : List (List ℕ)) (before : OptionVal
 
 -- ---- what a mode allows and needs
 
--- the words of two modes differ at their third letter
+-- the words of two modes differ at their first letter or at their third
 mode_same : (a b : Mode) → mode_word a ≡ mode_word b → a ≡ b
 mode_same Best Best e = refl
 mode_same Serial Serial e = refl
 mode_same Wins Wins e = refl
 mode_same Replay Replay e = refl
 mode_same Lex Lex e = refl
+mode_same Cert Cert e = refl
+mode_same Verify Verify e = refl
 mode_same Big Big e = refl
-mode_same a b e = absurd (omega (arith, ap (λ (w : List ℕ). get_or w 2 0) e))
+mode_same a b e =
+    absurd (omega (arith, ap (λ (w : List ℕ). get_or w 0 0) e, ap (λ (w : List ℕ). get_or w 2 0) e))
 
 module _ (mode : Mode) where
   -- each option is one that is not set, or that the mode allows
   record CanBeSet (settings : List Setting) : Type 0 where
     algebra : IsNone (algebra_set settings) ⊎ (mode ≡ Big → ⊥)
     second : IsNone (second_set settings) ⊎ (mode ≡ Lex)
+    workers : IsNone (workers_found settings) ⊎ (mode ≡ Verify → ⊥)
+    seed : IsNone (seed_found settings) ⊎ (mode ≡ Verify → ⊥)
     schedule : IsNone (schedule_found settings) ⊎ (mode ≡ Replay)
     size : IsNone (size_found settings) ⊎ (mode ≡ Big)
 
@@ -386,6 +391,8 @@ module _ (mode : Mode) where
       All-cons (Allows mode) (Algebra name) settings (allowed can.algebra) (all_allowed settings (record {
         algebra = inr (allowed can.algebra);
         second = can.second;
+        workers = can.workers;
+        seed = can.seed;
         schedule = can.schedule;
         size = can.size;
       }))
@@ -397,6 +404,8 @@ module _ (mode : Mode) where
       All-cons (Allows mode) (Then name) settings (allowed can.second) (all_allowed settings (record {
         algebra = can.algebra;
         second = inr (allowed can.second);
+        workers = can.workers;
+        seed = can.seed;
         schedule = can.schedule;
         size = can.size;
       }))
@@ -405,23 +414,37 @@ module _ (mode : Mode) where
       allowed (inl none) = absurd cc
       allowed (inr lex) = lex
   all_allowed (Workers workers ∷ settings) can =
-      All-cons (Allows mode) (Workers workers) settings tt (all_allowed settings (record {
+      All-cons (Allows mode) (Workers workers) settings (allowed can.workers) (all_allowed settings (record {
         algebra = can.algebra;
         second = can.second;
+        workers = inr (allowed can.workers);
+        seed = can.seed;
         schedule = can.schedule;
         size = can.size;
       }))
+    where
+      allowed : IsNone (Some workers) ⊎ (mode ≡ Verify → ⊥) → mode ≡ Verify → ⊥
+      allowed (inl none) = absurd cc
+      allowed (inr other) = other
   all_allowed (Seed seed ∷ settings) can =
-      All-cons (Allows mode) (Seed seed) settings tt (all_allowed settings (record {
+      All-cons (Allows mode) (Seed seed) settings (allowed can.seed) (all_allowed settings (record {
         algebra = can.algebra;
         second = can.second;
+        workers = can.workers;
+        seed = inr (allowed can.seed);
         schedule = can.schedule;
         size = can.size;
       }))
+    where
+      allowed : IsNone (Some seed) ⊎ (mode ≡ Verify → ⊥) → mode ≡ Verify → ⊥
+      allowed (inl none) = absurd cc
+      allowed (inr other) = other
   all_allowed (Schedule machines ∷ settings) can =
       All-cons (Allows mode) (Schedule machines) settings (allowed can.schedule) (all_allowed settings (record {
         algebra = can.algebra;
         second = can.second;
+        workers = can.workers;
+        seed = can.seed;
         schedule = inr (allowed can.schedule);
         size = can.size;
       }))
@@ -433,6 +456,8 @@ module _ (mode : Mode) where
       All-cons (Allows mode) (Size size) settings (allowed can.size) (all_allowed settings (record {
         algebra = can.algebra;
         second = can.second;
+        workers = can.workers;
+        seed = can.seed;
         schedule = can.schedule;
         size = inr (allowed can.size);
       }))
@@ -455,6 +480,22 @@ module _ (mode : Mode) where
       absurd (other (All-head (Allows mode) (Then name) settings all))
   never_second (setting ∷ settings) other all =
       never_second settings other (All-tail (Allows mode) setting settings all)
+
+  never_staffed : (settings : List Setting) → mode ≡ Verify → All (Allows mode) settings
+      → IsNone (workers_found settings)
+  never_staffed [] verify all = refl
+  never_staffed (Workers workers ∷ settings) verify all =
+      absurd (All-head (Allows mode) (Workers workers) settings all verify)
+  never_staffed (setting ∷ settings) verify all =
+      never_staffed settings verify (All-tail (Allows mode) setting settings all)
+
+  never_seeded : (settings : List Setting) → mode ≡ Verify → All (Allows mode) settings
+      → IsNone (seed_found settings)
+  never_seeded [] verify all = refl
+  never_seeded (Seed seed ∷ settings) verify all =
+      absurd (All-head (Allows mode) (Seed seed) settings all verify)
+  never_seeded (setting ∷ settings) verify all =
+      never_seeded settings verify (All-tail (Allows mode) setting settings all)
 
   never_scheduled : (settings : List Setting) → (mode ≡ Replay → ⊥) → All (Allows mode) settings
       → IsNone (schedule_found settings)
@@ -527,21 +568,30 @@ set_second (option ∷ value ∷ words) (s ∷ ss) set = set_second words ss set
 -- what was read suits the mode exactly where its options are allowed, and those that it needs are set
 module _ (words : List (List ℕ)) (state : OptionValues) (read : AreRead words state) where
   allowed_by : (mode : Mode) → IsNone state.algebra ⊎ (mode ≡ Big → ⊥) → IsNone state.second ⊎ (mode ≡ Lex)
+      → IsNone state.workers ⊎ (mode ≡ Verify → ⊥) → IsNone state.seed ⊎ (mode ≡ Verify → ⊥)
       → IsNone state.schedule ⊎ (mode ≡ Replay) → IsNone state.size ⊎ (mode ≡ Big)
       → All (Allows mode) read.settings
-  allowed_by mode named seconded scheduled sized =
+  allowed_by mode named seconded staffed seeded scheduled sized =
       all_allowed mode read.settings (record {
         algebra = subst (λ o. IsNone o ⊎ (mode ≡ Big → ⊥)) read.algebra named;
         second = subst (λ o. IsNone o ⊎ (mode ≡ Lex)) read.second seconded;
+        workers = subst (λ o. IsNone o ⊎ (mode ≡ Verify → ⊥)) read.workers staffed;
+        seed = subst (λ o. IsNone o ⊎ (mode ≡ Verify → ⊥)) read.seed seeded;
         schedule = subst (λ o. IsNone o ⊎ (mode ≡ Replay)) read.schedule scheduled;
         size = subst (λ o. IsNone o ⊎ (mode ≡ Big)) read.size sized;
       })
 
   suited_allowed : (mode : Mode) → Suits mode state → All (Allows mode) read.settings
-  suited_allowed Replay suits = allowed_by Replay (inr (λ e. cc)) (inl suits.0) (inr refl) (inl suits.2)
-  suited_allowed Lex suits = allowed_by Lex (inr (λ e. cc)) (inr refl) (inl suits.1) (inl suits.2)
-  suited_allowed Big suits = allowed_by Big (inl suits.0) (inl suits.1) (inl suits.2) (inr refl)
-  suited_allowed mode suits = allowed_by mode (inr (λ e. cc)) (inl suits.0) (inl suits.1) (inl suits.2)
+  suited_allowed Replay suits =
+      allowed_by Replay (inr (λ e. cc)) (inl suits.0) (inr (λ e. cc)) (inr (λ e. cc)) (inr refl) (inl suits.2)
+  suited_allowed Lex suits =
+      allowed_by Lex (inr (λ e. cc)) (inr refl) (inr (λ e. cc)) (inr (λ e. cc)) (inl suits.1) (inl suits.2)
+  suited_allowed Verify suits =
+      allowed_by Verify (inr (λ e. cc)) (inl suits.0) (inl suits.1) (inl suits.2) (inl suits.3) (inl suits.4)
+  suited_allowed Big suits =
+      allowed_by Big (inl suits.0) (inl suits.1) (inr (λ e. cc)) (inr (λ e. cc)) (inl suits.2) (inr refl)
+  suited_allowed mode suits =
+      allowed_by mode (inr (λ e. cc)) (inl suits.0) (inr (λ e. cc)) (inr (λ e. cc)) (inl suits.1) (inl suits.2)
 
   suited_second : (mode : Mode) → Suits mode state → mode ≡ Lex → IsSome state.second
   suited_second Lex suits e = suits.0
@@ -565,6 +615,13 @@ module _ (words : List (List ℕ)) (state : OptionValues) (read : AreRead words 
     unseconded : (mode ≡ Lex → ⊥) → IsNone state.second
     unseconded other = subst (λ o. IsNone o) (sym read.second) (never_second mode read.settings other allowed)
 
+    unstaffed : mode ≡ Verify → IsNone state.workers
+    unstaffed verify =
+        subst (λ o. IsNone o) (sym read.workers) (never_staffed mode read.settings verify allowed)
+
+    unseeded : mode ≡ Verify → IsNone state.seed
+    unseeded verify = subst (λ o. IsNone o) (sym read.seed) (never_seeded mode read.settings verify allowed)
+
     unscheduled : (mode ≡ Replay → ⊥) → IsNone state.schedule
     unscheduled other =
         subst (λ o. IsNone o) (sym read.schedule) (never_scheduled mode read.settings other allowed)
@@ -582,6 +639,13 @@ module _ (words : List (List ℕ)) (state : OptionValues) (read : AreRead words 
   )
   suited Lex allowed there scheduled sized =
       (there refl, unscheduled Lex allowed (λ e. cc), unsized Lex allowed (λ e. cc))
+  suited Verify allowed there scheduled sized = (
+    unseconded Verify allowed (λ e. cc),
+    unstaffed Verify allowed refl,
+    unseeded Verify allowed refl,
+    unscheduled Verify allowed (λ e. cc),
+    unsized Verify allowed (λ e. cc),
+  )
   suited Big allowed there scheduled sized = (
     unnamed Big allowed refl,
     unseconded Big allowed (λ e. cc),

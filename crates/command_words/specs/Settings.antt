@@ -2,7 +2,7 @@
 use Rattle.std.specs.Prelude.{◌≡◌, ℕ, ◌^◌, ◌<◌, ◌≤◌, List, Some, None, IsNone, IsSome, IsTrue}
 use Rattle.adp_model.specs.WellFormed.{is_name}
 use Rattle.verdicts.specs.declared.command.Mode.{Mode}
-use Rattle.verdicts.specs.declared.command.Mode.TheVariants.{Replay, Lex, Big}
+use Rattle.verdicts.specs.declared.command.Mode.TheVariants.{Replay, Lex, Verify, Big}
 use Rattle.verdicts.specs.Command.{IsNumberWord, Setting, Algebra, Then, Workers, Seed, Schedule, Size, greatest_size, option_word}
 use Rattle.verdicts.specs.ScheduleText.{is_schedule, machines_of}
 use Rattle.command_words.specs.OptionValues.{OptionValues}
@@ -67,5 +67,7 @@ Adds before option value (Size size) after =
 abbrev pub Suits : Mode → OptionValues → Type 0
 Suits Replay set = IsNone set.second × IsSome set.schedule × IsNone set.size
 Suits Lex set = IsSome set.second × IsNone set.schedule × IsNone set.size
+Suits Verify set =
+    IsNone set.second × IsNone set.workers × IsNone set.seed × IsNone set.schedule × IsNone set.size
 Suits Big set = IsNone set.algebra × IsNone set.second × IsNone set.schedule × IsSome set.size
 Suits mode set = IsNone set.second × IsNone set.schedule × IsNone set.size

@@ -71,6 +71,8 @@ fn read_mode(word: &str) -> Result<Mode, Usage>
         "wins" => Ok(Mode::Wins),
         "replay" => Ok(Mode::Replay),
         "lex" => Ok(Mode::Lex),
+        "cert" => Ok(Mode::Cert),
+        "verify" => Ok(Mode::Verify),
         "big" => Ok(Mode::Big),
         _ => Err(Usage),
     }
@@ -200,13 +202,20 @@ impl<'w> Settings<'w> {
         ensures { IsTrue result ↔ Suits mode self.now }
     {
         match mode {
-            Mode::Best | Mode::Serial | Mode::Wins => {
+            Mode::Best | Mode::Serial | Mode::Wins | Mode::Cert => {
                 self.second.is_none() && self.schedule.is_none() && self.size.is_none()
             }
             Mode::Replay => {
                 self.second.is_none() && self.schedule.is_some() && self.size.is_none()
             }
             Mode::Lex => self.second.is_some() && self.schedule.is_none() && self.size.is_none(),
+            Mode::Verify => {
+                self.second.is_none()
+                    && self.workers.is_none()
+                    && self.seed.is_none()
+                    && self.schedule.is_none()
+                    && self.size.is_none()
+            }
             Mode::Big => {
                 self.algebra.is_none()
                     && self.second.is_none()

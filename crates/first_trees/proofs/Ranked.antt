@@ -1,5 +1,5 @@
 -- Ranked splits of a cell are the entries of its trees, and the first of them are the entries of its first trees.
-use Rattle.std.proofs.Common.{◌≡◌, ℕ, zero, suc, ◌-◌, ◌<◌, ◌≤◌, ℤ, ◌⊎◌, inl, inr, ◌↔◌, Some, List, [], ◌∷◌, ◌++◌, length, take, refl, sym, ap, ap₂, subst, ◌∙◌, arith}
+use Rattle.std.proofs.Common.{◌≡◌, ℕ, zero, suc, ◌-◌, ◌<◌, ◌≤◌, ℤ, ◌⊎◌, inl, inr, ◌↔◌, Some, List, [], ◌∷◌, ◌++◌, length, take, map, nat_abs, refl, sym, ap, ap₂, subst, ◌∙◌, arith}
 use Rattle.std.specs.List.{AllByRecursion, AllZip}
 use Rattle.adp_model.specs.declared.grammar.Arg.{Arg}
 use Rattle.adp_model.specs.declared.grammar.Arg.TheVariants.{Rule}
@@ -7,11 +7,11 @@ use Rattle.adp_model.specs.declared.cell.Cell.{Cell}
 use Rattle.adp_model.specs.PosedProblem.{PosedProblem, IsSpan}
 use Rattle.adp_model.specs.Parts.{algebra_of, alternatives_of, arguments_of, term_of}
 use Rattle.adp_model.specs.Tokens.{letters_between, token_value}
-use Rattle.adp_model.specs.Terms.{term_value}
+use Rattle.adp_model.specs.Terms.{magnitude, term_value}
 use Rattle.adp_model.specs.Sizes.{IsWithinSizes}
 use Rattle.adp_model.specs.Tree.{Tree, Leaf, Node, Trees, Nil, Cons, end_of, ends_of}
 use Rattle.adp_model.specs.Derivation.{Derives, DeriveArguments}
-use Rattle.adp_model.specs.Scores.{score_of, values_of}
+use Rattle.adp_model.specs.Scores.{root_magnitude, score_of, values_of}
 use Rattle.adp_model.specs.Preference.{cuts_of, IsBefore}
 use Rattle.adp_model.specs.Answers.{choice_of}
 use Rattle.adp_model.specs.Splits.{place, placed, FitsSpan, IsViable}
@@ -177,8 +177,15 @@ module _ (p : PosedProblem) (laid : ArePlaced p) (sound : (cell : Cell) (tree : 
           ),
         )
 
-    ranked_tree : (entry : Entry) → IsRankedSplit p k cell entry → HasTree p k cell entry
-    ranked_tree entry split =
+    -- the children of a ranked split, with their ends
+    abbrev SplitChildren : (entry : Entry) → IsRankedSplit p k cell entry → Type 0
+    SplitChildren entry split =
+        (ends : List ℕ)
+        × AreEnds cell.from cell.to (length (arguments_of p.grammar cell.rule entry.choice.alt)) entry.choice.cuts ends
+        × HaveChildren p k (arguments_of p.grammar cell.rule entry.choice.alt) cell.from cell.to ends entry.ranks split.values
+
+    split_children : (entry : Entry) (split : IsRankedSplit p k cell entry) → SplitChildren entry split
+    split_children entry split =
         let arguments : List Arg = arguments_of p.grammar cell.rule entry.choice.alt in
         let viable = split.viable in
         let found =
@@ -192,8 +199,22 @@ module _ (p : PosedProblem) (laid : ArePlaced p) (sound : (cell : Cell) (tree : 
         have_children p k arguments cell.from ends entry.ranks split.values are.count_is
         (subst (AllByRecursion (FitsSpan p)) e viable.fits)
         (subst (λ spans. AreRankedValues p k spans entry.ranks split.values) e split.are_values) in
-        tree_of_children entry ends split.values viable are
-        (subst (λ x. HaveChildren p k arguments cell.from x ends entry.ranks split.values) are.last have) split.scored
+        (ends, are, subst (λ x. HaveChildren p k arguments cell.from x ends entry.ranks split.values) are.last have)
+
+    ranked_tree : (entry : Entry) → IsRankedSplit p k cell entry → HasTree p k cell entry
+    ranked_tree entry split =
+        let found = split_children entry split in
+        tree_of_children entry found.0 split.values split.viable found.1 found.2 split.scored
+
+    -- the term of a ranked split keeps each bound that the root of each derived tree keeps
+    pub splits_are_bounded : (number : ℕ) → ((tree : Tree) → Derives p cell tree → root_magnitude p tree ≤ number)
+        → (entry : Entry) (split : IsRankedSplit p k cell entry)
+        → magnitude (term_of p cell.rule entry.choice.alt) (map nat_abs split.values) ≤ number
+    splits_are_bounded number bounded entry split =
+        let found = split_children entry split in
+        let tree : Tree = Node cell.rule entry.choice.alt cell.from cell.to found.2.children in
+        subst (λ values. magnitude (term_of p cell.rule entry.choice.alt) (map nat_abs values) ≤ number) found.2.values_are
+        (bounded tree (refl, refl, refl, span, split.viable.in_range, found.2.derived, split.viable.allowed))
 
     pub splits_are_entries : (entry : Entry) → IsRankedSplit p k cell entry ↔ HasTree p k cell entry
     splits_are_entries entry = (ranked_tree entry, λ found. tree_ranked entry found.0 found.1 found.2)

@@ -1,23 +1,26 @@
 //! What follows from the definitions. Each law is the contract of a function that does nothing.
 
-ghost use Rattle.std.specs.Prelude.{◌≡◌, ◌⊎◌, ◌↔◌, ◌∷◌, [], ℕ, ◌<◌, ◌≤◌, IsTrue, Option, List, take};
+ghost use Rattle.std.specs.Prelude.{◌≡◌, ◌⊎◌, ◌↔◌, ◌∷◌, [], ℕ, ◌<◌, ◌≤◌, IsTrue, Option, List, length, map, nat_abs, take};
 ghost use Rattle.std.specs.List.{AllZip};
 ghost use Rattle.adp_model.specs.declared.grammar.Goal.{Goal};
 ghost use Rattle.adp_model.specs.declared.cell.Cell.{Cell};
 ghost use Rattle.adp_model.specs.PosedProblem.{IsSpan, PosedProblem};
-ghost use Rattle.adp_model.specs.Parts.{algebra_of};
+ghost use Rattle.adp_model.specs.Parts.{algebra_of, term_of};
 ghost use Rattle.adp_model.specs.Tree.{Tree};
 ghost use Rattle.adp_model.specs.Derivation.{Derives};
 ghost use Rattle.adp_model.specs.Preference.{IsBefore, IsPreferred};
 ghost use Rattle.adp_model.specs.Answers.{HasNoTree};
 ghost use Rattle.adp_model.specs.Checks.{IsChecked};
-ghost use Rattle.adp_model.specs.ProblemFields.{IsAdmissible};
+ghost use Rattle.adp_model.specs.ProblemFields.{IsAdmissible, most_letters};
+ghost use Rattle.adp_model.specs.Bounds.{IsScoreBound};
+ghost use Rattle.adp_model.specs.Terms.{magnitude};
 ghost use Rattle.adp_model.specs.WellFormed.{is_well_formed};
 ghost use Rattle.first_trees.specs.FirstTrees.{AreFirst, HasPlace};
 ghost use Rattle.first_trees.specs.ListReport.{IsListReport, IsPreferredReport};
 ghost use Rattle.first_trees.specs.Entries.{AreEntries, choices_up_to, Entry, EntryPrecedes, IsEntry};
 ghost use Rattle.first_trees.specs.RankedSplits.{AreFirstSplits, IsRankedSplit};
 
+use adp_model::laws::bounds::words_keep_their_score_bound;
 use adp_model::laws::derivation::children_are_placed;
 use adp_model::laws::heights::heights_fall;
 use adp_model::laws::order::preference_is_a_strict_total_order;
@@ -125,6 +128,34 @@ pub fn lists_are_the_first_ranked_splits()
     cells_have_first_trees();
     entries_order_trees();
     children_of_listed_trees_are_listed();
+}
+
+/// At the values of a ranked split, the magnitude of the alternative's term is within the word's score bound.
+pub fn ranked_splits_keep_the_score_bound()
+    ensures { (p : PosedProblem) (least : List ℕ) (greatest : List (Option ℕ)) (ranks : List ℕ)
+        → IsChecked p.grammar p.algebra least greatest ranks → length p.word ≤ most_letters
+        → (number : ℕ) → IsScoreBound p.grammar p.algebra (length p.word) number → (k : ℕ) (cell : Cell)
+        → IsSpan p.word cell.from cell.to → (entry : Entry) (split : IsRankedSplit p k cell entry)
+        → magnitude (term_of p cell.rule entry.choice.alt) (map nat_abs split.values) ≤ number }
+{
+    children_are_placed();
+    derived_lengths_are_within_sizes();
+    alternatives_fit();
+    arguments_are_few_and_known();
+    words_keep_their_score_bound();
+}
+
+/// Of two ranked splits of a cell that differ one comes before the other.
+pub fn ranked_splits_are_in_total_order()
+    ensures { (p : PosedProblem) (least : List ℕ) (greatest : List (Option ℕ)) (ranks : List ℕ)
+        → IsChecked p.grammar p.algebra least greatest ranks → (k : ℕ) (cell : Cell)
+        → IsSpan p.word cell.from cell.to → (first second : Entry) → IsRankedSplit p k cell first
+        → IsRankedSplit p k cell second → (first ≡ second)
+        ⊎ (EntryPrecedes (algebra_of p).goal first second ⊎ EntryPrecedes (algebra_of p).goal second first) }
+{
+    preference_is_a_strict_total_order();
+    entries_order_trees();
+    lists_are_the_first_ranked_splits();
 }
 
 /// Of two ranked splits of a cell with the same alternative and the same cuts, one whose ranks are no greater is not

@@ -10,4 +10,4 @@ mod plain;
 mod replaced;
 mod shape;
 
-pub use plain::{Plain, plain_text};
+pub use plain::{Plain, is_nested_text, plain_text};

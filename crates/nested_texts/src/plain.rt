@@ -1,7 +1,7 @@
 // The plain text of a text.
 
 ghost use Rattle.std.specs.Prelude.{◌≡◌, ◌+◌, ◌<◌, ◌≤◌, ◌^◌, length, IfOk, MatchOption};
-ghost use Rattle.job_texts.specs.JobLines.{job_lines};
+ghost use Rattle.job_texts.specs.JobLines.{job_lines, line_at};
 ghost use Rattle.nested_texts.specs.IsPlain.{IsPlain};
 ghost use Rattle.nested_texts.specs.PlainTexts.{is_third_format, kept_lines};
 ghost use Rattle.nested_texts.specs.Seen.{AddsLines, BeginsHeader, EndsHeader, IsItself, IsPlainBehind, ReadsHeader};
@@ -43,6 +43,16 @@ pub fn plain_text(alloc: Global, bytes: &[u8]) -> Result<Plain, AllocError>
         return itself(alloc, bytes);
     }
     without_nested(alloc, behind)
+}
+
+/// Whether line 1 of a text is `adp 3`. Any other text is its own plain text.
+pub fn is_nested_text(bytes: &[u8]) -> bool
+    ensures { result ≡ is_third_format (line_at (job_lines bytes.now) 1) }
+{
+    match first_line(bytes) {
+        Some((line, _)) => is_third_format(line),
+        None => false,
+    }
 }
 
 fn is_third_format(line: &[u8]) -> bool

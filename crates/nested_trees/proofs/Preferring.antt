@@ -1,5 +1,5 @@
 -- Erasing keeps which tree is preferred, whether there is one, and so the reports.
-use Rattle.std.proofs.Common.{◌≡◌, ℕ, inl, inr, ◌↔◌, List, ◌++◌, codes, sym, ap, ap₂, subst, ◌∙◌}
+use Rattle.std.proofs.Common.{◌≡◌, Option, ℕ, inl, inr, ◌↔◌, List, ◌++◌, codes, sym, ap, ap₂, subst, ◌∙◌}
 use Rattle.std.specs.Fmt.{signed_decimal}
 use Rattle.adp_model.specs.declared.grammar.Arg.TheVariants.{Rule}
 use Rattle.adp_model.specs.declared.grammar.Grammar.{Grammar}
@@ -10,7 +10,7 @@ use Rattle.adp_model.specs.Derivation.{Derives}
 use Rattle.adp_model.specs.Preference.{IsPreferred}
 use Rattle.adp_model.specs.Answers.{HasNoTree}
 use Rattle.adp_model.specs.Report.{line, tree_lines, IsAnswerText, IsReport, IsWinsReport}
-use Rattle.adp_model.specs.ProblemFields.{IsAdmissible}
+use Rattle.adp_model.specs.Checks.{IsChecked}
 use Rattle.nested_trees.specs.HiddenRules.{AreNestedAlternatives}
 use Rattle.nested_trees.specs.Patterns.{Plain, NestedProblem, HidesRules}
 use Rattle.nested_trees.specs.NestedTree.{NestedTree}
@@ -99,13 +99,15 @@ module _ (q : NestedProblem) (hidden : ℕ) (alone : AreNestedAlternatives q.pla
   answer-erased text = (to_nested text, to_plain text)
 
 -- a checked problem under a grammar with nested alternatives
-module _ (p : PosedProblem) (can : IsAdmissible p) (hidden : ℕ) (alone : AreNestedAlternatives p.grammar hidden) where
+module _ (p : PosedProblem) (least : List ℕ) (greatest : List (Option ℕ)) (ranks : List ℕ)
+    (checked : IsChecked p.grammar p.algebra least greatest ranks) (hidden : ℕ)
+    (alone : AreNestedAlternatives p.grammar hidden) where
   pub report_to_nested : (number : ℕ) (report : List ℕ) → IsReport number p report
       → IsNestedReport number p hidden report
   report_to_nested number report (answer, count, told, counted, is) =
       let found =
       nested_there p hidden alone
-      (productive-checked p.grammar p.algebra can.least can.greatest can.ranks can.checked hidden) in (
+      (productive-checked p.grammar p.algebra least greatest ranks checked hidden) in (
         found.0,
         found.1,
         answer,

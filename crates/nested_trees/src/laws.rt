@@ -98,14 +98,17 @@ pub fn alternatives_have_one_pattern()
     ensures none_hidden { (grammar : Grammar) → AreNestedAlternatives grammar 0 }
 {}
 
-/// The report of the preferred nested tree is that of the preferred tree of the plain grammar, with wins and without.
+/// The report of the preferred nested tree is that of the preferred tree of the plain grammar, with wins and without,
+/// where the grammar has sizes and ranks.
 pub fn nested_reports_are_the_plain_ones()
     ensures answer { (q : NestedProblem) (hidden : ℕ) → AreNestedAlternatives q.plain.grammar hidden
         → HidesRules q hidden → (text : List ℕ) → IsAnswerText q.plain text ↔ IsNestedAnswerText q text }
-    ensures report { (number : ℕ) (p : PosedProblem) → IsAdmissible p → (hidden : ℕ)
+    ensures report { (number : ℕ) (p : PosedProblem) (least : List ℕ) (greatest : List (Option ℕ)) (ranks : List ℕ)
+        → IsChecked p.grammar p.algebra least greatest ranks → (hidden : ℕ)
         → AreNestedAlternatives p.grammar hidden → (report : List ℕ)
         → IsReport number p report ↔ IsNestedReport number p hidden report }
-    ensures wins { (number : ℕ) (p : PosedProblem) → IsAdmissible p → (hidden : ℕ)
+    ensures wins { (number : ℕ) (p : PosedProblem) (least : List ℕ) (greatest : List (Option ℕ)) (ranks : List ℕ)
+        → IsChecked p.grammar p.algebra least greatest ranks → (hidden : ℕ)
         → AreNestedAlternatives p.grammar hidden → (wins report : List ℕ)
         → IsWinsReport number p wins report ↔ IsNestedWinsReport number p hidden wins report }
 {}

@@ -4,7 +4,7 @@ use Rattle.std.specs.Fmt.{decimal}
 use Rattle.adp_model.specs.declared.fault.TextFault.{TextFault}
 use Rattle.adp_model.specs.Report.{line}
 use Rattle.report.specs.declared.fault.Fault.{Fault}
-use Rattle.report.specs.declared.fault.Fault.TheVariants.{Usage, Read, Write, TooLong, Text, Grammar, Limit, Memory}
+use Rattle.report.specs.declared.fault.Fault.TheVariants.{Usage, Read, Write, TooLong, Text, Grammar, Limit, Rejected, Memory}
 
 -- the count of a fault of kind 16, which passes a limit
 abbrev pub count_text : TextFault → List ℕ
@@ -22,6 +22,7 @@ fault_line (Grammar fault) = line (codes "fault grammar kind " ++ decimal fault.
 fault_line (Limit word fault) =
     line (codes "fault limit word " ++ decimal word ++ codes " kind " ++ decimal fault.kind ++ codes " number "
     ++ decimal fault.number)
+fault_line (Rejected number) = line (codes "fault certificate line " ++ decimal number)
 fault_line Memory = line (codes "fault memory")
 
 -- a name in the fault has at most 32 bytes
@@ -33,4 +34,5 @@ HasShortName TooLong = Unit {0}
 HasShortName (Text fault) = Unit {0}
 HasShortName (Grammar fault) = length fault.name ≤ 32
 HasShortName (Limit word fault) = Unit {0}
+HasShortName (Rejected number) = Unit {0}
 HasShortName Memory = Unit {0}

@@ -22,6 +22,8 @@ pub enum Fault {
     Grammar(GrammarFault),
     /// The word with this number, counted from 1, passes a limit.
     Limit { word: u32, fault: LimitFault },
+    /// The certificate is not right: this line of it, counted from 1, is the first that is false.
+    Rejected { line: u32 },
     /// There was not enough memory.
     Memory,
 }
@@ -39,6 +41,7 @@ pub fn fault_line(fault: &Fault) -> Line
         Fault::Text(fault) => text_line(fault),
         Fault::Grammar(fault) => grammar_line(fault),
         Fault::Limit { word, fault } => limit_line(*word, fault),
+        Fault::Rejected { line } => certificate_line(*line),
         Fault::Memory => Line::new(b"fault memory\n"),
     }
 }
@@ -79,6 +82,15 @@ fn limit_line(word: u32, fault: &LimitFault) -> Line
     line.push_number(u64::from(fault.kind));
     line.push(b" number ");
     line.push_number(fault.number);
+    line.push(b"\n");
+    line
+}
+
+fn certificate_line(number: u32) -> Line
+    ensures { result ≡ fault_line (Fault.Rejected number) }
+{
+    let mut line = Line::new(b"fault certificate line ");
+    line.push_number(u64::from(number));
     line.push(b"\n");
     line
 }

@@ -9,5 +9,7 @@ mod rank_order;
 mod solved;
 mod solving;
 
+pub use demand::demanded_marks;
+pub use rank_order::rules_by_rank;
 pub use solved::Solved;
 pub use solving::solve;

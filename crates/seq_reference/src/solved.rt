@@ -1,6 +1,8 @@
-ghost use Rattle.std.specs.Prelude.{◌≡◌, ◌↔◌, IfSome, IsSome, Some, length, true};
+ghost use Rattle.std.specs.Prelude.{◌≡◌, ◌↔◌, IfSome, IsSome, MatchOption, Some, length, true};
+ghost use Rattle.adp_model.specs.declared.cell.Answer.TheVariants.{NoCandidate};
 ghost use Rattle.adp_model.specs.declared.cell.Cell.{Cell};
 ghost use Rattle.adp_model.specs.Answers.{IsAnswer};
+ghost use Rattle.adp_model.specs.Bellman.{HasBestScore};
 ghost use Rattle.adp_model.specs.Demand.{IsDemanded, IsDemandedCount};
 ghost use Rattle.cell_answers.specs.Entries.{HasEntry};
 ghost use Rattle.cell_tables.specs.Marks.{IsMarkedInRow};
@@ -65,6 +67,22 @@ impl<'a> Solved<'a> {
         ensures { IsDemandedCount self.now result }
     {
         self.cells
+    }
+
+    /// The best score of a demanded cell, `Some(None)` where it has no candidate; `None` for every other cell. Takes
+    /// constant time and no memory.
+    pub fn score(&self, cell: Cell) -> Option<Option<i64>>
+        ensures told { IfSome result (λ score. MatchOption score (IsAnswer self.now cell NoCandidate)
+            (HasBestScore self.now cell)) }
+        ensures demanded { IsSome result ↔ IsDemanded self.now cell }
+    {
+        self.lines.problem().admissible();
+        demanded_cells_are_counted();
+        if self.marks.is_marked_in_row(cell) {
+            Some(self.scores.score(cell))
+        } else {
+            None
+        }
     }
 }
 

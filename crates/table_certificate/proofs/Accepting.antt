@@ -1,12 +1,12 @@
 -- Certificates, checked block by block.
-use Rattle.std.proofs.Common.{◌≡◌, ℕ, zero, suc, ◌+◌, ◌-◌, ◌<◌, ◌≤◌, ◌⊎◌, inl, inr, ℤ, Bool, true, false, Option, Some, None, All, List, [], ◌∷◌, ◌++◌, ◌==◌, length, drop, take, slice_get, slice_index_or, take_all, append_assoc, append-nil, length-append, refl, sym, ap, subst, ◌∙◌, arith}
+use Rattle.std.proofs.Common.{◌≡◌, ℕ, zero, suc, ◌+◌, ◌-◌, ◌<◌, ◌≤◌, ◌⊎◌, inl, inr, ℤ, true, false, Option, Some, None, All, List, [], ◌∷◌, ◌++◌, ◌==◌, length, drop, take, slice_get, slice_index_or, take_all, append_assoc, append-nil, length-append, refl, sym, ap, subst, ◌∙◌, arith}
 use Rattle.adp_model.specs.declared.grammar.Grammar.{Grammar}
 use Rattle.adp_model.specs.PosedProblem.{PosedProblem}
 use Rattle.adp_model.specs.ProblemFields.{IsAdmissible, KeepsLimits}
 use Rattle.grammar_check.specs.CheckedGrammar.{CheckedGrammar, PassesChecks}
 use Rattle.table_certificate.specs.CertificateLines.{LineForm, CertLine, WordLine, CellLine, Formless, forms_of}
 use Rattle.table_certificate.specs.LocalCertificate.{is_word_line, up_to_word_line, blocks_of, head_count, block_number, last_cell, problem_of, IsRight, IsRightWordLine, IsRightInBlock, IsWhole, IsLocallyRight, IsFirstFalse, IsTold, AreTold}
-use Rattle.table_certificate.specs.BlockLines.{BeginsBlock, IsAtHead, IsFirstFalseAhead, IsFirstWrong, IsRightBlock, IsRightFurther}
+use Rattle.table_certificate.specs.BlockLines.{BeginsBlock, IsAtHead, IsFirstFalseAhead, IsRightBlock, IsRightFurther}
 use Rattle.table_certificate.specs.declared.verifying.VerifyError.{VerifyError}
 use Rattle.table_certificate.specs.declared.verifying.VerifyError.TheVariants as errors
 use Rattle.table_certificate.specs.Verified.{IsBehindCert, IsFalseBegin, IsFalseLine, IsRejection, problems_of}

@@ -1,11 +1,9 @@
 -- What the splits by an alternative, and by all alternatives, come to.
-use Rattle.std.proofs.Common.{◌≡◌, ℕ, zero, suc, ◌+◌, ◌-◌, ◌<◌, ◌≤◌, ℤ, nat_abs, Option, Some, None, List, [], ◌∷◌, length, Contains, refl, sym, ap, subst, ◌∙◌, arith}
-use Rattle.std.specs.List.{AllByRecursion}
+use Rattle.std.proofs.Common.{◌≡◌, ℕ, suc, ◌-◌, ◌≤◌, ℤ, nat_abs, Option, Some, List, [], ◌∷◌, length, Contains, refl, arith}
 use Rattle.adp_model.specs.declared.cell.Cell.{Cell}
 use Rattle.adp_model.specs.declared.grammar.Arg.{Arg}
 use Rattle.adp_model.specs.declared.grammar.Arg.TheVariants.{Rule, Literal, Letter, Run}
 use Rattle.adp_model.specs.declared.grammar.Goal.{Goal}
-use Rattle.adp_model.specs.declared.grammar.Term.{Term}
 use Rattle.adp_model.specs.PosedProblem.{PosedProblem, IsSpan}
 use Rattle.adp_model.specs.Parts.{alternative_at, alternatives_of, arguments_of, term_of}
 use Rattle.adp_model.specs.Lengths.{AllowsLength}
@@ -15,7 +13,7 @@ use Rattle.adp_model.specs.Checks.{IsChecked}
 use Rattle.adp_model.specs.Splits.{FitsSpan}
 use Rattle.adp_model.specs.Tokens.{letters_between, Matches, token_value}
 use Rattle.viable_splits.specs.Placing.{on_span}
-use Rattle.table_certificate.specs.SplitVerdicts.{Verdict, Values, AreLowTokens, HasSplitVerdict, HasVerdict, HasVerdictBy, IsJudged}
+use Rattle.table_certificate.specs.SplitVerdicts.{Values, AreLowTokens, HasSplitVerdict, HasVerdict, HasVerdictBy, IsJudged}
 use Rattle.table_certificate.proofs.Judging.{HasAmong, judged_same}
 
 -- what tokens are worth is bounded

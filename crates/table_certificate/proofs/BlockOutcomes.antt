@@ -1,17 +1,14 @@
 -- What comes of a block.
-use Rattle.std.proofs.Common.{◌≡◌, ℕ, ◌+◌, ◌<◌, ◌≤◌, ◌⊎◌, inl, inr, true, false, Option, ℤ, List, [], ◌∷◌, ◌++◌, length, refl, sym, ap, subst, ◌∙◌, arith}
+use Rattle.std.proofs.Common.{◌≡◌, ℕ, ◌+◌, ◌≤◌, inl, inr, false, Option, ℤ, List, [], ◌∷◌, ◌++◌, length, refl, sym, ap, ◌∙◌}
 use Rattle.adp_model.specs.declared.grammar.Grammar.{Grammar}
 use Rattle.adp_model.specs.PosedProblem.{PosedProblem}
 use Rattle.table_certificate.specs.declared.forms.Form.{Form}
 use Rattle.table_certificate.specs.declared.forms.Form.TheVariants as kept_forms
 use Rattle.table_certificate.specs.CertificateLines.{LineForm, CertLine, WordLine, CellLine, Formless, forms_of}
 use Rattle.table_certificate.specs.LocalCertificate.{is_word_line, up_to_word_line, IsRightWordLine, IsTold}
-use Rattle.table_certificate.specs.KeptForms.{kept, kept_form, greatest_kept}
+use Rattle.table_certificate.specs.KeptForms.{kept, kept_form}
 use Rattle.table_certificate.specs.BlockLines.{AreRightFurther, BeginsBlock, IsAtHead, IsFirstFalseAhead, IsFirstWrong, IsRightBlock, lines_ahead}
-use Rattle.table_certificate.specs.NextForms.{IsNextForm}
 use Rattle.table_certificate.proofs.BlockSteps.{ahead_of}
-use Rattle.table_certificate.proofs.KeptNumbers.{kept_exact}
-use Rattle.table_certificate.proofs.ToldValues.{HasAxiomLine}
 
 -- a head as it is kept
 pub record IsHeadKept (exact : LineForm) (told many : ℕ) : Type 0 where

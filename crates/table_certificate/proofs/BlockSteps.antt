@@ -1,13 +1,13 @@
 -- The lines of one block, read and judged one after another.
-use Rattle.std.proofs.Common.{◌≡◌, ℕ, zero, suc, ◌+◌, ◌<◌, ◌≤◌, ◌⊎◌, inl, inr, ℤ, false, true, Bool, Option, Some, None, List, [], ◌∷◌, ◌++◌, length, take, slice_get, take_at, append_assoc, append-nil, length-append, refl, sym, ap, subst, ◌∙◌, arith}
+use Rattle.std.proofs.Common.{◌≡◌, ℕ, ◌+◌, ◌<◌, ◌≤◌, ◌⊎◌, inl, inr, false, true, Option, Some, None, List, [], ◌∷◌, ◌++◌, length, take, slice_get, take_at, append_assoc, append-nil, length-append, refl, sym, ap, subst, ◌∙◌, arith}
 use Rattle.adp_model.specs.declared.cell.Cell.{Cell}
 use Rattle.adp_model.specs.declared.grammar.Grammar.{Grammar}
 use Rattle.adp_model.specs.PosedProblem.{PosedProblem}
 use Rattle.table_certificate.specs.declared.claims.Claims.{Claims}
-use Rattle.table_certificate.specs.CertificateLines.{LineForm, CertLine, WordLine, CellLine, Formless, forms_of}
-use Rattle.table_certificate.specs.LocalCertificate.{is_word_line, up_to_word_line, last_cell, IsRightCellLine, IsRightInBlock}
+use Rattle.table_certificate.specs.CertificateLines.{LineForm, forms_of}
+use Rattle.table_certificate.specs.LocalCertificate.{is_word_line, up_to_word_line, last_cell, IsRightInBlock}
 use Rattle.table_certificate.specs.Claims.{Tell}
-use Rattle.table_certificate.specs.BlockLines.{AreRightFurther, IsAtHead, IsFirstWrong, IsRightFurther, lines_ahead}
+use Rattle.table_certificate.specs.BlockLines.{AreRightFurther, IsFirstWrong, IsRightFurther, lines_ahead}
 use Rattle.table_certificate.proofs.NextLines.{ahead_head, ahead_other}
 use Rattle.table_certificate.proofs.WrittenForms.{last_cell-append}
 

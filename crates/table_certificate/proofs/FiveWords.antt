@@ -3,7 +3,7 @@ use Rattle.std.proofs.Common.{◌≡◌, ℕ, Bool, true, false, List, [], ◌�
 use Rattle.std.specs.List.{onto_first}
 use Rattle.std.proofs.lemmas.List.Splits.{slice_split-cons_no, slice_split-cons_yes}
 use Rattle.adp_model.specs.declared.grammar.Grammar.{Grammar}
-use Rattle.table_certificate.specs.CertificateLines.{LineForm, Formless, form_by_words, form_of, words_of}
+use Rattle.table_certificate.specs.CertificateLines.{Formless, form_by_words, form_of, words_of}
 use Rattle.table_certificate.proofs.CutWords.{is_space}
 
 record IsSomeWord (line : List ℕ) : Type 0 where

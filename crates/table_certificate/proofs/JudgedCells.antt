@@ -1,5 +1,5 @@
 -- Whether the line of a cell is right, by what its splits come to.
-use Rattle.std.proofs.Common.{◌≡◌, ℕ, suc, ◌+◌, ◌-◌, ◌<◌, ◌≤◌, ◌⊎◌, inl, inr, ◌^◌, ℤ, nat_abs, nat_le, cond, Bool, true, false, Option, Some, None, IsSome, IfSome, List, [], ◌∷◌, length, map, Contains, refl, sym, ap, subst, ◌∙◌, arith}
+use Rattle.std.proofs.Common.{◌≡◌, ℕ, ◌<◌, ◌≤◌, ◌⊎◌, inl, inr, ◌^◌, ℤ, nat_abs, nat_le, true, false, Option, Some, None, IsSome, IfSome, List, [], ◌∷◌, length, map, Contains, refl, sym, ap, subst, ◌∙◌, arith}
 use Rattle.std.specs.List.{AllByRecursion}
 use Rattle.std.proofs.lemmas.Bool.Decides.{nat_tests}
 use Rattle.adp_model.specs.declared.grammar.Arg.{Arg}
@@ -10,21 +10,20 @@ use Rattle.adp_model.specs.declared.cell.Choice.{Choice}
 use Rattle.adp_model.specs.PosedProblem.{PosedProblem}
 use Rattle.adp_model.specs.Parts.{algebra_of, alternatives_of, arguments_of, term_of}
 use Rattle.adp_model.specs.ProblemFields.{greatest_score}
-use Rattle.adp_model.specs.Scores.{IsBetter}
 use Rattle.adp_model.specs.Terms.{magnitude, term_value}
-use Rattle.adp_model.specs.Splits.{Placed, place, placed, FitsSpan, IsViable}
+use Rattle.adp_model.specs.Splits.{place, placed, FitsSpan, IsViable}
 use Rattle.adp_model.specs.Demand.{IsDemandedChild}
 use Rattle.adp_model.specs.FirstSplit.{AreArgumentValues, IsScoredSplit}
 use Rattle.adp_model.specs.Cells.{CellPrecedes}
 use Rattle.table_certificate.specs.CertificateLines.{LineForm}
-use Rattle.table_certificate.specs.LocalCertificate.{said_of, HasLine, SaysScore, IsBestSaid, AreLowSplits, IsRightCellLine}
-use Rattle.table_certificate.specs.Claims.{IsShort, Tell, claimed}
+use Rattle.table_certificate.specs.LocalCertificate.{said_of, IsBestSaid, IsRightCellLine}
+use Rattle.table_certificate.specs.Claims.{Tell, claimed}
 use Rattle.table_certificate.specs.declared.claims.Claims.{Claims}
 use Rattle.table_certificate.specs.BlockLines.{IsInWord}
 use Rattle.table_certificate.specs.SplitVerdicts.{Verdict, Wrong, Unscored, Scored, Worths, Untold, Scoreless, Values, AreLaid, HasSplitVerdict, IsJudged, all_joined, verdict_of, worth_of}
 use Rattle.table_certificate.proofs.Judging.{judged_same, neither_better, none_wrong}
-use Rattle.table_certificate.proofs.SplitEnds.{IsLaidSplit, laid_split, IsCutSplit, cut_split}
-use Rattle.table_certificate.proofs.SplitWorths.{HasUntold, HasValues, all_told, joined_values, one_untold, same_worths, values_joined}
+use Rattle.table_certificate.proofs.SplitEnds.{laid_split, cut_split}
+use Rattle.table_certificate.proofs.SplitWorths.{all_told, joined_values, one_untold, same_worths, values_joined}
 
 -- the alternatives of the cell's rule have one to four arguments
 pub record AreFitting (p : PosedProblem) (cell : Cell) : Type 0 where

@@ -29,3 +29,15 @@ pub mod NamedRules
 pub mod FiveWords
 pub mod WordCells
 pub mod KeptLines
+pub mod OneScore
+pub mod OneFalseLine
+pub mod PlainLines
+pub mod WrittenNumbers
+pub mod NamedApart
+pub mod ReadLines
+pub mod ReadBlocks
+pub mod JobLines
+pub mod RightText
+pub mod Certified
+pub mod LongTexts
+pub mod WrittenBlocks

@@ -4,7 +4,7 @@ use Rattle.std.specs.List.{AllAdjacentBelow}
 use Rattle.std.proofs.lemmas.List.Elements.{Contains-push, Contains-append_left, Contains-push_cases}
 use Rattle.adp_model.specs.declared.cell.Cell.{Cell}
 use Rattle.adp_model.specs.PosedProblem.{PosedProblem}
-use Rattle.adp_model.specs.Cells.{AreAll, AreCountedEnds, CellPrecedes, IsCounted}
+use Rattle.adp_model.specs.Cells.{AreCountedEnds, CellPrecedes, IsCounted}
 use Rattle.adp_model.specs.Demand.{AreDemanded, IsDemanded}
 use Rattle.table_certificate.specs.ListedCells.{AreListedBefore}
 

@@ -1,5 +1,5 @@
 -- The forms of a text's lines, one after another.
-use Rattle.std.proofs.Common.{◌≡◌, ◌≢◌, ℕ, suc, ◌+◌, ◌<◌, ◌&&◌, ℤ, Bool, true, false, cond, Option, Some, None, codes, List, [], ◌∷◌, ◌++◌, length, map, take, drop, length-drop, refl, sym, ap, subst, ◌∙◌, arith}
+use Rattle.std.proofs.Common.{◌≡◌, ◌≢◌, ℕ, suc, ◌+◌, ◌<◌, ◌&&◌, ℤ, Bool, true, false, cond, Option, Some, None, codes, List, [], ◌∷◌, length, map, take, drop, length-drop, refl, sym, ap, subst, ◌∙◌, arith}
 use Rattle.std.specs.List.{count_by, position_or_len}
 use Rattle.std.specs.Char.{is_newline}
 use Rattle.std.specs.Str.Lines.{lines, strip_carriage_return}

@@ -16,12 +16,12 @@ front_first : (line : List ℕ) (rest : List (List ℕ)) (first : List ℕ) (oth
     → lines_of_parts (line ∷ rest) ≡ strip_carriage_return line ∷ lines_of_parts rest
 front_first line rest first others is = rw is refl
 
-record NotEmpty (rest : List (List ℕ)) : Type 0 where
-  first : List ℕ
-  others : List (List ℕ)
-  is : rest ≡ first ∷ others
+pub record NotEmpty (rest : List (List ℕ)) : Type 0 where
+  pub first : List ℕ
+  pub others : List (List ℕ)
+  pub is : rest ≡ first ∷ others
 
-some_part : (text : List ℕ) → NotEmpty (slice_split is_newline text)
+pub some_part : (text : List ℕ) → NotEmpty (slice_split is_newline text)
 some_part [] = record { first = []; others = []; is = refl }
 some_part (byte ∷ text) = step (is_newline byte) refl (some_part text)
   where
@@ -52,7 +52,7 @@ lines_of_parts-append (part ∷ []) others some = front_first part others some.f
 lines_of_parts-append (part ∷ next ∷ parts) others some = ap (λ (rest : List (List ℕ)). strip_carriage_return part ∷ rest) (lines_of_parts-append (next ∷ parts) others some)
 
 -- lines behind a line's end
-lines_behind : (text behind : List ℕ)
+pub lines_behind : (text behind : List ℕ)
     → lines (text ++ line_feed ∷ behind) ≡ map strip_carriage_return (slice_split is_newline text) ++ lines behind
 lines_behind text behind = ap lines_of_parts (split_at_end text behind) ∙ lines_of_parts-append (slice_split is_newline text) (slice_split is_newline behind) (some_part behind)
 
@@ -134,7 +134,7 @@ has_end (byte ∷ text) = step (is_newline byte) refl (has_end text)
     step true e rest = inr (first_byte byte e text)
     step false e rest = behind_byte byte e text rest
 
-one_part : (line : List ℕ) → 0 < length line → lines_of_parts (line ∷ []) ≡ line ∷ []
+pub one_part : (line : List ℕ) → 0 < length line → lines_of_parts (line ∷ []) ≡ line ∷ []
 one_part line h = let e : (length line == 0) ≡ false = grind (arith, nat_tests) in rw e refl
 
 pub shorter : (text : List ℕ) (end : HasEnd text) → length end.line < length text
@@ -185,7 +185,7 @@ stripped line behind = by (get_or line (length line - 1) 0 == 13) refl
         rw e (inr (inl (ap (λ (x : List ℕ). x ++ line_feed ∷ []) (last_return line e) ∙ append_assoc short (13 ∷ []) (line_feed ∷ []))))
     by false e = rw e (inl refl)
 
-ended_line : (line behind : List ℕ) → slice_split is_newline line ≡ line ∷ []
+pub ended_line : (line behind : List ℕ) → slice_split is_newline line ≡ line ∷ []
     → IsFirstLine (line ++ line_feed ∷ behind) (strip_carriage_return line) behind
 ended_line line behind alone = record {
   ended = line ++ line_feed ∷ [];
@@ -221,7 +221,7 @@ ended_first text line end at more is = by (has_end text)
 -- ---- how many newlines
 
 -- a newline counts, and no byte before it
-counted_before : (line behind : List ℕ) → slice_split is_newline line ≡ line ∷ []
+pub counted_before : (line behind : List ℕ) → slice_split is_newline line ≡ line ∷ []
     → count_by is_newline (line ++ line_feed ∷ behind) ≡ suc (count_by is_newline behind)
 counted_before line behind alone =
     let parts : length (slice_split is_newline line) ≡ count_by is_newline line + 1 = length-slice_split is_newline line in

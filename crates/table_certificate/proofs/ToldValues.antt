@@ -1,5 +1,5 @@
 -- What a block tells of its word.
-use Rattle.std.proofs.Common.{◌≡◌, ◌<◌, ◌^◌, ℤ, Bool, true, false, Option, Some, None, IsSome, MatchOption, List, length, refl, sym, subst, ◌∙◌, arith}
+use Rattle.std.proofs.Common.{◌≡◌, ℤ, true, false, Option, Some, None, IsSome, MatchOption, List, length, refl, sym, subst}
 use Rattle.adp_model.specs.PosedProblem.{PosedProblem, axiom_cell}
 use Rattle.adp_model.specs.Sizes.{IsWithinSizes}
 use Rattle.table_certificate.specs.CertificateLines.{LineForm}

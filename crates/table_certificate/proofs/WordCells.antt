@@ -1,5 +1,5 @@
 -- The cell of a line, by its numbers.
-use Rattle.std.proofs.Common.{◌≡◌, ℕ, ◌-◌, ◌<◌, ◌≤◌, ◌↔◌, ◌^◌, ℤ, Bool, IsTrue, Option, Some, IfSome, List, length, sym, ap, subst, ◌∙◌, arith}
+use Rattle.std.proofs.Common.{◌≡◌, ℕ, ◌-◌, ◌<◌, ◌≤◌, ◌↔◌, ◌^◌, ℤ, Bool, IsTrue, Option, IfSome, List, length, sym, subst, ◌∙◌, arith}
 use Rattle.adp_model.specs.declared.cell.Cell.{Cell}
 use Rattle.adp_model.specs.PosedProblem.{PosedProblem}
 use Rattle.adp_model.specs.Parts.{algebra_of}

@@ -15,12 +15,12 @@ use Rattle.table_certificate.proofs.WrittenForms.{take_past, get_past, head_coun
 
 -- ---- the line of a cell
 
-record IsLineOf (p : PosedProblem) (cells : List Cell) (scores : List (Option ℤ)) (k : ℕ) : Type 0 where
-  cell : Cell
-  score : Option ℤ
-  stands : slice_get (cell_forms cells scores) k ≡ Some (CellLine cell score)
-  listed : Contains cells cell
-  best : IsBestScore p cell score
+pub record IsLineOf (p : PosedProblem) (cells : List Cell) (scores : List (Option ℤ)) (k : ℕ) : Type 0 where
+  pub cell : Cell
+  pub score : Option ℤ
+  pub stands : slice_get (cell_forms cells scores) k ≡ Some (CellLine cell score)
+  pub listed : Contains cells cell
+  pub best : IsBestScore p cell score
 
 no_place : (k : ℕ) → k < 0 → ⊥
 no_place k h = omega arith
@@ -34,7 +34,7 @@ lower k n h = omega arith
 higher : (k n : ℕ) → k < n → suc k < suc n
 higher k n h = omega arith
 
-line_of : (p : PosedProblem) (cells : List Cell) (scores : List (Option ℤ)) → AreBest p cells scores → (k : ℕ)
+pub line_of : (p : PosedProblem) (cells : List Cell) (scores : List (Option ℤ)) → AreBest p cells scores → (k : ℕ)
     → k < length cells → IsLineOf p cells scores k
 line_of p [] scores best k low = absurd (no_place k low)
 line_of p (cell ∷ cells) [] best k low = absurd best

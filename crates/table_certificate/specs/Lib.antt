@@ -11,3 +11,4 @@ pub mod Claims
 pub mod SplitVerdicts
 pub mod BlockLines
 pub mod Verified
+pub mod ScoreReports

@@ -50,6 +50,11 @@ abbrev pub IsWritten : List PosedProblem → List ℕ → Type 0
 IsWritten problems text =
     (blocks : List ℕ) × AreCertificates 1 problems blocks × (text ≡ line (codes "cert") ++ blocks)
 
+-- a job behind the certificate of its words: the certificate, the line `job`, and the job's bytes
+abbrev pub IsCertifiedJob : List PosedProblem → List ℕ → List ℕ → Type 0
+IsCertifiedJob problems job bytes =
+    (text : List ℕ) × IsWritten problems text × (bytes ≡ text ++ line (codes "job") ++ job)
+
 -- ---- the same by forms
 
 -- a line for each cell, with its score

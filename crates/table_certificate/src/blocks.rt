@@ -299,8 +299,8 @@ fn is_right_head(number: u32, count: u32, told: u64, cells: u64) -> bool
     told == u64::from(number) && cells == u64::from(count)
 }
 
-/// What comes of the block of this number, with which a text begins.
-pub(crate) fn verify_block<'p, 't>(
+/// What comes of the block of this number, with which a text begins: its lines are judged one by one.
+pub(crate) fn judge_block<'p, 't>(
     alloc: Global,
     problem: &'p Problem<'p>,
     number: u32,

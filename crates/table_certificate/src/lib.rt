@@ -9,12 +9,16 @@ mod job_split;
 pub mod laws;
 mod magnitudes;
 mod numbers;
+mod score_reports;
 mod splits;
+pub mod uniqueness;
 mod verifying;
 mod writing;
+mod written_blocks;
 
-pub use demanded::{DemandedAnswers, demanded_cells};
+pub use demanded::{DemandedScores, demanded_cells};
 pub use job_split::{Rejected, split_input};
 pub use magnitudes::magnitude;
+pub use score_reports::score_report;
 pub use verifying::{VerifyError, verify_all};
 pub use writing::certificate;

@@ -9,10 +9,11 @@ ghost use Rattle.table_certificate.specs.CertificateLines.{forms_of};
 ghost use Rattle.table_certificate.specs.LocalCertificate.{AreTold, IsLocallyRight, blocks_of};
 ghost use Rattle.table_certificate.specs.Verified.{IsBehindCert, IsFalseBegin, IsFalseLine, IsRejection, problems_of};
 
-use crate::blocks::{Outcome, verify_block};
+use crate::blocks::Outcome;
 use crate::forms::{Form, next_form, next_line};
 use crate::job_split::Rejected;
 use crate::laws::right_certificates_tell_best_scores;
+use crate::written_blocks::verify_block;
 use adp_model::laws::limits::limits_are_kept_or_passed;
 use adp_model::{Grammar, Problem, Text};
 use grammar_check::{AdmitError, Checked, admit};

@@ -1,28 +1,14 @@
 ghost use Rattle.std.specs.Prelude.{◌≡◌, ◌++◌, ◌<◌, length, IfOk, OnOk};
-ghost use Rattle.adp_model.specs.Answers.{IsAnswer};
 ghost use Rattle.adp_model.specs.Demand.{AreDemanded, IsDemanded};
 ghost use Rattle.adp_model.specs.Parts.{rule_at};
 ghost use Rattle.adp_model.specs.Report.{line};
 ghost use Rattle.table_certificate.specs.BestScores.{IsBestScore};
 ghost use Rattle.table_certificate.specs.WrittenCertificate.{cell_text, score_text, word_text, IsCertificate};
 
-use crate::demanded::{DemandedAnswers, demanded_cells};
+use crate::demanded::{DemandedScores, demanded_cells};
 use adp_model::laws::demand::demanded_cells_are_counted;
-use adp_model::laws::order::preferred_tree_has_the_best_score;
-use adp_model::{Answer, Cell, Problem, push_decimal, push_signed};
+use adp_model::{Cell, Problem, push_decimal, push_signed};
 use std::alloc::{AllocError, Global};
-
-/// The best score of the cell that has this answer.
-fn best_score(problem: &Problem<'_>, cell: Cell, answer: Answer) -> Option<i64>
-    requires { IsAnswer problem.now cell answer }
-    ensures { IsBestScore problem.now cell result }
-{
-    preferred_tree_has_the_best_score();
-    match answer {
-        Answer::NoCandidate => None,
-        Answer::Best { score, .. } => Some(score),
-    }
-}
 
 fn push_score(out: &mut Vec<u8>, score: Option<i64>) -> Result<(), AllocError>
     ensures { OnOk result (out.new.items ≡ out.old.items ++ score_text score) }
@@ -73,13 +59,13 @@ fn push_cell_line(
     Ok(())
 }
 
-/// The answer of a demanded cell.
-fn answer_of<A: DemandedAnswers>(answers: &A, cell: Cell) -> Answer
-    requires { IsDemanded (A.problem answers.now) cell }
-    ensures { IsAnswer (A.problem answers.now) cell result }
+/// The best score of a demanded cell.
+fn best_score<A: DemandedScores>(scores: &A, cell: Cell) -> Option<i64>
+    requires { IsDemanded (A.problem scores.now) cell }
+    ensures { IsBestScore (A.problem scores.now) cell result }
 {
-    match answers.demanded_answer(cell) {
-        Some(answer) => answer,
+    match scores.demanded_score(cell) {
+        Some(score) => score,
         None => unreachable!(),
     }
 }
@@ -90,28 +76,28 @@ fn answer_of<A: DemandedAnswers>(answers: &A, cell: Cell) -> Answer
 /// # Errors
 ///
 /// Where there is no memory.
-pub fn certificate<'p, A: DemandedAnswers>(
+pub fn certificate<'p, A: DemandedScores>(
     alloc: Global,
     number: u32,
     problem: &'p Problem<'p>,
-    answers: &A,
+    scores: &A,
 ) -> Result<Vec<u8>, AllocError>
-    requires { A.problem answers.now ≡ problem.now }
+    requires { A.problem scores.now ≡ problem.now }
     ensures { IfOk result (λ text. IsCertificate number problem.now text.items) }
 {
-    let cells = demanded_cells(alloc, problem, answers)?;
-    cells_certificate(alloc, number, problem, &cells, answers)
+    let cells = demanded_cells(alloc, problem, scores)?;
+    cells_certificate(alloc, number, problem, &cells, scores)
 }
 
 /// The same, where these are the demanded cells.
-fn cells_certificate<A: DemandedAnswers>(
+fn cells_certificate<A: DemandedScores>(
     alloc: Global,
     number: u32,
     problem: &Problem<'_>,
     cells: &[Cell],
-    answers: &A,
+    scores: &A,
 ) -> Result<Vec<u8>, AllocError>
-    requires answers { A.problem answers.now ≡ problem.now }
+    requires scores { A.problem scores.now ≡ problem.now }
     requires cells { AreDemanded problem.now cells.now }
     ensures { IfOk result (λ text. IsCertificate number problem.now text.items) }
 {
@@ -120,8 +106,7 @@ fn cells_certificate<A: DemandedAnswers>(
     let mut out = Vec::new(alloc);
     push_word_line(&mut out, number, cells.len())?;
     for cell in cells {
-        let answer = answer_of(answers, *cell);
-        push_cell_line(&mut out, problem, *cell, best_score(problem, *cell, answer))?;
+        push_cell_line(&mut out, problem, *cell, best_score(scores, *cell))?;
     }
     Ok(out)
 }

@@ -1,2 +1,5 @@
 pub mod Reported
 pub mod OneVerdict
+pub mod OneCertificate
+pub mod NestedReports
+pub mod Accepted

@@ -1,5 +1,5 @@
 -- A command line and bytes have one verdict.
-use Rattle.std.proofs.Common.{◌≡◌, ℕ, zero, suc, ◌+◌, ◌^◌, ◌<◌, ◌≤◌, ◌⊎◌, inl, inr, Bool, true, false, not, ◌&&◌, IsTrue, IsNone, nat_eq, Option, None, Some, Result, Ok, Err, List, [], ◌∷◌, length, map, drop, get_or, slice_index_or, refl, sym, ap, ap₂, subst, ◌∙◌, arith}
+use Rattle.std.proofs.Common.{◌≡◌, ℕ, zero, suc, ◌+◌, ◌^◌, ◌<◌, ◌≤◌, ◌⊎◌, ◌↔◌, inl, inr, Bool, true, false, not, ◌&&◌, IsTrue, IsNone, nat_eq, Option, None, Some, List, [], ◌∷◌, ◌++◌, length, map, drop, get_or, slice_index_or, refl, sym, ap, ap₂, subst, ◌∙◌, arith}
 use Rattle.std.specs.List.{All, list_any}
 use Rattle.std.proofs.lemmas.List.Elements.{All-head, All-tail}
 use Rattle.std.proofs.lemmas.List.{get_or-map, length-map}
@@ -16,9 +16,9 @@ use Rattle.adp_model.specs.declared.fault.LimitFault.{LimitFault}
 use Rattle.adp_model.specs.Parts.{sign_at}
 use Rattle.adp_model.specs.WellFormed.{are_distinct, is_well_formed, counts_fit, names_differ, parts_fit}
 use Rattle.verdicts.specs.declared.command.Mode.{Mode}
-use Rattle.verdicts.specs.declared.command.Mode.TheVariants.{Best, Serial, Wins, Replay, Lex, Big}
+use Rattle.verdicts.specs.declared.command.Mode.TheVariants.{Best, Serial, Wins, Replay, Lex, Cert, Verify, Big}
 use Rattle.verdicts.specs.Command.{mode_word, Setting, Algebra as ByAlgebra, Then, Workers, Seed, Schedule, Size, option_word, IsValue, AreSettings, Allows, algebra_set, second_set, workers_set, seed_set, schedule_set, size_set, greatest_size, Command, IsCommand, HasCommand, ReadsJob, ShowsWins, AsksForJob}
-use Rattle.job_texts.specs.JobText.{Accepted, IsText, IsFaultOf}
+use Rattle.nested_jobs.specs.NestedJob.{IsNestedFault, IsNestedText, hidden_in}
 use Rattle.adp_model.specs.Lengths.{IsProductive}
 use Rattle.adp_model.specs.Loops.{IsOnLoop}
 use Rattle.adp_model.specs.GrammarSigns.{HasMonotoneTerm}
@@ -30,17 +30,35 @@ use Rattle.verdicts.specs.SecondAlgebra.{IsAdmissibleWith, IsFaultWith, IsLimitW
 use Rattle.adp_model.specs.Checks.{IsChecked}
 use Rattle.verdicts.specs.CheckableJobs.{AreCheckable}
 use Rattle.adp_model.specs.PosedProblem.{PosedProblem}
-use Rattle.verdicts.specs.Verdict.{AsksFor, AsksUnder, asked_name, greatest_length, KeepLimits, IsFirstLimit, AreReports, Verdict, Usage, TooLong, Text, Grammar as OfGrammar, Limit, Reports, AskForReports, AskForBigReport, AreOfWins, IsLimit, IsReports, IsVerdict}
+use Rattle.verdicts.specs.Verdict.{AsksFor, AsksUnder, asked_name, greatest_length, KeepLimits, IsFirstLimit, AreReports, Verdict, Usage, TooLong, Text, Grammar as OfGrammar, Limit, Rejected, Reports, AskForReports, AskForBigReport, AreOfWins, AsksWithin, IsLimit, IsReports, IsJobVerdict}
 use Rattle.std.specs.Cmp.{first_so, second_so}
 use Rattle.adp_model.specs.LimitFaults.{IsLimitFault}
 use Rattle.adp_model.specs.ProblemFields.{KeepsLimits}
 use Rattle.adp_model.specs.Report.{IsReport}
 use Rattle.adp_model.specs.BigReport.{IsBigReport}
 use Rattle.verdicts.specs.Verdict.{IsReportWith}
+use Rattle.table_certificate.specs.ScoreReports.{IsScoreReport}
+use Rattle.table_certificate.specs.WrittenCertificate.{IsCertificate}
+use Rattle.verdicts.specs.Certificates.{before_block, behind_reports}
+use Rattle.verdicts.specs.WordReport.{HidesAlternatives}
 
--- ---- what is known of reports and limits
+-- ---- what is known of texts, reports and limits
+
+pub record TextLaws : Type 0 where
+  pub one_job : (bytes : List ℕ) (job other : Job) → IsNestedText bytes job → IsNestedText bytes other → job ≡ other
+  pub one_fault : (bytes : List ℕ) (fault other : TextFault) → IsNestedFault bytes fault → IsNestedFault bytes other
+      → fault ≡ other
+  pub not_both : (bytes : List ℕ) (job : Job) (fault : TextFault) → IsNestedText bytes job → IsNestedFault bytes fault
+      → ⊥
 
 pub record ModelLaws : Type 0 where
+  pub texts : TextLaws
+  pub hides : (bytes : List ℕ) (job : Job) → IsNestedText bytes job
+      → HidesAlternatives (hidden_in bytes) job.grammar
+  pub plain : (p : PosedProblem) (least : List ℕ) (greatest : List (Option ℕ)) (ranks : List ℕ)
+      → IsChecked p.grammar p.algebra least greatest ranks → (hidden : Option ℕ) → HidesAlternatives hidden p.grammar
+      → (mode : Mode) (second : Option (List ℕ)) (number : ℕ) (wins report : List ℕ)
+      → IsReportWith mode second None number p wins report ↔ IsReportWith mode second hidden number p wins report
   pub one_report : (number : ℕ) (p : PosedProblem) (a b : List ℕ) → IsTrue (is_well_formed p.grammar)
       → IsReport number p a → IsReport number p b → a ≡ b
   pub one_made : (seed size : ℕ) (a b : List ℕ) → IsBigReport seed size a → IsBigReport seed size b → a ≡ b
@@ -58,6 +76,10 @@ pub record ModelLaws : Type 0 where
       → IsPairLimitFault grammar first second len a → IsPairLimitFault grammar first second len b → a ≡ b
   pub one_pair_report : (number : ℕ) (p : PosedProblem) (second : ℕ) → IsPairAdmissible p second → (a b : List ℕ)
       → IsPairReport number p second a → IsPairReport number p second b → a ≡ b
+  pub one_block : (number : ℕ) (p : PosedProblem) (a b : List ℕ) → IsCertificate number p a → IsCertificate number p b
+      → a ≡ b
+  pub one_score : (number : ℕ) (p : PosedProblem) (a b : List ℕ) → IsScoreReport number p a → IsScoreReport number p b
+      → a ≡ b
 
 -- ---- the command
 
@@ -82,15 +104,18 @@ settings_unique (option ∷ value ∷ words) (s ∷ a) [] h k = absurd k
 settings_unique (option ∷ value ∷ words) (s ∷ a) (t ∷ b) h k =
     ap₂ (λ x xs. x ∷ xs) (setting_unique value s t (sym h.0 ∙ k.0) h.1 k.1) (settings_unique words a b h.2 k.2)
 
--- the words of two modes differ at their third letter
+-- the words of two modes differ at their first letter or at their third
 mode_unique : (a b : Mode) → mode_word a ≡ mode_word b → a ≡ b
 mode_unique Best Best e = refl
 mode_unique Serial Serial e = refl
 mode_unique Wins Wins e = refl
 mode_unique Replay Replay e = refl
 mode_unique Lex Lex e = refl
+mode_unique Cert Cert e = refl
+mode_unique Verify Verify e = refl
 mode_unique Big Big e = refl
-mode_unique a b e = absurd (omega (arith, ap (λ (w : List ℕ). get_or w 2 0) e))
+mode_unique a b e =
+    absurd (omega (arith, ap (λ (w : List ℕ). get_or w 0 0) e, ap (λ (w : List ℕ). get_or w 2 0) e))
 
 pub command_unique : (words : List (List ℕ)) (a b : Command) → IsCommand words a → IsCommand words b → a ≡ b
 command_unique words a b h k =
@@ -166,25 +191,12 @@ no_second words command is other =
 
 -- ---- the text
 
-abbrev accepted_in : Result Accepted TextFault → Accepted → Accepted
-accepted_in (Ok accepted) other = accepted
-accepted_in (Err fault) other = other
+module _ (texts : TextLaws) where
+  pub same_grammar : (bytes : List ℕ) (a b : Job) → IsNestedText bytes a → IsNestedText bytes b → a.grammar ≡ b.grammar
+  same_grammar bytes a b h k = ap (λ (job : Job). job.grammar) (texts.one_job bytes a b h k)
 
-abbrev fault_in : Result Accepted TextFault → TextFault → TextFault
-fault_in (Ok accepted) other = other
-fault_in (Err fault) other = fault
-
-same_grammar : (bytes : List ℕ) (a b : Job) → IsText bytes a → IsText bytes b → a.grammar ≡ b.grammar
-same_grammar bytes a b h k = ap (λ (r : Result Accepted TextFault). (accepted_in r (record { version = a.version; grammar = a.grammar; words = a.words })).grammar) (sym h ∙ k)
-
-same_words : (bytes : List ℕ) (a b : Job) → IsText bytes a → IsText bytes b → a.words ≡ b.words
-same_words bytes a b h k = ap (λ (r : Result Accepted TextFault). (accepted_in r (record { version = a.version; grammar = a.grammar; words = a.words })).words) (sym h ∙ k)
-
-same_fault : (bytes : List ℕ) (a b : TextFault) → IsFaultOf bytes a → IsFaultOf bytes b → a ≡ b
-same_fault bytes a b h k = ap (λ (r : Result Accepted TextFault). fault_in r a) (sym h ∙ k)
-
-text_or_fault : (bytes : List ℕ) (fault : TextFault) (job : Job) → IsFaultOf bytes fault → IsText bytes job → ⊥
-text_or_fault bytes fault job h k = let e = sym h ∙ k in absurd cc
+  pub same_words : (bytes : List ℕ) (a b : Job) → IsNestedText bytes a → IsNestedText bytes b → a.words ≡ b.words
+  same_words bytes a b h k = ap (λ (job : Job). job.words) (texts.one_job bytes a b h k)
 
 -- ---- the algebra
 
@@ -409,8 +421,28 @@ pair_with (Some name) p algebra h named =
 -- a mode tells wins, or its reports of a word are one
 abbrev OneOrWins : Mode → Type 0
 OneOrWins mode = ShowsWins mode ⊎ ((second : Option (List ℕ)) (number : ℕ) (p : PosedProblem) (wins wins' a b : List ℕ)
-    → IsAdmissibleWith second p → IsReportWith mode second number p wins a
-    → IsReportWith mode second number p wins' b → a ≡ b)
+    → IsAdmissibleWith second p → IsReportWith mode second None number p wins a
+    → IsReportWith mode second None number p wins' b → a ≡ b)
+
+module _ (laws : ModelLaws) (command : Command) (grammar : Grammar) (algebra : ℕ) (least : List ℕ)
+    (greatest : List (Option ℕ)) (ranks : List ℕ) (checked : IsChecked grammar algebra least greatest ranks)
+    (hidden : Option ℕ) (hides : HidesAlternatives hidden grammar) where
+  -- reports under the nested grammar are those under the plain one
+  plain_reports : (number : ℕ) (words reports : List (List ℕ))
+      → AreReports command hidden grammar algebra number words reports
+      → AreReports command None grammar algebra number words reports
+  plain_reports number [] [] h = tt
+  plain_reports number [] (report ∷ reports) h = absurd h
+  plain_reports number (word ∷ words) [] h = absurd h
+  plain_reports number (word ∷ words) (report ∷ reports) ((wins, each, is), others) =
+      let p : PosedProblem = record { grammar = grammar; algebra = algebra; word = word } in (
+        (
+          wins,
+          each,
+          (laws.plain p least greatest ranks checked hidden hides command.mode command.second number wins report).1 is,
+        ),
+        plain_reports (number + 1) words reports others,
+      )
 
 module _ (laws : ModelLaws) where
   one_or_wins : (mode : Mode) → OneOrWins mode
@@ -423,17 +455,20 @@ module _ (laws : ModelLaws) where
   one_or_wins Lex = inr (λ second number p wins wins' a b is h k.
       laws.one_pair_report number p h.0 (pair_with second p h.0 is h.1) a b h.2
       (subst (λ n. IsPairReport number p n b) (one_second second p.grammar (formed_with second p is) k.0 h.0 k.1 h.1) k.2))
+  one_or_wins Cert = inr (λ second number p wins wins' a b is h k.
+      h.2 ∙ ap (λ block. before_block number ++ block) (laws.one_block number p h.0 k.0 h.1 k.1) ∙ sym k.2)
+  one_or_wins Verify = inr (λ second number p wins wins' a b is h k. laws.one_score number p a b h k)
   one_or_wins Big = inr (λ second number p wins wins' a b is h k. absurd h)
 
 module _ (command : Command) (plain : (second : Option (List ℕ)) (number : ℕ) (p : PosedProblem)
-    (wins wins' a b : List ℕ) → IsAdmissibleWith second p → IsReportWith command.mode second number p wins a
-    → IsReportWith command.mode second number p wins' b → a ≡ b)
+    (wins wins' a b : List ℕ) → IsAdmissibleWith second p → IsReportWith command.mode second None number p wins a
+    → IsReportWith command.mode second None number p wins' b → a ≡ b)
     (grammar : Grammar) (algebra : ℕ)
     (admissible : (word : List ℕ) → KeepsLimitsWith command.second grammar algebra (length word)
     → IsAdmissibleWith command.second (record { grammar = grammar; algebra = algebra; word = word })) where
   reports_unique : (number : ℕ) (words a b : List (List ℕ)) → KeepLimits command.second grammar algebra words
-      → AreReports command grammar algebra number words a
-      → AreReports command grammar algebra number words b → a ≡ b
+      → AreReports command None grammar algebra number words a
+      → AreReports command None grammar algebra number words b → a ≡ b
   reports_unique number [] [] [] kept h k = refl
   reports_unique number [] [] (y ∷ b) kept h k = absurd k
   reports_unique number [] (x ∷ a) b kept h k = absurd h
@@ -447,26 +482,26 @@ module _ (command : Command) (plain : (second : Option (List ℕ)) (number : ℕ
 
 -- ---- the verdict
 
-module _ (words : List (List ℕ)) (bytes : List ℕ) where
+module _ (texts : TextLaws) (words : List (List ℕ)) (bytes : List ℕ) where
   names_same : (c d : Command) (a b : Job) → AsksFor words bytes c a → AsksFor words bytes d b → asked_name d b.grammar ≡ asked_name c a.grammar
-  names_same c d a b h k = ap₂ (λ e g. asked_name e g) (command_unique words d c k.is_command h.is_command) (same_grammar bytes b a k.is_text h.is_text)
+  names_same c d a b h k = ap₂ (λ e g. asked_name e g) (command_unique words d c k.is_command h.is_command) (same_grammar texts bytes b a k.is_text h.is_text)
 
   -- what is asked of one job is asked of the other
   fault_of_first : (c d : Command) (a b : Job) (fault : GrammarFault) → AsksFor words bytes c a → AsksFor words bytes d b → IsFaultWith d.second b.grammar (asked_name d b.grammar) fault → IsFaultWith c.second a.grammar (asked_name c a.grammar) fault
   fault_of_first c d a b fault h k is =
       subst (λ (it : Command × Grammar). IsFaultWith it.0.second it.1 (asked_name it.0 it.1) fault)
-      (λ i. (command_unique words d c k.is_command h.is_command i, same_grammar bytes b a k.is_text h.is_text i)) is
+      (λ i. (command_unique words d c k.is_command h.is_command i, same_grammar texts bytes b a k.is_text h.is_text i)) is
 
   pair_of_first : (c : Command) (a b : Job) (algebra : ℕ) → AsksFor words bytes c a → AsksUnder words bytes b algebra → MakesPairWith c.second a.grammar algebra
   pair_of_first c a b algebra h k =
       subst (λ (it : Command × Grammar). MakesPairWith it.0.second it.1 algebra)
-      (λ i. (command_unique words k.command c k.asks.is_command h.is_command i, same_grammar bytes b a k.asks.is_text h.is_text i)) k.pair
+      (λ i. (command_unique words k.command c k.asks.is_command h.is_command i, same_grammar texts bytes b a k.asks.is_text h.is_text i)) k.pair
 
   faultless_of_first : (c : Command) (a b : Job) (algebra : ℕ) → AsksFor words bytes c a → AsksUnder words bytes b algebra → IsFaultless a.grammar (asked_name c a.grammar) algebra
   faultless_of_first c a b algebra h k =
-      subst (λ n. IsFaultless a.grammar n algebra) (names_same c k.command a b h k.asks) (subst (λ g. IsFaultless g (asked_name k.command b.grammar) algebra) (same_grammar bytes b a k.asks.is_text h.is_text) k.faultless)
+      subst (λ n. IsFaultless a.grammar n algebra) (names_same c k.command a b h k.asks) (subst (λ g. IsFaultless g (asked_name k.command b.grammar) algebra) (same_grammar texts bytes b a k.asks.is_text h.is_text) k.faultless)
 
-  same_algebra : (a b : Job) (m n : ℕ) → AsksUnder words bytes a m → AsksUnder words bytes b n → n ≡ m
+  pub same_algebra : (a b : Job) (m n : ℕ) → AsksUnder words bytes a m → AsksUnder words bytes b n → n ≡ m
   same_algebra a b m n h k = named_unique a.grammar a.well_formed (asked_name h.command a.grammar) n m (faultless_of_first h.command a b n h.asks k).named h.faultless.named
 
   has_command : (c : Command) (a : Job) → AsksFor words bytes c a → HasCommand words
@@ -480,7 +515,7 @@ module _ (words : List (List ℕ)) (bytes : List ℕ) where
   for_job c a h = (c, h.is_command, h.reads)
 
   pub asked_grammar : (a b : Job) (m n : ℕ) → AsksUnder words bytes a m → AsksUnder words bytes b n → a.grammar ≡ b.grammar
-  asked_grammar a b m n h k = same_grammar bytes a b h.asks.is_text k.asks.is_text
+  asked_grammar a b m n h k = same_grammar texts bytes a b h.asks.is_text k.asks.is_text
 
   pub asked_algebra : (a b : Job) (m n : ℕ) → AsksUnder words bytes a m → AsksUnder words bytes b n → m ≡ n
   asked_algebra a b m n h k = sym (same_algebra a b m n h k)
@@ -492,42 +527,56 @@ module _ (words : List (List ℕ)) (bytes : List ℕ) where
       subst (λ (it : Command × Grammar × ℕ × List (List ℕ)). IsFirstLimit it.0.second it.1 it.2 1 it.3 word fault)
       (λ i. (
         command_unique words k.command h.command k.asks.is_command h.asks.is_command i,
-        same_grammar bytes b a k.asks.is_text h.asks.is_text i,
+        same_grammar texts bytes b a k.asks.is_text h.asks.is_text i,
         same_algebra a b m n h k i,
-        same_words bytes b a k.asks.is_text h.asks.is_text i,
+        same_words texts bytes b a k.asks.is_text h.asks.is_text i,
       )) is
 
   reports_of_first : (command : Command) (a b : Job) (m n : ℕ) (reports : List (List ℕ)) → AsksUnder words bytes a m
-      → AsksUnder words bytes b n → AreReports command b.grammar n 1 b.words reports
-      → AreReports command a.grammar m 1 a.words reports
+      → AsksUnder words bytes b n → AreReports command (hidden_in bytes) b.grammar n 1 b.words reports
+      → AreReports command (hidden_in bytes) a.grammar m 1 a.words reports
   reports_of_first command a b m n reports h k is =
-      subst (λ algebra. AreReports command a.grammar algebra 1 a.words reports) (same_algebra a b m n h k)
-      (subst (λ (ws : List (List ℕ)). AreReports command a.grammar n 1 ws reports)
-      (same_words bytes b a k.asks.is_text h.asks.is_text)
-      (subst (λ g. AreReports command g n 1 b.words reports) (same_grammar bytes b a k.asks.is_text h.asks.is_text) is))
+      subst (λ algebra. AreReports command (hidden_in bytes) a.grammar algebra 1 a.words reports) (same_algebra a b m n h k)
+      (subst (λ (ws : List (List ℕ)). AreReports command (hidden_in bytes) a.grammar n 1 ws reports)
+      (same_words texts bytes b a k.asks.is_text h.asks.is_text)
+      (subst (λ g. AreReports command (hidden_in bytes) g n 1 b.words reports) (same_grammar texts bytes b a k.asks.is_text h.asks.is_text) is))
 
 module _ (laws : ModelLaws) (words : List (List ℕ)) (bytes : List ℕ) where
   both_reported : AreCheckable words bytes → (a b : List (List ℕ)) → AskForReports words bytes a
       → AskForReports words bytes b → (Reports a ≡ Reports b) ⊎ AreOfWins words (Reports a) (Reports b)
   both_reported checks a b h k = by (one_or_wins laws h.2.command.mode)
     where
+      found : (least : List ℕ) × (greatest : List (Option ℕ)) × (ranks : List ℕ)
+          × IsChecked h.0.grammar h.1 least greatest ranks
+      found = checks h.0 h.1 h.2
+
       admissible : (word : List ℕ) → KeepsLimitsWith h.2.command.second h.0.grammar h.1 (length word)
           → IsAdmissibleWith h.2.command.second (record { grammar = h.0.grammar; algebra = h.1; word = word })
       admissible =
-          let found = checks h.0 h.1 h.2 in
           admissible_with laws h.0.grammar h.1 found.0 found.1 found.2 found.3 h.2.command.second h.2.pair
 
       same : h.2.command ≡ k.2.command
       same = command_unique words h.2.command k.2.command h.2.asks.is_command k.2.asks.is_command
 
-      others : AreReports h.2.command h.0.grammar h.1 1 h.0.words b
-      others = reports_of_first words bytes h.2.command h.0 k.0 h.1 k.1 b h.2 k.2
-          (subst (λ (c : Command). AreReports c k.0.grammar k.1 1 k.0.words b) (sym same) k.4)
+      others : AreReports h.2.command (hidden_in bytes) h.0.grammar h.1 1 h.0.words k.4
+      others = reports_of_first laws.texts words bytes h.2.command h.0 k.0 h.1 k.1 k.4 h.2 k.2
+          (subst (λ (c : Command). AreReports c (hidden_in bytes) k.0.grammar k.1 1 k.0.words k.4) (sym same) k.5)
+
+      plainly : (reports : List (List ℕ)) → AreReports h.2.command (hidden_in bytes) h.0.grammar h.1 1 h.0.words reports
+          → AreReports h.2.command None h.0.grammar h.1 1 h.0.words reports
+      plainly = plain_reports laws h.2.command h.0.grammar h.1 found.0 found.1 found.2 found.3 (hidden_in bytes)
+          (laws.hides bytes h.0 h.2.asks.is_text) 1 h.0.words
 
       by : OneOrWins h.2.command.mode → (Reports a ≡ Reports b) ⊎ AreOfWins words (Reports a) (Reports b)
       by (inl wins) = inr (h.2.command, h.2.asks.is_command, wins)
       by (inr plain) =
-          inl (ap Reports (reports_unique h.2.command plain h.0.grammar h.1 admissible 1 h.0.words a b h.3 h.4 others))
+          let reports = reports_unique h.2.command plain h.0.grammar h.1 admissible 1 h.0.words h.4 k.4 h.3 (plainly h.4 h.5)
+          (plainly k.4 others) in
+          let texts = same_words laws.texts bytes h.0 k.0 h.2.asks.is_text k.2.asks.is_text in
+          let pieces : h.4 ++ behind_reports h.2.command.mode (length h.0.words) bytes
+          ≡ k.4 ++ behind_reports k.2.command.mode (length k.0.words) bytes =
+          λ i. reports i ++ behind_reports (same i).mode (length (texts i)) bytes in
+          inl (ap Reports (h.6 ∙ pieces ∙ sym k.6))
 
   both_made : (a b : List (List ℕ)) → AskForBigReport words a → AskForBigReport words b → Reports a ≡ Reports b
   both_made a b h k =
@@ -535,32 +584,35 @@ module _ (laws : ModelLaws) (words : List (List ℕ)) (bytes : List ℕ) where
       let other = subst (λ (c : Command). IsBigReport c.seed c.size k.3) same k.4 in
       ap Reports (h.5 ∙ ap (λ r. r ∷ []) (laws.one_made h.0.seed h.0.size h.3 k.3 h.4 other) ∙ sym k.5)
 
-  too_long : greatest_length < length bytes → length bytes ≤ greatest_length → ⊥
+  pub too_long : greatest_length < length bytes → length bytes ≤ greatest_length → ⊥
   too_long long short = omega arith
 
-  made_or_not : (verdict : Verdict) (reports : List (List ℕ)) → AskForBigReport words reports → IsVerdict words bytes verdict
+  made_or_not : (verdict : Verdict) (reports : List (List ℕ)) → AskForBigReport words reports → IsJobVerdict words bytes verdict
       → (HasCommand words → ⊥) ⊎ (AsksForJob words ⊎ ((others : List (List ℕ)) × (verdict ≡ Reports others) × AskForBigReport words others))
   made_or_not Usage reports big h = inl h
   made_or_not TooLong reports big h = inr (inl h.0)
   made_or_not (Text fault) reports big h = inr (inl h.0)
-  made_or_not (OfGrammar fault) reports big h = inr (inl (for_job words bytes h.0 h.1 h.2))
-  made_or_not (Limit word fault) reports big h = inr (inl (for_job words bytes h.2.command h.0 h.2.asks))
-  made_or_not (Reports others) reports big (inl h) = inr (inl (for_job words bytes h.2.command h.0 h.2.asks))
+  made_or_not (OfGrammar fault) reports big h = inr (inl (for_job laws.texts words bytes h.0 h.1 h.2))
+  made_or_not (Limit word fault) reports big h = inr (inl (for_job laws.texts words bytes h.2.command h.0 h.2.asks))
+  made_or_not (Rejected line) reports big h = absurd h
+  made_or_not (Reports others) reports big (inl h) = inr (inl (for_job laws.texts words bytes h.2.command h.0 h.2.asks))
   made_or_not (Reports others) reports big (inr h) = inr (inr (others, refl, h))
 
   -- a word is made in one way, and nothing else is asked then
-  of_made : (verdict : Verdict) (reports : List (List ℕ)) → AskForBigReport words reports → IsVerdict words bytes verdict
+  of_made : (verdict : Verdict) (reports : List (List ℕ)) → AskForBigReport words reports → IsJobVerdict words bytes verdict
       → Reports reports ≡ verdict
   of_made verdict reports big h = by (made_or_not verdict reports big h)
     where
       by : (HasCommand words → ⊥) ⊎ (AsksForJob words ⊎ ((others : List (List ℕ)) × (verdict ≡ Reports others) × AskForBigReport words others))
           → Reports reports ≡ verdict
       by (inl none) = absurd (none (big.0, big.1))
-      by (inr (inl job)) = absurd (not_made words bytes job reports big)
+      by (inr (inl job)) = absurd (not_made laws.texts words bytes job reports big)
       by (inr (inr it)) = both_made reports it.0 big it.2 ∙ sym it.1
 
-  pub one_verdict : AreCheckable words bytes → (a b : Verdict) → IsVerdict words bytes a → IsVerdict words bytes b
+  pub one_verdict : AreCheckable words bytes → (a b : Verdict) → IsJobVerdict words bytes a → IsJobVerdict words bytes b
       → (a ≡ b) ⊎ AreOfWins words a b
+  one_verdict checks (Rejected line) other h k = absurd h
+  one_verdict checks other (Rejected line) h k = absurd k
   one_verdict checks Usage Usage h k =
       inl refl
   one_verdict checks Usage TooLong h k =
@@ -568,11 +620,11 @@ module _ (laws : ModelLaws) (words : List (List ℕ)) (bytes : List ℕ) where
   one_verdict checks Usage (Text fault) h k =
       absurd (h (k.0.0, k.0.1))
   one_verdict checks Usage (OfGrammar fault) h k =
-      absurd (h (has_command words bytes k.0 k.1 k.2))
+      absurd (h (has_command laws.texts words bytes k.0 k.1 k.2))
   one_verdict checks Usage (Limit word fault) h k =
-      absurd (h (has_command words bytes k.2.command k.0 k.2.asks))
+      absurd (h (has_command laws.texts words bytes k.2.command k.0 k.2.asks))
   one_verdict checks Usage (Reports reports) h (inl k) =
-      absurd (h (has_command words bytes k.2.command k.0 k.2.asks))
+      absurd (h (has_command laws.texts words bytes k.2.command k.0 k.2.asks))
   one_verdict checks Usage (Reports reports) h (inr k) = inl (sym (of_made Usage reports k h))
   one_verdict checks TooLong Usage h k =
       absurd (k (h.0.0, h.0.1))
@@ -592,53 +644,53 @@ module _ (laws : ModelLaws) (words : List (List ℕ)) (bytes : List ℕ) where
   one_verdict checks (Text fault) TooLong h k =
       absurd (too_long k.1 h.1)
   one_verdict checks (Text fault) (Text fault') h k =
-      inl (ap Text (same_fault bytes fault fault' h.2 k.2))
+      inl (ap Text (laws.texts.one_fault bytes fault fault' h.2 k.2))
   one_verdict checks (Text fault) (OfGrammar fault') h k =
-      absurd (text_or_fault bytes fault k.1 h.2 k.2.is_text)
+      absurd (laws.texts.not_both bytes k.1 fault k.2.is_text h.2)
   one_verdict checks (Text fault) (Limit word fault') h k =
-      absurd (text_or_fault bytes fault k.0 h.2 k.2.asks.is_text)
+      absurd (laws.texts.not_both bytes k.0 fault k.2.asks.is_text h.2)
   one_verdict checks (Text fault) (Reports reports) h (inl k) =
-      absurd (text_or_fault bytes fault k.0 h.2 k.2.asks.is_text)
+      absurd (laws.texts.not_both bytes k.0 fault k.2.asks.is_text h.2)
   one_verdict checks (Text fault) (Reports reports) h (inr k) = inl (sym (of_made (Text fault) reports k h))
   one_verdict checks (OfGrammar fault) Usage h k =
-      absurd (k (has_command words bytes h.0 h.1 h.2))
+      absurd (k (has_command laws.texts words bytes h.0 h.1 h.2))
   one_verdict checks (OfGrammar fault) TooLong h k =
       absurd (too_long k.1 h.2.short_enough)
   one_verdict checks (OfGrammar fault) (Text fault') h k =
-      absurd (text_or_fault bytes fault' h.1 k.2 h.2.is_text)
+      absurd (laws.texts.not_both bytes h.1 fault' h.2.is_text k.2)
   one_verdict checks (OfGrammar fault) (OfGrammar fault') h k =
-      inl (ap OfGrammar (fault_with_unique h.1.grammar h.1.well_formed (asked_name h.0 h.1.grammar) h.0.second fault fault' h.3 (fault_of_first words bytes h.0 k.0 h.1 k.1 fault' h.2 k.2 k.3)))
+      inl (ap OfGrammar (fault_with_unique h.1.grammar h.1.well_formed (asked_name h.0 h.1.grammar) h.0.second fault fault' h.3 (fault_of_first laws.texts words bytes h.0 k.0 h.1 k.1 fault' h.2 k.2 k.3)))
   one_verdict checks (OfGrammar fault) (Limit word fault') h k =
-      absurd (faultless_with_or_fault h.1.grammar h.1.well_formed (asked_name h.0 h.1.grammar) h.0.second k.1 fault (faultless_of_first words bytes h.0 h.1 k.0 k.1 h.2 k.2) (pair_of_first words bytes h.0 h.1 k.0 k.1 h.2 k.2) h.3)
+      absurd (faultless_with_or_fault h.1.grammar h.1.well_formed (asked_name h.0 h.1.grammar) h.0.second k.1 fault (faultless_of_first laws.texts words bytes h.0 h.1 k.0 k.1 h.2 k.2) (pair_of_first laws.texts words bytes h.0 h.1 k.0 k.1 h.2 k.2) h.3)
   one_verdict checks (OfGrammar fault) (Reports reports) h (inl k) =
-      absurd (faultless_with_or_fault h.1.grammar h.1.well_formed (asked_name h.0 h.1.grammar) h.0.second k.1 fault (faultless_of_first words bytes h.0 h.1 k.0 k.1 h.2 k.2) (pair_of_first words bytes h.0 h.1 k.0 k.1 h.2 k.2) h.3)
+      absurd (faultless_with_or_fault h.1.grammar h.1.well_formed (asked_name h.0 h.1.grammar) h.0.second k.1 fault (faultless_of_first laws.texts words bytes h.0 h.1 k.0 k.1 h.2 k.2) (pair_of_first laws.texts words bytes h.0 h.1 k.0 k.1 h.2 k.2) h.3)
   one_verdict checks (OfGrammar fault) (Reports reports) h (inr k) = inl (sym (of_made (OfGrammar fault) reports k h))
   one_verdict checks (Limit word fault) Usage h k =
-      absurd (k (has_command words bytes h.2.command h.0 h.2.asks))
+      absurd (k (has_command laws.texts words bytes h.2.command h.0 h.2.asks))
   one_verdict checks (Limit word fault) TooLong h k =
       absurd (too_long k.1 h.2.asks.short_enough)
   one_verdict checks (Limit word fault) (Text fault') h k =
-      absurd (text_or_fault bytes fault' h.0 k.2 h.2.asks.is_text)
+      absurd (laws.texts.not_both bytes h.0 fault' h.2.asks.is_text k.2)
   one_verdict checks (Limit word fault) (OfGrammar fault') h k =
-      absurd (faultless_with_or_fault k.1.grammar k.1.well_formed (asked_name k.0 k.1.grammar) k.0.second h.1 fault' (faultless_of_first words bytes k.0 k.1 h.0 h.1 k.2 h.2) (pair_of_first words bytes k.0 k.1 h.0 h.1 k.2 h.2) k.3)
+      absurd (faultless_with_or_fault k.1.grammar k.1.well_formed (asked_name k.0 k.1.grammar) k.0.second h.1 fault' (faultless_of_first laws.texts words bytes k.0 k.1 h.0 h.1 k.2 h.2) (pair_of_first laws.texts words bytes k.0 k.1 h.0 h.1 k.2 h.2) k.3)
   one_verdict checks (Limit word fault) (Limit word' fault') h k =
       let found = checks h.0 h.1 h.2 in
-      inl (limit_unique laws h.0.grammar h.1 found.0 found.1 found.2 found.3 h.2.command.second h.2.pair 1 h.0.words word word' fault fault' h.3 (limit_of_first words bytes h.0 k.0 h.1 k.1 word' fault' h.2 k.2 k.3))
+      inl (limit_unique laws h.0.grammar h.1 found.0 found.1 found.2 found.3 h.2.command.second h.2.pair 1 h.0.words word word' fault fault' h.3 (limit_of_first laws.texts words bytes h.0 k.0 h.1 k.1 word' fault' h.2 k.2 k.3))
   one_verdict checks (Limit word fault) (Reports reports) h (inl k) =
       let found = checks k.0 k.1 k.2 in
-      absurd (kept_or_limit laws k.0.grammar k.1 found.0 found.1 found.2 found.3 k.2.command.second k.2.pair 1 k.0.words word fault k.3 (limit_of_first words bytes k.0 h.0 k.1 h.1 word fault k.2 h.2 h.3))
+      absurd (kept_or_limit laws k.0.grammar k.1 found.0 found.1 found.2 found.3 k.2.command.second k.2.pair 1 k.0.words word fault k.3 (limit_of_first laws.texts words bytes k.0 h.0 k.1 h.1 word fault k.2 h.2 h.3))
   one_verdict checks (Limit word fault) (Reports reports) h (inr k) = inl (sym (of_made (Limit word fault) reports k h))
   one_verdict checks (Reports reports) Usage (inl h) k =
-      absurd (k (has_command words bytes h.2.command h.0 h.2.asks))
+      absurd (k (has_command laws.texts words bytes h.2.command h.0 h.2.asks))
   one_verdict checks (Reports reports) TooLong (inl h) k =
       absurd (too_long k.1 h.2.asks.short_enough)
   one_verdict checks (Reports reports) (Text fault') (inl h) k =
-      absurd (text_or_fault bytes fault' h.0 k.2 h.2.asks.is_text)
+      absurd (laws.texts.not_both bytes h.0 fault' h.2.asks.is_text k.2)
   one_verdict checks (Reports reports) (OfGrammar fault') (inl h) k =
-      absurd (faultless_with_or_fault k.1.grammar k.1.well_formed (asked_name k.0 k.1.grammar) k.0.second h.1 fault' (faultless_of_first words bytes k.0 k.1 h.0 h.1 k.2 h.2) (pair_of_first words bytes k.0 k.1 h.0 h.1 k.2 h.2) k.3)
+      absurd (faultless_with_or_fault k.1.grammar k.1.well_formed (asked_name k.0 k.1.grammar) k.0.second h.1 fault' (faultless_of_first laws.texts words bytes k.0 k.1 h.0 h.1 k.2 h.2) (pair_of_first laws.texts words bytes k.0 k.1 h.0 h.1 k.2 h.2) k.3)
   one_verdict checks (Reports reports) (Limit word fault) (inl h) k =
       let found = checks h.0 h.1 h.2 in
-      absurd (kept_or_limit laws h.0.grammar h.1 found.0 found.1 found.2 found.3 h.2.command.second h.2.pair 1 h.0.words word fault h.3 (limit_of_first words bytes h.0 k.0 h.1 k.1 word fault h.2 k.2 k.3))
+      absurd (kept_or_limit laws h.0.grammar h.1 found.0 found.1 found.2 found.3 h.2.command.second h.2.pair 1 h.0.words word fault h.3 (limit_of_first laws.texts words bytes h.0 k.0 h.1 k.1 word fault h.2 k.2 k.3))
   one_verdict checks (Reports reports) (Reports reports') (inl h) (inl k) = both_reported checks reports reports' h k
   one_verdict checks (Reports reports) (Reports reports') (inl h) (inr k) =
       inl (sym (of_made (Reports reports) reports' k (inl h)))
@@ -649,17 +701,25 @@ module _ (laws : ModelLaws) (words : List (List ℕ)) (bytes : List ℕ) where
   one_verdict checks (Reports reports) (Limit word fault) (inr h) k = inl (of_made (Limit word fault) reports h k)
   one_verdict checks (Reports reports) (Reports reports') (inr h) k = inl (of_made (Reports reports') reports h k)
 
-  pub only_reports : (reports : List (List ℕ)) (verdict : Verdict) → IsVerdict words bytes (Reports reports)
-      → IsVerdict words bytes verdict → (IsLimit verdict → AreCheckable words bytes) → IsReports verdict
-  only_reports reports (Reports others) h k checks = tt
+  -- what is asked about within the limits has no fault
+  pub only_within : (h : AsksWithin words bytes) (verdict : Verdict) → IsJobVerdict words bytes verdict
+      → (IsLimit verdict → AreCheckable words bytes) → IsReports verdict
+  only_within h (Reports others) k checks = tt
+  only_within h (Rejected line) k checks = absurd k
+  only_within h Usage k checks = absurd (k (has_command laws.texts words bytes h.asked.command h.job h.asked.asks))
+  only_within h TooLong k checks = absurd (too_long k.1 h.asked.asks.short_enough)
+  only_within h (Text fault) k checks = absurd (laws.texts.not_both bytes h.job fault h.asked.asks.is_text k.2)
+  only_within h (OfGrammar fault) k checks =
+      absurd (faultless_with_or_fault k.1.grammar k.1.well_formed (asked_name k.0 k.1.grammar) k.0.second h.algebra fault
+      (faultless_of_first laws.texts words bytes k.0 k.1 h.job h.algebra k.2 h.asked)
+      (pair_of_first laws.texts words bytes k.0 k.1 h.job h.algebra k.2 h.asked) k.3)
+  only_within h (Limit word fault) k checks =
+      let found = checks tt h.job h.algebra h.asked in
+      absurd (kept_or_limit laws h.job.grammar h.algebra found.0 found.1 found.2 found.3 h.asked.command.second h.asked.pair
+      1 h.job.words word fault h.limits (limit_of_first laws.texts words bytes h.job k.0 h.algebra k.1 word fault h.asked k.2 k.3))
+
+  pub only_reports : (reports : List (List ℕ)) (verdict : Verdict) → IsJobVerdict words bytes (Reports reports)
+      → IsJobVerdict words bytes verdict → (IsLimit verdict → AreCheckable words bytes) → IsReports verdict
+  only_reports reports verdict (inl h) k checks =
+      only_within (record { job = h.0; algebra = h.1; asked = h.2; limits = h.3 }) verdict k checks
   only_reports reports verdict (inr h) k checks = subst IsReports (of_made verdict reports h k) tt
-  only_reports reports Usage (inl h) k checks = absurd (k (has_command words bytes h.2.command h.0 h.2.asks))
-  only_reports reports TooLong (inl h) k checks = absurd (too_long k.1 h.2.asks.short_enough)
-  only_reports reports (Text fault) (inl h) k checks = absurd (text_or_fault bytes fault h.0 k.2 h.2.asks.is_text)
-  only_reports reports (OfGrammar fault) (inl h) k checks =
-      absurd (faultless_with_or_fault k.1.grammar k.1.well_formed (asked_name k.0 k.1.grammar) k.0.second h.1 fault
-      (faultless_of_first words bytes k.0 k.1 h.0 h.1 k.2 h.2) (pair_of_first words bytes k.0 k.1 h.0 h.1 k.2 h.2) k.3)
-  only_reports reports (Limit word fault) (inl h) k checks =
-      let found = checks tt h.0 h.1 h.2 in
-      absurd (kept_or_limit laws h.0.grammar h.1 found.0 found.1 found.2 found.3 h.2.command.second h.2.pair 1 h.0.words word fault h.3
-      (limit_of_first words bytes h.0 k.0 h.1 k.1 word fault h.2 k.2 k.3))

@@ -1,23 +1,34 @@
 -- An admitted word has a report in each mode that reads words.
-use Rattle.std.proofs.Common.{◌≡◌, ℕ, zero, suc, ◌+◌, ◌≤◌, IsSome, Option, None, Some, List, [], ◌∷◌, ◌++◌, length, sum, refl, sym, ap, subst, ◌∙◌, arith}
+use Rattle.std.proofs.Common.{◌≡◌, ◌↔◌, ℕ, zero, suc, ◌+◌, ◌≤◌, IsSome, Option, None, Some, List, [], ◌∷◌, ◌++◌, length, sum, refl, sym, ap, subst, ◌∙◌, arith}
 use Rattle.std.proofs.lemmas.List.Sums.{sum_by-cons}
 use Rattle.adp_model.specs.PosedProblem.{PosedProblem}
 use Rattle.adp_model.specs.ProblemFields.{IsAdmissible}
+use Rattle.adp_model.specs.Checks.{IsChecked}
 use Rattle.adp_model.specs.Demand.{IsDemandedCount}
 use Rattle.adp_model.specs.Report.{wins_line, IsReport}
 use Rattle.verdicts.specs.declared.command.Mode.{Mode}
-use Rattle.verdicts.specs.declared.command.Mode.TheVariants.{Best, Serial, Wins, Replay, Lex, Big}
+use Rattle.verdicts.specs.declared.command.Mode.TheVariants.{Best, Serial, Wins, Replay, Lex, Cert, Verify, Big}
 use Rattle.verdicts.specs.Command.{Command, ReadsJob}
 use Rattle.lex_product.specs.PairLimits.{IsPairAdmissible}
 use Rattle.lex_product.specs.PairReport.{IsPairReport}
+use Rattle.table_certificate.specs.ScoreReports.{IsScoreReport}
+use Rattle.table_certificate.specs.WrittenCertificate.{IsCertificate}
+use Rattle.verdicts.specs.Certificates.{before_block}
 use Rattle.verdicts.specs.SecondAlgebra.{IsAdmissibleWith}
 use Rattle.verdicts.specs.Verdict.{IsReportIn, IsReportWith}
+use Rattle.verdicts.specs.WordReport.{HidesAlternatives}
 
 -- an admitted word has a report, by one algebra and by two in order
 pub record ReportLaws : Type 0 where
   pub plain : (number : ℕ) (p : PosedProblem) → IsAdmissible p → (report : List ℕ) × IsReport number p report
   pub paired : (number : ℕ) (p : PosedProblem) (second : ℕ) → IsPairAdmissible p second
       → (report : List ℕ) × IsPairReport number p second report
+  pub block : (number : ℕ) (p : PosedProblem) → IsAdmissible p → (text : List ℕ) × IsCertificate number p text
+  pub score : (number : ℕ) (p : PosedProblem) → IsAdmissible p → (report : List ℕ) × IsScoreReport number p report
+  pub nested : (p : PosedProblem) (least : List ℕ) (greatest : List (Option ℕ)) (ranks : List ℕ)
+      → IsChecked p.grammar p.algebra least greatest ranks → (hidden : Option ℕ) → HidesAlternatives hidden p.grammar
+      → (mode : Mode) (second : Option (List ℕ)) (number : ℕ) (wins report : List ℕ)
+      → IsReportWith mode second None number p wins report ↔ IsReportWith mode second hidden number p wins report
 
 -- a word that is admitted with a second algebra is admitted
 own_admissible : (second : Option (List ℕ)) (p : PosedProblem) → IsAdmissibleWith second p → IsAdmissible p
@@ -47,7 +58,7 @@ no_wins_sum (suc count) = no_wins_sum count
 module _ (laws : ReportLaws) where
   -- by both algebras
   by_both : (second : Option (List ℕ)) (number : ℕ) (p : PosedProblem) (wins : List ℕ) → IsSome second
-      → IsAdmissibleWith second p → (report : List ℕ) × IsReportWith Lex second number p wins report
+      → IsAdmissibleWith second p → (report : List ℕ) × IsReportWith Lex second None number p wins report
   by_both None number p wins there is = cc
   by_both (Some name) number p wins there (second, named, pair) =
       let found = laws.paired number p second pair in
@@ -58,7 +69,7 @@ module _ (laws : ReportLaws) where
       (each : length wins ≡ command.workers) (plain : (report : List ℕ) × IsReport number p report)
       (all : sum wins ≡ plain.1.1) where
     with_wins : (mode : Mode) → ReadsJob mode → (mode ≡ Lex → IsSome command.second)
-        → (report : List ℕ) × IsReportWith mode command.second number p wins report
+        → (report : List ℕ) × IsReportWith mode command.second None number p wins report
     with_wins Best reads there = plain
     with_wins Serial reads there = plain
     with_wins Wins reads there =
@@ -66,10 +77,14 @@ module _ (laws : ReportLaws) where
     with_wins Replay reads there =
         (plain.0 ++ wins_line wins, (plain.0, plain.1, subst (IsDemandedCount p) (sym all) plain.1.3, refl))
     with_wins Lex reads there = by_both command.second number p wins (there refl) is
+    with_wins Cert reads there =
+        let found = laws.block number p (own_admissible command.second p is) in
+        (before_block number ++ found.0, (found.0, found.1, refl))
+    with_wins Verify reads there = laws.score number p (own_admissible command.second p is)
     with_wins Big reads there = absurd (reads refl)
 
     in_mode : ReadsJob command.mode → (command.mode ≡ Lex → IsSome command.second)
-        → (report : List ℕ) × IsReportIn command number p report
+        → (report : List ℕ) × IsReportIn command None number p report
     in_mode reads there =
         let found = with_wins command.mode reads there in
         (found.0, (wins, each, found.1))
@@ -77,7 +92,7 @@ module _ (laws : ReportLaws) where
   -- one of the evaluators has all wins
   for_workers : (command : Command) (workers number : ℕ) (p : PosedProblem) → command.workers ≡ workers → 1 ≤ workers
       → ReadsJob command.mode → (command.mode ≡ Lex → IsSome command.second) → IsAdmissibleWith command.second p
-      → (report : List ℕ) × IsReportIn command number p report
+      → (report : List ℕ) × IsReportIn command None number p report
   for_workers command zero number p is some reads there admissible = absurd (omega (arith, some))
   for_workers command (suc others) number p is some reads there admissible =
       let plain = laws.plain number p (own_admissible command.second p admissible) in
@@ -87,8 +102,18 @@ module _ (laws : ReportLaws) where
       in_mode command number p admissible (count ∷ no_wins others) (ap suc (no_wins_number others) ∙ sym is) plain all reads
       there
 
-  pub report_asked_for : (command : Command) (number : ℕ) (p : PosedProblem) → ReadsJob command.mode
-      → (command.mode ≡ Lex → IsSome command.second) → 1 ≤ command.workers → IsAdmissibleWith command.second p
-      → (report : List ℕ) × IsReportIn command number p report
-  report_asked_for command number p reads there some admissible =
-      for_workers command command.workers number p refl some reads there admissible
+  pub report_asked_for : (command : Command) (hidden : Option ℕ) (number : ℕ) (p : PosedProblem)
+      → ReadsJob command.mode → (command.mode ≡ Lex → IsSome command.second) → 1 ≤ command.workers
+      → IsAdmissibleWith command.second p → HidesAlternatives hidden p.grammar
+      → (report : List ℕ) × IsReportIn command hidden number p report
+  report_asked_for command hidden number p reads there some admissible hides =
+      let found = for_workers command command.workers number p refl some reads there admissible in
+      let own = own_admissible command.second p admissible in (
+        found.0,
+        (
+          found.1.0,
+          found.1.1,
+          (laws.nested p own.least own.greatest own.ranks own.checked hidden hides command.mode command.second number
+              found.1.0 found.0).0 found.1.2,
+        ),
+      )

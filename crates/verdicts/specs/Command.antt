@@ -4,7 +4,7 @@ use Rattle.std.specs.Prelude.{◌≡◌, ℕ, ◌^◌, ◌<◌, ◌≤◌, ◌�
 use Rattle.std.specs.Str.Parse.{IsNumeral, digits_value}
 use Rattle.adp_model.specs.WellFormed.{is_name, are_distinct}
 use Rattle.verdicts.specs.declared.command.Mode.{Mode}
-use Rattle.verdicts.specs.declared.command.Mode.TheVariants.{Best, Serial, Wins, Replay, Lex, Big}
+use Rattle.verdicts.specs.declared.command.Mode.TheVariants.{Best, Serial, Wins, Replay, Lex, Cert, Verify, Big}
 use Rattle.verdicts.specs.ScheduleText.{is_schedule, machines_of}
 
 abbrev pub mode_word : Mode → List ℕ
@@ -13,6 +13,8 @@ mode_word Serial = codes "serial"
 mode_word Wins = codes "wins"
 mode_word Replay = codes "replay"
 mode_word Lex = codes "lex"
+mode_word Cert = codes "cert"
+mode_word Verify = codes "verify"
 mode_word Big = codes "big"
 
 -- an option with its value: an algebra's name; that of a second one, which decides among equals; a number of evaluators;
@@ -33,13 +35,13 @@ option_word (Seed seed) = codes "--seed"
 option_word (Schedule machines) = codes "--schedule"
 option_word (Size size) = codes "--size"
 
--- the options of a mode: a word that is made has no other algebra than its grammar's, and a second algebra is asked for,
--- and a schedule followed, in one mode alone
+-- the options of a mode: a word that is made has no other algebra than its grammar's, a certificate is checked without
+-- evaluators, and a second algebra is asked for, and a schedule followed, in one mode alone
 abbrev pub Allows : Mode → Setting → Type 0
 Allows mode (Algebra name) = (mode ≡ Big) → ⊥
 Allows mode (Then name) = mode ≡ Lex
-Allows mode (Workers workers) = Unit {0}
-Allows mode (Seed seed) = Unit {0}
+Allows mode (Workers workers) = (mode ≡ Verify) → ⊥
+Allows mode (Seed seed) = (mode ≡ Verify) → ⊥
 Allows mode (Schedule machines) = mode ≡ Replay
 Allows mode (Size size) = mode ≡ Big
 
@@ -148,6 +150,10 @@ ReadsJob mode = (mode ≡ Big) → ⊥
 -- whether the reports of a mode tell the wins of its evaluators
 abbrev pub ShowsWins : Mode → Type 0
 ShowsWins mode = (mode ≡ Wins) ⊎ (mode ≡ Replay)
+
+-- the words are a command that checks a certificate
+abbrev pub AsksToVerify : List (List ℕ) → Type 0
+AsksToVerify words = (command : Command) × IsCommand words command × (command.mode ≡ Verify)
 
 -- the words are a command that reads a job
 abbrev pub AsksForJob : List (List ℕ) → Type 0

@@ -2,5 +2,8 @@ pub mod ScheduleText
 pub mod Command
 pub mod CommandFields
 pub mod SecondAlgebra
+pub mod WordReport
+pub mod Posed
+pub mod Certificates
 pub mod Verdict
 pub mod CheckableJobs

@@ -1,6 +1,6 @@
 -- A second algebra, which a command may ask for by its name: it decides among equals. What it adds to the faults of a
 -- grammar and to the limits of its words; where none is asked for, these are the grammar's and the words' own.
-use Rattle.std.specs.Prelude.{ℕ, ◌⊎◌, Option, None, Some, List, length}
+use Rattle.std.specs.Prelude.{ℕ, ◌⊎◌, Option, None, Some, List}
 use Rattle.adp_model.specs.declared.grammar.Grammar as grammars
 use Rattle.adp_model.specs.declared.fault.GrammarFault.{GrammarFault}
 use Rattle.adp_model.specs.declared.fault.LimitFault.{LimitFault}

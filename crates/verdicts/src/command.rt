@@ -13,6 +13,10 @@ pub enum Mode {
     Replay,
     /// The report of each word by two algebras in order.
     Lex,
+    /// The best score of each demanded cell, line by line, and the job behind them: a certificate.
+    Cert,
+    /// What such lines tell of each word, where they are right.
+    Verify,
     /// The answer for a word that is made.
     Big,
 }
@@ -52,7 +56,7 @@ impl<'w> Model for Command<'w> {
 impl<'w> Command<'w> {
     ghost use Rattle.std.specs.Prelude.{◌≡◌, ◌≤◌, IfSome, IsSome, IsTrue, MatchBool};
     ghost use Rattle.adp_model.specs.WellFormed.{is_name};
-    ghost use Rattle.verdicts.specs.declared.command.Mode.TheVariants.{Big, Lex};
+    ghost use Rattle.verdicts.specs.declared.command.Mode.TheVariants.{Big, Cert, Lex, Verify};
     ghost use Rattle.verdicts.specs.Command.{ReadsJob, greatest_size};
 
     /// What every command keeps. Does nothing when it runs.
@@ -73,7 +77,27 @@ impl<'w> Command<'w> {
     {
         match self.mode {
             Mode::Big => false,
-            Mode::Best | Mode::Serial | Mode::Wins | Mode::Replay | Mode::Lex => true,
+            Mode::Best
+            | Mode::Serial
+            | Mode::Wins
+            | Mode::Replay
+            | Mode::Lex
+            | Mode::Cert
+            | Mode::Verify => true,
         }
+    }
+
+    /// Whether the job is written behind the reports of its words, which are a certificate.
+    pub fn certifies(&self) -> bool
+        ensures { MatchBool result (self.now.mode ≡ Cert) (self.now.mode ≡ Cert → ⊥) }
+    {
+        matches!(self.mode, Mode::Cert)
+    }
+
+    /// Whether a certificate is checked, and nothing found.
+    pub fn verifies(&self) -> bool
+        ensures { MatchBool result (self.now.mode ≡ Verify) (self.now.mode ≡ Verify → ⊥) }
+    {
+        matches!(self.mode, Mode::Verify)
     }
 }

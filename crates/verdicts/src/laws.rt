@@ -3,17 +3,31 @@
 ghost use Rattle.adp_model.specs.PosedProblem.{PosedProblem};
 ghost use Rattle.adp_model.specs.WellFormed.{is_well_formed};
 ghost use Rattle.adp_model.specs.declared.grammar.Grammar.{Grammar};
-ghost use Rattle.std.specs.Prelude.{◌≡◌, ◌⊎◌, ◌≤◌, ◌<◌, ◌^◌, ℕ, IsNone, IsSome, IsTrue, List, Option};
-ghost use Rattle.verdicts.specs.CheckableJobs.{AreCheckable};
+ghost use Rattle.adp_model.specs.Checks.{IsChecked};
+ghost use Rattle.nested_jobs.specs.NestedJob.{IsNestedText, hidden_in};
+ghost use Rattle.std.specs.Prelude.{◌≡◌, ◌↔◌, ◌⊎◌, ◌≤◌, ◌<◌, ◌^◌, ℕ, IsNone, IsSome, IsTrue, List, None, Option, length};
+ghost use Rattle.std.specs.List.{concat};
+ghost use Rattle.verdicts.specs.declared.command.Mode.{Mode};
+ghost use Rattle.verdicts.specs.WordReport.{HidesAlternatives};
+ghost use Rattle.verdicts.specs.CheckableJobs.{IsCheckableInput};
 ghost use Rattle.verdicts.specs.Command.{Command, IsCommand, ReadsJob, greatest_size};
-ghost use Rattle.verdicts.specs.declared.command.Mode.TheVariants.{Lex};
+ghost use Rattle.verdicts.specs.declared.command.Mode.TheVariants.{Cert, Lex, Verify};
 ghost use Rattle.verdicts.specs.SecondAlgebra.{IsAdmissibleWith, IsSecond};
 ghost use Rattle.adp_model.specs.declared.job.Job.{Job};
-ghost use Rattle.verdicts.specs.Verdict.{AreOfWins, AsksUnder, IsLimit, IsReportIn, IsReports, IsVerdict, Reports, Verdict};
+ghost use Rattle.verdicts.specs.Verdict.{AreOfWins, AsksUnder, IsLimit, IsReportIn, IsReportWith, IsReports, IsVerdict, Reports, Verdict, greatest_length};
 
 use adp_model::laws::limits::limits_are_kept_or_passed;
 use adp_model::laws::report;
 use lex_product::laws::{pair_limits_are_kept_or_passed, words_have_one_pair_report};
+use nested_jobs::laws::{hidden_rules_are_nested_alternatives, texts_spell_one_job};
+use nested_trees::laws as nested;
+use table_certificate::laws::{
+    right_certificates_are_not_rejected, right_certificates_part_at_job,
+    written_certificates_are_right,
+};
+use table_certificate::uniqueness::{
+    first_false_line_is_unique, words_have_one_certificate, words_have_one_score_report,
+};
 
 /// Words are one command, whose numbers are in range; a second algebra is asked for in one mode alone.
 pub fn command_is_unique()
@@ -35,7 +49,9 @@ pub fn asked_grammar_is_unique()
         → AsksUnder words bytes b n → a.grammar ≡ b.grammar }
     ensures algebra { (words : List (List ℕ)) (bytes : List ℕ) (a b : Job) (m n : ℕ) → AsksUnder words bytes a m
         → AsksUnder words bytes b n → m ≡ n }
-{}
+{
+    texts_spell_one_job();
+}
 
 /// A second algebra is the grammar's one of its name.
 pub fn second_algebra_is_unique()
@@ -43,30 +59,74 @@ pub fn second_algebra_is_unique()
         → IsSecond second grammar a → IsSecond second grammar b → a ≡ b }
 {}
 
+/// The rules that a text hides are nested alternatives.
+pub fn texts_hide_alternatives()
+    ensures { (bytes : List ℕ) (job : Job) → IsNestedText bytes job → HidesAlternatives (hidden_in bytes) job.grammar }
+{
+    hidden_rules_are_nested_alternatives();
+}
+
+/// A report under the nested grammar is one under the plain grammar, in each mode, where the grammar has sizes and ranks.
+pub fn nested_reports_are_the_plain_ones()
+    ensures { (p : PosedProblem) (least : List ℕ) (greatest : List (Option ℕ)) (ranks : List ℕ)
+        → IsChecked p.grammar p.algebra least greatest ranks → (hidden : Option ℕ) → HidesAlternatives hidden p.grammar
+        → (mode : Mode) (second : Option (List ℕ)) (number : ℕ) (wins report : List ℕ)
+        → IsReportWith mode second None number p wins report ↔ IsReportWith mode second hidden number p wins report }
+{
+    nested::nested_reports_are_the_plain_ones();
+}
+
 /// A command line and bytes have one verdict, where the grammar of the bytes has sizes and ranks if it has no fault;
 /// but reports that tell the wins of evaluators may tell others. Where the verdict are reports there is no fault; that
 /// no word passes a limit needs sizes and ranks.
 pub fn verdict_is_unique()
-    ensures same { (words : List (List ℕ)) (bytes : List ℕ) → AreCheckable words bytes → (a b : Verdict)
+    ensures same { (words : List (List ℕ)) (bytes : List ℕ) → IsCheckableInput words bytes → (a b : Verdict)
         → IsVerdict words bytes a → IsVerdict words bytes b → (a ≡ b) ⊎ AreOfWins words a b }
     ensures reported { (words : List (List ℕ)) (bytes : List ℕ) (reports : List (List ℕ)) (verdict : Verdict)
         → IsVerdict words bytes (Reports reports) → IsVerdict words bytes verdict
-        → (IsLimit verdict → AreCheckable words bytes) → IsReports verdict }
+        → (IsLimit verdict → IsCheckableInput words bytes) → IsReports verdict }
 {
+    texts_spell_one_job();
+    texts_hide_alternatives();
+    nested_reports_are_the_plain_ones();
     report::report_is_unique();
     limits_are_kept_or_passed();
     pair_limits_are_kept_or_passed();
     words_have_one_pair_report();
+    words_have_one_certificate();
+    words_have_one_score_report();
+    right_certificates_part_at_job();
+    right_certificates_are_not_rejected();
+    first_false_line_is_unique();
 }
 
 /// A word that is admitted has a report that a command asks for, if the command reads words, and names a second algebra
 /// where it is to.
 pub fn words_have_reports()
-    ensures { (command : Command) (number : ℕ) (p : PosedProblem) → ReadsJob command.mode
+    ensures { (command : Command) (hidden : Option ℕ) (number : ℕ) (p : PosedProblem) → ReadsJob command.mode
         → (command.mode ≡ Lex → IsSome command.second) → 1 ≤ command.workers
-        → IsAdmissibleWith command.second p → (report : List ℕ) × IsReportIn command number p report }
+        → IsAdmissibleWith command.second p → HidesAlternatives hidden p.grammar
+        → (report : List ℕ) × IsReportIn command hidden number p report }
 {
+    nested_reports_are_the_plain_ones();
     report::words_have_reports();
     pair_limits_are_kept_or_passed();
     words_have_one_pair_report();
+    words_have_one_certificate();
+    words_have_one_score_report();
+}
+
+/// What is written as a certificate is accepted under the same algebra, where it is not too long: the verdict on it are
+/// best scores.
+pub fn written_certificates_are_accepted()
+    ensures { (words others : List (List ℕ)) (bytes : List ℕ) (pieces : List (List ℕ)) (command other : Command)
+        → IsCommand words command → command.mode ≡ Cert → IsCommand others other → other.mode ≡ Verify
+        → other.algebra ≡ command.algebra → IsCheckableInput words bytes → length (concat pieces) ≤ greatest_length
+        → IsVerdict words bytes (Reports pieces)
+        → (reports : List (List ℕ)) × IsVerdict others (concat pieces) (Reports reports) }
+{
+    written_certificates_are_right();
+    right_certificates_part_at_job();
+    words_have_reports();
+    texts_hide_alternatives();
 }

@@ -1,6 +1,6 @@
 use Rattle.std.proofs.Common.{inl, inr, refl}
 use Rattle.std.proofs.lemmas.Result.{err_from_is_err_and}
-use Rattle.adp_main.specs.Posed.{posed_words}
+use Rattle.verdicts.specs.Posed.{posed_words}
 use Rattle.adp_main.proofs.Reported.{job_ending}
 use Rattle.adp_main.proofs.Told.{undone}
 use Rattle.adp_main.proofs.answering.write_job.Goals as goal
@@ -8,12 +8,12 @@ use Rattle.adp_main.proofs.answering.write_job.Goals as goal
 pub returns-clause-ending : goal.returns-clause-ending
 returns-clause-ending g c =
     let job = c.args.job.now in
-    job_ending c.args.command.now job.checked.grammar job.checked.algebra job.words
+    job_ending c.args.command.now job.checked.grammar job.checked.algebra job.words c.args.input.now
     (posed_words job.checked.grammar job.checked.algebra job.words) refl c.in_ok-judged.ensures.admissible
-    c.write_words.result _ _ c.write_words.ensures.written
+    c.write_pieces.result _ _ c.write_pieces.ensures.written
 
 pub returns-clause-noted : goal.returns-clause-noted
-returns-clause-noted g c = inr c.write_words.ensures.noted
+returns-clause-noted g c = inr c.write_pieces.ensures.noted
 
 pub returns-in_err-judged-clause-noted : goal.returns-in_err-judged-clause-noted
 returns-in_err-judged-clause-noted g c =

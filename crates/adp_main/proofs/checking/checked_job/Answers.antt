@@ -16,14 +16,14 @@ pub returns-in_err-job-clause-refusal : goal.returns-in_err-job-clause-refusal
 returns-in_err-job-clause-refusal c =
     let p = err_from_is_err_and c.from_residual.result c.from_residual.ensures.1 in
     rw (p.1, p.2) (λ words is.
-    text_refused words c.args.bytes.now c.read_text.result c.in_err-job.field-0.0
-    (c.args.command.now, is, c.requires.reads) c.requires.fits c.read_text.ensures
-    (gave_err c.read_text.result c.in_err-job.field-0.0 (λ (e : TextError) (fault : Fault). fault ≡ text_refusal e) c.in_err-job.ensures.cases))
+    text_refused words c.args.bytes.now c.read_nested.result c.in_err-job.field-0.0
+    (c.args.command.now, is, c.requires.reads) c.requires.fits c.read_nested.ensures
+    (gave_err c.read_nested.result c.in_err-job.field-0.0 (λ (e : TextError) (fault : Fault). fault ≡ text_refusal e) c.in_err-job.ensures.cases))
 
 pub returns-in_err-checked-clause-refusal : goal.returns-in_err-checked-clause-refusal
 returns-in_err-checked-clause-refusal c =
     let job = c.in_ok-job.job in
-    let text = is_text c.args.bytes.now job c.read_text.result c.read_text.ensures (gave_ok _ c.read_text.result job _ c.in_ok-job.ensures.variant c.in_ok-job.ensures.cases) in
+    let text = is_text c.args.bytes.now job c.read_nested.result c.read_nested.ensures (gave_ok _ c.read_nested.result job _ c.in_ok-job.ensures.variant c.in_ok-job.ensures.cases) in
     let p = err_from_is_err_and c.from_residual-in_err-checked.result c.from_residual-in_err-checked.ensures.1 in
     let same : c.new-name.result ≡ c.named_algebra-name.result.now = c.new-name.ensures ∙ c.in_ok-from_slice.ensures.items in
     rw (p.1, p.2) (λ words is.
@@ -35,8 +35,8 @@ returns-in_err-checked-clause-refusal c =
 pub returns-in_err-job-clause-fault : goal.returns-in_err-job-clause-fault
 returns-in_err-job-clause-fault c =
     let p = err_from_is_err_and c.from_residual.result c.from_residual.ensures.1 in
-    rw (p.1, p.2) (text_fault c.read_text.result c.in_err-job.field-0.0
-    (gave_err c.read_text.result c.in_err-job.field-0.0 (λ (e : TextError) (fault : Fault). fault ≡ text_refusal e) c.in_err-job.ensures.cases))
+    rw (p.1, p.2) (text_fault c.read_nested.result c.in_err-job.field-0.0
+    (gave_err c.read_nested.result c.in_err-job.field-0.0 (λ (e : TextError) (fault : Fault). fault ≡ text_refusal e) c.in_err-job.ensures.cases))
 
 pub returns-in_err-checked-clause-fault : goal.returns-in_err-checked-clause-fault
 returns-in_err-checked-clause-fault c =
@@ -55,7 +55,7 @@ returns-in_err-checked-clause-fault c =
 pub returns-in_err-second-clause-refusal : goal.returns-in_err-second-clause-refusal
 returns-in_err-second-clause-refusal c =
     let job = c.in_ok-job.job in
-    let text = is_text c.args.bytes.now job c.read_text.result c.read_text.ensures (gave_ok _ c.read_text.result job _ c.in_ok-job.ensures.variant c.in_ok-job.ensures.cases) in
+    let text = is_text c.args.bytes.now job c.read_nested.result c.read_nested.ensures (gave_ok _ c.read_nested.result job _ c.in_ok-job.ensures.variant c.in_ok-job.ensures.cases) in
     let p = err_from_is_err_and c.from_residual-in_err-second.result c.from_residual-in_err-second.ensures.1 in
     let same : c.new-name.result ≡ c.named_algebra-name.result.now = c.new-name.ensures ∙ c.in_ok-from_slice.ensures.items in
     rw (p.1, p.2) (λ words is.
@@ -73,7 +73,7 @@ returns-in_err-second-clause-fault c =
 pub returns-clause-job : goal.returns-clause-job
 returns-clause-job c = λ words is.
     let job = c.in_ok-job.job in
-    let text = is_text c.args.bytes.now job c.read_text.result c.read_text.ensures (gave_ok _ c.read_text.result job _ c.in_ok-job.ensures.variant c.in_ok-job.ensures.cases) in
+    let text = is_text c.args.bytes.now job c.read_nested.result c.read_nested.ensures (gave_ok _ c.read_nested.result job _ c.in_ok-job.ensures.variant c.in_ok-job.ensures.cases) in
     let same : c.new-name.result ≡ c.named_algebra-name.result.now = c.new-name.ensures ∙ c.in_ok-from_slice.ensures.items in
     let found = is_checked words c.args.bytes.now c.args.command.now job c.new-name.result c.check.result c.in_ok-checked.checked c.in_ok-second.second
     (record { is_command = is; reads = c.requires.reads; short_enough = c.requires.fits; is_text = text })

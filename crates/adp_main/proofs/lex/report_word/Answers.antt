@@ -1,6 +1,6 @@
 use Rattle.std.proofs.Common.{◌∙◌, refl, sym, arith}
 use Rattle.std.proofs.lemmas.Result.{err_from_is_err_and}
-use Rattle.adp_main.specs.Posed.{posed_word}
+use Rattle.verdicts.specs.Posed.{posed_word}
 use Rattle.adp_main.proofs.CompiledWords.{is_compiled, known_bound}
 use Rattle.adp_main.proofs.Running.{compiled_run, not_written}
 use Rattle.adp_main.proofs.lex.report_word.Goals as goal

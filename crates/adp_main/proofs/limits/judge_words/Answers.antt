@@ -6,7 +6,7 @@ use Rattle.adp_model.specs.LimitFaults.{IsLimitFault}
 use Rattle.verdicts.specs.SecondAlgebra.{IsAdmissibleWith, IsLimitWith}
 use Rattle.verdicts.specs.Verdict.{IsFirstLimit}
 use Rattle.adp_main.specs.KeptLengths.{HaveKept}
-use Rattle.adp_main.specs.Posed.{posed_words}
+use Rattle.verdicts.specs.Posed.{posed_words}
 use Rattle.adp_main.specs.Reporting.{AreShort}
 use Rattle.adp_main.proofs.FirstLimit.{admissible-more, first_limit, first_limit-more, first_refused}
 use Rattle.adp_main.proofs.KeptLengths.{have_all, one_more_word}

@@ -3,7 +3,7 @@ use Rattle.std.proofs.Common.{◌≡◌, ℕ, ◌+◌, ◌<◌, [], length, get_
 use Rattle.std.specs.List.{AllByRecursion}
 use Rattle.verdicts.specs.SecondAlgebra.{IsAdmissibleWith}
 use Rattle.adp_main.specs.KeptLengths.{AreKeptLengths, HasKept}
-use Rattle.adp_main.specs.Posed.{posed_words}
+use Rattle.verdicts.specs.Posed.{posed_words}
 use Rattle.adp_main.proofs.limits.judge_words.Given as goal
 
 abbrev pub invariant-loop-place : goal.invariant-loop-place

@@ -2,7 +2,7 @@ use Rattle.std.proofs.Common.{List, ℕ, sym, subst}
 use Rattle.std.specs.List.{AllByRecursion}
 use Rattle.verdicts.specs.SecondAlgebra.{IsAdmissibleWith}
 use Rattle.adp_main.specs.KeptLengths.{HaveKept}
-use Rattle.adp_main.specs.Posed.{posed_words}
+use Rattle.verdicts.specs.Posed.{posed_words}
 use Rattle.adp_main.specs.Reporting.{AreShort}
 use Rattle.adp_main.proofs.FirstLimit.{admissible-at, short_at}
 use Rattle.adp_main.proofs.KeptLengths.{kept_at}

@@ -1,7 +1,7 @@
-use Rattle.std.proofs.Common.{◌∙◌, sym, ap, subst}
+use Rattle.std.proofs.Common.{◌∙◌, None, sym, ap, subst}
 use Rattle.adp_model.specs.PosedProblem.{PosedProblem}
 use Rattle.verdicts.specs.Command.{Command}
-use Rattle.adp_main.specs.Posed.{posed_word}
+use Rattle.verdicts.specs.Posed.{posed_word}
 use Rattle.adp_main.specs.RunNotes.{IsRunOf}
 use Rattle.adp_main.specs.Writing.{IsWordEnding}
 use Rattle.adp_main.proofs.FirstLimit.{own_limits}
@@ -27,15 +27,20 @@ admitted-problem-requires-in-Replay-clause-limits g c =
     own_limits c.args.command.now.second
     (posed_word c.args.job.now.checked.grammar c.args.job.now.checked.algebra c.args.word.now) c.requires.admissible
 
+pub admitted-problem-requires-in-Cert-clause-limits : goal.admitted-problem-requires-in-Cert-clause-limits
+admitted-problem-requires-in-Cert-clause-limits g c =
+    own_limits c.args.command.now.second
+    (posed_word c.args.job.now.checked.grammar c.args.job.now.checked.algebra c.args.word.now) c.requires.admissible
+
 pub returns-in-Best-clause-ending : goal.returns-in-Best-clause-ending
 returns-in-Best-clause-ending g c =
-    subst (λ (p : PosedProblem). IsWordEnding (IsRunOf c.args.command.now c.args.number p) c.report_word.result
+    subst (λ (p : PosedProblem). IsWordEnding (IsRunOf c.args.command.now None c.args.number p) c.report_word.result
     (g.G.Gate.runs c.args.gate.now) (g.G.Gate.runs c.report_word.new.gate) (g.K.Sink.held c.args.out.now)
     (g.K.Sink.held c.report_word.new.out)) c.admitted-problem.ensures c.report_word.ensures.ending
 
 pub returns-in-Serial-clause-ending : goal.returns-in-Serial-clause-ending
 returns-in-Serial-clause-ending g c =
-    subst (λ (p : PosedProblem). IsWordEnding (IsRunOf c.args.command.now c.args.number p) c.report_word-in-Serial.result
+    subst (λ (p : PosedProblem). IsWordEnding (IsRunOf c.args.command.now None c.args.number p) c.report_word-in-Serial.result
     (g.G.Gate.runs c.args.gate.now) (g.G.Gate.runs c.args.gate.now) (g.K.Sink.held c.args.out.now)
     (g.K.Sink.held c.report_word-in-Serial.new.out)) c.admitted-problem-in-Serial.ensures
     (c.report_word-in-Serial.ensures.ending c.args.command.now (g.G.Gate.runs c.args.gate.now)
@@ -43,12 +48,18 @@ returns-in-Serial-clause-ending g c =
 
 pub returns-in-Wins-clause-ending : goal.returns-in-Wins-clause-ending
 returns-in-Wins-clause-ending g c =
-    subst (λ (p : PosedProblem). IsWordEnding (IsRunOf c.args.command.now c.args.number p) c.report_word-in-Wins.result
+    subst (λ (p : PosedProblem). IsWordEnding (IsRunOf c.args.command.now None c.args.number p) c.report_word-in-Wins.result
     (g.G.Gate.runs c.args.gate.now) (g.G.Gate.runs c.report_word-in-Wins.new.gate) (g.K.Sink.held c.args.out.now)
     (g.K.Sink.held c.report_word-in-Wins.new.out)) c.admitted-problem-in-Wins.ensures c.report_word-in-Wins.ensures.ending
 
 pub returns-in-Replay-clause-ending : goal.returns-in-Replay-clause-ending
 returns-in-Replay-clause-ending g c =
-    subst (λ (p : PosedProblem). IsWordEnding (IsRunOf c.args.command.now c.args.number p) c.report_word-in-Replay.result
+    subst (λ (p : PosedProblem). IsWordEnding (IsRunOf c.args.command.now None c.args.number p) c.report_word-in-Replay.result
     (g.G.Gate.runs c.args.gate.now) (g.G.Gate.runs c.report_word-in-Replay.new.gate) (g.K.Sink.held c.args.out.now)
     (g.K.Sink.held c.report_word-in-Replay.new.out)) c.admitted-problem-in-Replay.ensures c.report_word-in-Replay.ensures.ending
+
+pub returns-in-Cert-clause-ending : goal.returns-in-Cert-clause-ending
+returns-in-Cert-clause-ending g c =
+    subst (λ (p : PosedProblem). IsWordEnding (IsRunOf c.args.command.now None c.args.number p) c.report_word-in-Cert.result
+    (g.G.Gate.runs c.args.gate.now) (g.G.Gate.runs c.report_word-in-Cert.new.gate) (g.K.Sink.held c.args.out.now)
+    (g.K.Sink.held c.report_word-in-Cert.new.out)) c.admitted-problem-in-Cert.ensures c.report_word-in-Cert.ensures.ending

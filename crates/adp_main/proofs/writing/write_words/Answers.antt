@@ -1,8 +1,8 @@
-use Rattle.std.proofs.Common.{◌≡◌, ◌≤◌, List, ℕ, length, take, get_or, ◌∙◌, refl, ap, subst, arith}
+use Rattle.std.proofs.Common.{◌≡◌, ◌≤◌, List, ℕ, None, length, take, get_or, ◌∙◌, refl, ap, subst, arith}
 use Rattle.std.proofs.lemmas.List.{length-map, take_all}
 use Rattle.std.proofs.lemmas.Result.{err_from_is_err_and}
 use Rattle.adp_model.specs.PosedProblem.{PosedProblem}
-use Rattle.adp_main.specs.Posed.{posed_word, posed_words}
+use Rattle.verdicts.specs.Posed.{posed_word, posed_words}
 use Rattle.adp_main.specs.Reporting.{AreReportsOf}
 use Rattle.adp_main.specs.RunNotes.{AreRunsOf}
 use Rattle.adp_main.proofs.FirstLimit.{posed_at}
@@ -24,10 +24,10 @@ returns-in_err-write_word-clause-written g c =
     (subst (λ (ws : List (List ℕ)). c.index-words-place.result ≡ get_or ws c.loop-place.place c.index-words-place.result)
     c.as_slice-words.ensures c.index-words-place.is) refl in
     rw (p.1, p.2) (failed_written command
-    (λ number q admissible. c.words_have_reports.ensures command number q c.requires.reads c.in_range.ensures.paired
-    c.in_range.ensures.some_workers admissible)
+    (λ number q admissible. c.words_have_reports.ensures command None number q c.requires.reads
+    c.in_range.ensures.paired c.in_range.ensures.some_workers admissible tt)
     problems c.requires.admissible c.loop-place.place w.0 w.1
-    (subst (λ (ps : List PosedProblem). AreRunsOf command 1 (take c.loop-place.place ps) w.0 w.1) same w.2)
+    (subst (λ (ps : List PosedProblem). AreRunsOf command None 1 (take c.loop-place.place ps) w.0 w.1) same w.2)
     _ _ _ _ _ _ w.3 w.4 word at.0 at.1 c.in_err-write_word.field-0.0 c.in_err-write_word.ensures.ending)
 
 pub returns-in_err-write_word-clause-noted : goal.returns-in_err-write_word-clause-noted
@@ -40,10 +40,10 @@ returns-in_err-write_word-clause-noted g c =
     let w = c.loop-place.invariant.ran in
     let same = ap (posed_words job.checked.grammar job.checked.algebra) c.as_slice-words.ensures in
     rw (p.1, p.2) (failed_noted command
-    (λ number q admissible. c.words_have_reports.ensures command number q c.requires.reads c.in_range.ensures.paired
-    c.in_range.ensures.some_workers admissible)
+    (λ number q admissible. c.words_have_reports.ensures command None number q c.requires.reads
+    c.in_range.ensures.paired c.in_range.ensures.some_workers admissible tt)
     problems c.requires.admissible c.loop-place.place w.0 w.1
-    (subst (λ (ps : List PosedProblem). AreRunsOf command 1 (take c.loop-place.place ps) w.0 w.1) same w.2)
+    (subst (λ (ps : List PosedProblem). AreRunsOf command None 1 (take c.loop-place.place ps) w.0 w.1) same w.2)
     _ _ _ _ _ _ w.3 w.4 word c.in_err-write_word.field-0.0 c.in_err-write_word.ensures.ending)
 
 pub loop-place-preserved : goal.loop-place-preserved
@@ -98,8 +98,8 @@ returns-clause-noted g c =
     let all : length problems ≤ c.loop-place.place =
     omega (arith, number, c.loop-place-test.false, ap length c.as_slice-words.ensures) in
     all_noted command
-    (λ number q admissible. c.words_have_reports.ensures command number q c.requires.reads c.in_range.ensures.paired
-    c.in_range.ensures.some_workers admissible)
+    (λ number q admissible. c.words_have_reports.ensures command None number q c.requires.reads
+    c.in_range.ensures.paired c.in_range.ensures.some_workers admissible tt)
     problems c.requires.admissible c.loop-place.place w.0 w.1
-    (subst (λ (ps : List PosedProblem). AreRunsOf command 1 (take c.loop-place.place ps) w.0 w.1) same w.2)
+    (subst (λ (ps : List PosedProblem). AreRunsOf command None 1 (take c.loop-place.place ps) w.0 w.1) same w.2)
     _ _ (g.G.Gate.runs c.loop-place.gate) _ _ (g.K.Sink.held c.loop-place.out) w.3 w.4 all

@@ -5,7 +5,9 @@ pub returns-clause-answer : goal.returns-clause-answer
 returns-clause-answer c = answer-erased
 
 pub returns-clause-report : goal.returns-clause-report
-returns-clause-report c number p can hidden alone = report-erased p can hidden alone number
+returns-clause-report c number p least greatest ranks checked hidden alone =
+    report-erased p least greatest ranks checked hidden alone number
 
 pub returns-clause-wins : goal.returns-clause-wins
-returns-clause-wins c number p can hidden alone = wins-erased p can hidden alone number
+returns-clause-wins c number p least greatest ranks checked hidden alone =
+    wins-erased p least greatest ranks checked hidden alone number

@@ -21,13 +21,13 @@ loop-to-preserved g c =
       | then-is_some+in_ok-push w ↦
           rw (w.cells-is, w.in_ok-push.ensures.items)
           (one_more_listed p c.args.rule c.args.from c.loop-to.to c.loop-to.cells.items c.loop-to.invariant
-          (subst (λ (q : PosedProblem). IsDemanded q (record { rule = c.args.rule; from = c.args.from; to = c.loop-to.to })) c.requires.answers
-          (c.demanded_answer.ensures.demanded.0 (search rules))))
+          (subst (λ (q : PosedProblem). IsDemanded q (record { rule = c.args.rule; from = c.args.from; to = c.loop-to.to })) c.requires.scores
+          (c.demanded_score.ensures.demanded.0 (search rules))))
       | else-is_some w ↦
           rw w.cells-is
           (none_more_listed p c.args.rule c.args.from c.loop-to.to c.loop-to.cells.items c.loop-to.invariant
           (λ needed. not_both c.is_some.result w.if-is_some.false
-          (let here = c.demanded_answer.ensures.demanded.1 (subst (λ (q : PosedProblem). IsDemanded q (record { rule = c.args.rule; from = c.args.from; to = c.loop-to.to })) (sym c.requires.answers) needed) in search rules)))
+          (let here = c.demanded_score.ensures.demanded.1 (subst (λ (q : PosedProblem). IsDemanded q (record { rule = c.args.rule; from = c.args.from; to = c.loop-to.to })) (sym c.requires.scores) needed) in search rules)))
     ]
 
 pub returns : goal.returns

@@ -1,8 +1,16 @@
-use Rattle.verdicts.proofs.OneVerdict.{ModelLaws, one_verdict, only_reports}
+use Rattle.verdicts.proofs.OneCertificate.{SplitLaws, one_of_both, only_of_both}
+use Rattle.verdicts.proofs.OneVerdict.{ModelLaws}
 use Rattle.verdicts.proofs.laws.verdict_is_unique.Goals as goal
 
-laws : (c : goal.After-words_have_one_pair_report) → ModelLaws
+laws : (c : goal.After-first_false_line_is_unique) → ModelLaws
 laws c = record {
+  texts = record {
+    one_job = c.texts_spell_one_job.ensures.one_job;
+    one_fault = c.texts_spell_one_job.ensures.one_fault;
+    not_both = c.texts_spell_one_job.ensures.not_both;
+  };
+  hides = c.texts_hide_alternatives.ensures;
+  plain = c.nested_reports_are_the_plain_ones.ensures;
   one_report = c.report_is_unique.ensures.word;
   one_made = c.report_is_unique.ensures.made;
   kept = c.limits_are_kept_or_passed.ensures.kept;
@@ -12,10 +20,20 @@ laws c = record {
   one_pair_report = λ number p second pair. c.words_have_one_pair_report.ensures.one number p second pair.limits.bound
       (c.pair_limits_are_kept_or_passed.ensures.compilable p second pair)
       (c.pair_limits_are_kept_or_passed.ensures.admissible p second pair);
+  one_block = c.words_have_one_certificate.ensures.one;
+  one_score = c.words_have_one_score_report.ensures.one;
+}
+
+splits : (c : goal.After-first_false_line_is_unique) → SplitLaws
+splits c = record {
+  once = c.right_certificates_part_at_job.ensures.once;
+  there = c.right_certificates_part_at_job.ensures.line;
+  one_line = c.first_false_line_is_unique.ensures;
+  no_line = c.right_certificates_are_not_rejected.ensures;
 }
 
 pub returns-clause-same : goal.returns-clause-same
-returns-clause-same c = one_verdict (laws c)
+returns-clause-same c = one_of_both (laws c) (splits c)
 
 pub returns-clause-reported : goal.returns-clause-reported
-returns-clause-reported c = only_reports (laws c)
+returns-clause-reported c = only_of_both (laws c) (splits c)

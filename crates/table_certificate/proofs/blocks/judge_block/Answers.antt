@@ -1,4 +1,4 @@
-use Rattle.std.proofs.Common.{◌≡◌, ◌+◌, ◌<◌, ◌≤◌, ◌∷◌, length, sym, ap, subst, ◌∙◌, arith}
+use Rattle.std.proofs.Common.{◌∷◌, sym, ap, subst, ◌∙◌, arith}
 use Rattle.adp_model.specs.declared.grammar.Grammar.{Grammar}
 use Rattle.adp_model.specs.PosedProblem.{PosedProblem}
 use Rattle.table_certificate.specs.CertificateLines.{LineForm, forms_of}
@@ -7,7 +7,7 @@ use Rattle.table_certificate.specs.BlockLines.{AreRightFurther, IsBlock, IsFirst
 use Rattle.table_certificate.specs.NextForms.{IsNextForm}
 use Rattle.table_certificate.proofs.BlockOutcomes.{false_further, false_head, head_kept, right_block}
 use Rattle.table_certificate.proofs.SplitLines.{not_both}
-use Rattle.table_certificate.proofs.blocks.verify_block.Goals as goal
+use Rattle.table_certificate.proofs.blocks.judge_block.Goals as goal
 
 pub returns-then-not-is_right_head-clause-outcome : goal.returns-then-not-is_right_head-clause-outcome
 returns-then-not-is_right_head-clause-outcome c =

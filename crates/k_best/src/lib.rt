@@ -1,0 +1,16 @@
+//! The first trees of a problem's demanded cells, as lists of entries that name places in one another.
+#![tactic(auto)]
+
+mod admission;
+mod cell_list;
+mod chosen;
+mod entry;
+mod filling;
+mod list_table;
+mod listing;
+mod lists;
+mod split_ranks;
+
+pub use admission::admit_lists;
+pub use entry::Entry;
+pub use lists::{Lists, solve_lists};

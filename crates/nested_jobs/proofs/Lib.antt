@@ -1,0 +1,12 @@
+pub mod Verdicts
+pub mod Sides
+pub mod Chains
+pub mod SingleRules
+pub mod Shapes
+pub mod Scans
+pub mod FirstLetters
+pub mod HiddenLines
+pub mod FineLines
+pub mod LastRules
+pub mod Origins
+pub mod Readings

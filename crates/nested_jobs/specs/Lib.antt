@@ -1,0 +1,2 @@
+pub mod NestedJob
+pub mod Reading

@@ -1,0 +1,11 @@
+adp 3
+sign a(token)
+sign b(score)
+algebra z min
+let a(x) = 0
+let b(s) = s
+rule r = b(a("y"))
+rule h_1 = a("y")
+grammar r
+words
+y
