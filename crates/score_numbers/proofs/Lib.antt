@@ -6,3 +6,4 @@ pub mod LaneValues
 pub mod LargestSums
 pub mod LiveNumbers
 pub mod TermChunks
+mod WeighedPositions

@@ -8,4 +8,5 @@ pub mod Spaced
 pub mod Sums
 pub mod TermLines
 pub mod Turned
+pub mod WeighedSums
 pub mod Worthless

@@ -2,12 +2,13 @@
 
 ghost use Rattle.std.specs.Prelude.{◌≡◌, ◌↔◌, ℕ, ◌+◌, ◌<◌, ◌≤◌, ◌+ℤ◌, ◌<ℤ◌, IfSome, IsTrue, MatchOption, length, map, slice_index_or};
 ghost use Rattle.std.specs.List.{AllAdjacentBelow};
+ghost use Rattle.score_numbers.specs.Entries.{no_candidate};
 ghost use Rattle.score_numbers.specs.FirstPositions.{IsFirstOf};
 ghost use Rattle.score_numbers.specs.Limits.{AreLimited, AreLimits, no_limit};
 ghost use Rattle.score_numbers.specs.Packing.{AreProper, IsProper, long, medium, short};
 ghost use Rattle.score_numbers.specs.Sums.{AreLowSums, HasScaledSum, HasSum, HaveNumbers, IsUnlimitedSum, number_at};
 
-use crate::packing::{NO_LIMIT, SHORT_MARK};
+use crate::packing::{NO_CANDIDATE, NO_LIMIT, SHORT_MARK};
 use crate::sums::{Positions, Scales, are_dense, greatest_aligned, greatest_limited_short};
 use crate::width::Number;
 
@@ -227,6 +228,23 @@ pub fn first_medium(
         (number_at positions.entry position) sum) result }
 {
     first_sum(first, second, positions, scales, sum)
+}
+
+/// The first position at which entries before and behind it, each times its factor, have this sum.
+pub fn first_whole(
+    first: &[i64],
+    second: &[i64],
+    positions: Positions<'_>,
+    scales: Scales,
+    sum: i64,
+) -> Option<u16>
+    requires have { HaveNumbers positions first.now second.now }
+    requires rising { AllAdjacentBelow (λ (a b : ℕ). a < b) positions.at.now (length positions.at.now) }
+    requires low { AreLowSums no_candidate scales positions first.now second.now }
+    ensures { IsFirstOf positions.entry.at.now (λ position. HasScaledSum no_candidate scales first.now second.now
+        (number_at positions.entry position) sum) result }
+{
+    first_scaled(first, second, NO_CANDIDATE, positions, 0, scales, sum)
 }
 
 /// The first position at which numbers of 64 bits before and behind it, each times its factor, have this sum.

@@ -235,6 +235,20 @@ pub fn greatest_medium(
     greatest_sum(first, second, positions, scales)
 }
 
+/// The greatest sum of entries before and behind the positions, each times its factor.
+pub fn greatest_whole(
+    first: &[i64],
+    second: &[i64],
+    positions: Positions<'_>,
+    scales: Scales,
+) -> Option<i64>
+    requires have { HaveNumbers positions first.now second.now }
+    requires low { AreLowSums no_candidate scales positions first.now second.now }
+    ensures { IsGreatestOf (HasScaledSumAt no_candidate scales positions.entry first.now second.now) result }
+{
+    greatest_scaled(first, second, NO_CANDIDATE, positions, scales)
+}
+
 /// The greatest sum of numbers of 64 bits before and behind the positions, each times its factor.
 pub fn greatest_long(
     first: &[i64],
