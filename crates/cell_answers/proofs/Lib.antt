@@ -13,6 +13,7 @@ pub mod Greatest
 pub mod KeptScores
 pub mod LaidEnds
 pub mod LaidSplits
+pub mod LetterWeights
 pub mod LineTotals
 pub mod LineValues
 pub mod Lists
@@ -22,6 +23,7 @@ pub mod PackedScores
 pub mod Reading
 pub mod ScaledTotals
 pub mod Scoring
+pub mod Sides
 pub mod Soundness
 pub mod Spaced
 pub mod Splitting

@@ -52,7 +52,7 @@ module _ (p : PosedProblem) (HasScore : Cell → ℤ → Type 0) where
   product_none : (factor value : ℤ) → factor ≡ pos 0 → (factor *ℤ value) ≡ pos 0
   product_none factor value e = ap (λ f. f *ℤ value) e ∙ zero-*ℤ value
 
-  worthless_sum : (tokens : List Arg) (factors : List ℤ) (from to : ℕ) (values : List ℤ) → AreWorthless tokens factors → HaveValues p HasScore tokens from to values → weighted_sum factors values ≡ pos 0
+  pub worthless_sum : (tokens : List Arg) (factors : List ℤ) (from to : ℕ) (values : List ℤ) → AreWorthless tokens factors → HaveValues p HasScore tokens from to values → weighted_sum factors values ≡ pos 0
   worthless_sum [] [] from to values worthless have = refl
   worthless_sum [] (factor ∷ factors) from to [] worthless have = refl
   worthless_sum [] (factor ∷ factors) from to (value ∷ values) worthless have = absurd have
@@ -90,10 +90,10 @@ scaled_product goal factor number =
     ∙ ap (turned goal) (*ℤ_comm number factor)
     ∙ turned_product goal factor number
 
-at_cell : (Holds : Cell → Type 0) (argument : Arg) (rule from to : ℕ) → argument ≡ Rule rule → AtRule Holds (on_span argument from to) → Holds (record { rule = rule; from = from; to = to })
+pub at_cell : (Holds : Cell → Type 0) (argument : Arg) (rule from to : ℕ) → argument ≡ Rule rule → AtRule Holds (on_span argument from to) → Holds (record { rule = rule; from = from; to = to })
 at_cell Holds argument rule from to e it = subst (λ a. AtRule Holds (on_span a from to)) e it
 
-same_number : (found : Option ℤ) (a b : ℤ) → found ≡ Some a → found ≡ Some b → a ≡ b
+pub same_number : (found : Option ℤ) (a b : ℤ) → found ≡ Some a → found ≡ Some b → a ≡ b
 same_number found a b e e' = cc
 
 module _ (p : PosedProblem) (one : OneScore (HasBestScore p)) (width : Width) (spaced : IsSpaced width) (low : width.limit < 2 ^ 63) (argument : Arg) (factor : ℤ) (goal : Goal) (scale : ℤ) (scaled : IsScaled argument factor goal scale) (numbers : List ℤ) (proper : AreProper width numbers)

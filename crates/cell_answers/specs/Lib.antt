@@ -2,6 +2,7 @@ pub mod ArgumentEntries
 pub mod CellBest
 pub mod Entries
 pub mod LaidBy
+pub mod LettersBetween
 pub mod Opened
 pub mod PackedTables
 pub mod PlainLines

@@ -9,3 +9,8 @@ pub record IsScaledLine (line : OpenedLine) (scales : Scales) : Type 0 where
   pub worthless : AreWorthless line.arguments.middle.now line.arguments.middle_factors.now
   pub before : IsScaled line.arguments.first.now line.arguments.first_factor line.row.goal scales.before
   pub behind : IsScaled line.arguments.second.now line.arguments.second_factor line.column.goal scales.behind
+
+-- the two arguments of open length are rules with these factors, turned
+pub record AreScaledRules (line : OpenedLine) (scales : Scales) : Type 0 where
+  pub before : IsScaled line.arguments.first.now line.arguments.first_factor line.row.goal scales.before
+  pub behind : IsScaled line.arguments.second.now line.arguments.second_factor line.column.goal scales.behind

@@ -13,18 +13,21 @@ ghost use Rattle.cell_answers.specs.ArgumentEntries.{IsScaled};
 ghost use Rattle.cell_answers.specs.Through.{HasLineTotal};
 ghost use Rattle.cell_answers.specs.Entries.{HasEntry};
 ghost use Rattle.cell_answers.specs.Opened.{IsOpened};
-ghost use Rattle.cell_answers.specs.ScaledLines.{IsScaledLine};
+ghost use Rattle.cell_answers.specs.ScaledLines.{AreScaledRules, IsScaledLine};
 ghost use Rattle.cell_answers.specs.Totals.{AreLow, AreWeighted, HasTotal};
 ghost use Rattle.score_numbers.specs.Greatest.{IsGreatestOf};
 
 use crate::argument_values::{Numbers, token_value, value_among};
+use crate::letters_between::weighed_line;
 use crate::opened::{OpenedLine, open_line};
 use crate::scores::Scores;
 use adp_model::laws::bounds::bounds_are_sound;
 use adp_model::laws::order::answer_is_unique;
 use adp_model::{Arg, Goal};
 use score_numbers::{
-    Positions, Scales, are_worthless, greater, greatest_long, greatest_medium, greatest_short,
+    Positions, Scales, are_worthless, greater, greatest_long, greatest_long_weighed,
+    greatest_medium, greatest_medium_weighed, greatest_short, greatest_short_weighed,
+    greatest_whole, greatest_whole_weighed,
 };
 use split_lines::{Line, Lines, fixed_length};
 
@@ -58,11 +61,11 @@ fn scale_of(argument: &Arg, factor: i64, goal: Goal) -> Option<i64>
     }
 }
 
-/// The factors of numbers of which the totals of a line are sums; `None` where its two arguments of open length are not
-/// both rules, a factor does not fit, or the tokens between the two may add something.
+/// The factors of the numbers that stand for the scores of a line's two arguments of open length; `None` where the two
+/// are not both rules, or a factor does not fit.
 #[inline(always)]
-pub fn scales_of(line: &OpenedLine<'_>) -> Option<Scales>
-    ensures { IfSome result (IsScaledLine line.now) }
+pub fn rule_scales(line: &OpenedLine<'_>) -> Option<Scales>
+    ensures { IfSome result (AreScaledRules line.now) }
 {
     let arguments = line.arguments;
     let (Some(before), Some(behind)) = (
@@ -71,10 +74,34 @@ pub fn scales_of(line: &OpenedLine<'_>) -> Option<Scales>
     ) else {
         return None;
     };
-    if are_worthless(arguments.middle, arguments.middle_factors) {
-        Some(Scales { before, behind })
+    Some(Scales { before, behind })
+}
+
+/// The factors of numbers of which the totals of a line are sums; `None` where its two arguments of open length are not
+/// both rules, a factor does not fit, or the tokens between the two may add something.
+#[inline(always)]
+pub fn scales_of(line: &OpenedLine<'_>) -> Option<Scales>
+    ensures { IfSome result (IsScaledLine line.now) }
+{
+    let Some(scales) = rule_scales(line) else {
+        return None;
+    };
+    if are_worthless(line.arguments.middle, line.arguments.middle_factors) {
+        Some(scales)
     } else {
         None
+    }
+}
+
+/// The factors of a line's two arguments of open length, which are those of entries.
+#[inline(always)]
+pub fn factors_of(line: &OpenedLine<'_>) -> Scales
+    ensures before { result.before ≡ line.now.arguments.first_factor }
+    ensures behind { result.behind ≡ line.now.arguments.second_factor }
+{
+    Scales {
+        before: line.arguments.first_factor,
+        behind: line.arguments.second_factor,
     }
 }
 
@@ -169,6 +196,62 @@ fn greatest_valued(lines: &Lines<'_>, line: &OpenedLine<'_>) -> Option<i64>
     greatest
 }
 
+/// The greatest total of the arguments of a line up to its second one of open length, where tokens between the two may
+/// add something: at once where these are one letter, and else position by position.
+fn greatest_with_letters(lines: &Lines<'_>, line: &OpenedLine<'_>) -> Option<i64>
+    requires opened { IsOpened lines.now line.now }
+    ensures { IsGreatestOf (HasTotal lines.now (HasBestScore lines.now)
+        (line.now.arguments.first.now ∷ (line.now.arguments.middle.now ++ line.now.arguments.second.now ∷ []))
+        (line.now.arguments.first_factor
+        ∷ (line.now.arguments.middle_factors.now ++ line.now.arguments.second_factor ∷ []))
+        line.now.from line.now.boundary.last) result }
+{
+    if let Some(weighed) = weighed_line(lines, line) {
+        lines.problem().admissible();
+        bounds_are_sound();
+        answer_is_unique();
+        let positions = Positions {
+            at: line.boundary.positions,
+            first: line.row.first,
+        };
+        match (line.row.numbers, line.column.numbers) {
+            (Numbers::Short(first), Numbers::Short(second)) => {
+                return greatest_short_weighed(
+                    first,
+                    second,
+                    weighed.weights,
+                    positions,
+                    weighed.scales,
+                );
+            }
+            (Numbers::Medium(first), Numbers::Medium(second)) => {
+                return greatest_medium_weighed(
+                    first,
+                    second,
+                    weighed.weights,
+                    positions,
+                    weighed.scales,
+                );
+            }
+            (Numbers::Long(first), Numbers::Long(second)) => {
+                return greatest_long_weighed(
+                    first,
+                    second,
+                    weighed.weights,
+                    positions,
+                    weighed.scales,
+                );
+            }
+            (Numbers::Whole(first), Numbers::Whole(second)) => {
+                let factors = factors_of(line);
+                return greatest_whole_weighed(first, second, weighed.weights, positions, factors);
+            }
+            _ => {}
+        }
+    }
+    greatest_valued(lines, line)
+}
+
 /// The greatest total of the arguments of a line up to its second one of open length.
 #[inline(always)]
 fn greatest_front(lines: &Lines<'_>, line: &OpenedLine<'_>) -> Option<i64>
@@ -197,10 +280,13 @@ fn greatest_front(lines: &Lines<'_>, line: &OpenedLine<'_>) -> Option<i64>
             (Numbers::Long(first), Numbers::Long(second)) => {
                 return greatest_long(first, second, positions, scales);
             }
+            (Numbers::Whole(first), Numbers::Whole(second)) => {
+                return greatest_whole(first, second, positions, factors_of(line));
+            }
             _ => {}
         }
     }
-    greatest_valued(lines, line)
+    greatest_with_letters(lines, line)
 }
 
 /// The greatest total of arguments that begin with the first one of their line, laid from `from` to `to`.

@@ -22,10 +22,11 @@ ghost use Rattle.cell_answers.specs.Opened.{IsOpened};
 ghost use Rattle.cell_answers.specs.Through.{HasLineTotal};
 ghost use Rattle.cell_answers.specs.Totals.{AreLow, AreWeighted, HasTotal};
 
-use crate::along::{fixed_total, scales_of, total_through};
+use crate::along::{factors_of, fixed_total, scales_of, total_through};
 use crate::argument_values::{Numbers, argument_value};
 use crate::by_term::cuts_by_term;
 use crate::filling::{Best, Known, cell_best, greatest_total};
+use crate::letters_between::weighed_line;
 use crate::only_ends::only_end;
 use crate::opened::{OpenedLine, open_line};
 use crate::scores::Scores;
@@ -36,8 +37,9 @@ use adp_model::laws::terms::{magnitudes_rise, values_are_within_magnitudes};
 use adp_model::laws::well_formed::{alternatives_fit, arguments_are_few_and_known};
 use adp_model::{Answer, Arg, Cell, Choice};
 use score_numbers::{
-    Positions, are_worthless, first_long, first_medium, first_short, lesser_positions_stand_before,
-    turned,
+    Positions, are_worthless, first_long, first_long_weighed, first_medium, first_medium_weighed,
+    first_short, first_short_weighed, first_whole, first_whole_weighed,
+    lesser_positions_stand_before, turned,
 };
 use split_lines::{KeptAlternative, Line, Lines, Scoring, Way, WeightedSum, line_here};
 
@@ -59,6 +61,69 @@ fn first_valued(lines: &Lines<'_>, line: &OpenedLine<'_>, total: i64) -> Option<
         }
     }
     None
+}
+
+/// The first position of the boundary at which the arguments of a line up to its second one of open length have this
+/// total, where tokens between the two may add something.
+fn first_with_letters(lines: &Lines<'_>, line: &OpenedLine<'_>, total: i64) -> Option<u16>
+    requires opened { IsOpened lines.now line.now }
+    ensures { IsFirstOf line.now.boundary.positions.now
+        (λ position. HasLineTotal lines.now line.now position total) result }
+{
+    if let Some(weighed) = weighed_line(lines, line) {
+        lines.problem().admissible();
+        bounds_are_sound();
+        answer_is_unique();
+        let positions = Positions {
+            at: line.boundary.positions,
+            first: line.row.first,
+        };
+        match (line.row.numbers, line.column.numbers) {
+            (Numbers::Short(first), Numbers::Short(second)) => {
+                return first_short_weighed(
+                    first,
+                    second,
+                    weighed.weights,
+                    positions,
+                    weighed.scales,
+                    total,
+                );
+            }
+            (Numbers::Medium(first), Numbers::Medium(second)) => {
+                return first_medium_weighed(
+                    first,
+                    second,
+                    weighed.weights,
+                    positions,
+                    weighed.scales,
+                    total,
+                );
+            }
+            (Numbers::Long(first), Numbers::Long(second)) => {
+                return first_long_weighed(
+                    first,
+                    second,
+                    weighed.weights,
+                    positions,
+                    weighed.scales,
+                    total,
+                );
+            }
+            (Numbers::Whole(first), Numbers::Whole(second)) => {
+                let factors = factors_of(line);
+                return first_whole_weighed(
+                    first,
+                    second,
+                    weighed.weights,
+                    positions,
+                    factors,
+                    total,
+                );
+            }
+            _ => {}
+        }
+    }
+    first_valued(lines, line, total)
 }
 
 /// The first position of the boundary at which the arguments of a line up to its second one of open length have this
@@ -93,10 +158,13 @@ fn first_through(lines: &Lines<'_>, line: &OpenedLine<'_>, total: i64) -> Option
             (Numbers::Long(first), Numbers::Long(second)) => {
                 return first_long(first, second, positions, scales, total);
             }
+            (Numbers::Whole(first), Numbers::Whole(second)) => {
+                return first_whole(first, second, positions, factors_of(line), total);
+            }
             _ => {}
         }
     }
-    first_valued(lines, line, total)
+    first_with_letters(lines, line, total)
 }
 
 /// The first end of the first of these arguments, which is the first one of a line, with which they have this total:

@@ -7,6 +7,7 @@ mod answer_cuts;
 mod argument_values;
 mod by_term;
 mod filling;
+mod letters_between;
 mod only_ends;
 mod opened;
 mod scores;

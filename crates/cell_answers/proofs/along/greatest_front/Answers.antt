@@ -1,8 +1,10 @@
 use Rattle.std.proofs.Common.{arith}
 use Rattle.cell_answers.proofs.FirstEnds.{AreSound}
 use Rattle.cell_answers.proofs.Spaced.{short_spaced, medium_spaced, long_spaced}
+use Rattle.score_numbers.specs.Entries.{no_candidate}
 use Rattle.score_numbers.specs.Packing.{short, medium, long}
 use Rattle.cell_answers.proofs.ScaledTotals.{short_numbers, medium_numbers, long_numbers, have_numbers, are_low, scaled_greatest}
+use Rattle.cell_answers.proofs.Sides.{numbers_there, plain_greatest, plain_low, whole_tell}
 use Rattle.cell_answers.proofs.Soundness.{sound_by}
 use Rattle.cell_answers.proofs.along.greatest_front.Goals as goal
 use Rattle.cell_answers.proofs.along.greatest_front.Goals.{After-answer_is_unique}
@@ -64,3 +66,18 @@ returns-in-Long-Long c =
     let at = (goal.at.returns-in-Long-Long c).After-answer_is_unique in
     scaled_greatest c.args.lines.now (sound at).one long long_spaced (omega arith) c.args.line.now c.requires.opened c.in-Some.scales c.in-Long-Long.first.now c.in-Long-Long.second.now
     (long_numbers c.args.lines.now c.args.line.now c.requires.opened c.in-Some.scales c.in-Some.ensures c.in-Long-Long.first c.in-Long-Long.second c.in-Long-Long.is-0 c.in-Long-Long.is-1) c.greatest_long.result c.greatest_long.ensures
+
+pub greatest_whole-requires-clause-have : goal.greatest_whole-requires-clause-have
+greatest_whole-requires-clause-have c =
+    let at = (goal.at.greatest_whole-requires-clause-have c).After-answer_is_unique in
+    numbers_there c.args.lines.now c.args.line.now c.requires.opened no_candidate c.factors_of.result c.in-Whole-Whole.first.now c.in-Whole-Whole.second.now (whole_tell c.args.lines.now (sound at).one c.args.line.now c.requires.opened c.in-Some.scales (record { before = c.in-Some.ensures.before; behind = c.in-Some.ensures.behind }) c.factors_of.result c.factors_of.ensures.before c.factors_of.ensures.behind c.in-Whole-Whole.first c.in-Whole-Whole.second c.in-Whole-Whole.is-0 c.in-Whole-Whole.is-1)
+
+pub greatest_whole-requires-clause-low : goal.greatest_whole-requires-clause-low
+greatest_whole-requires-clause-low c =
+    let at = (goal.at.greatest_whole-requires-clause-low c).After-answer_is_unique in
+    plain_low c.args.lines.now c.args.line.now c.requires.opened no_candidate c.factors_of.result c.in-Whole-Whole.first.now c.in-Whole-Whole.second.now (whole_tell c.args.lines.now (sound at).one c.args.line.now c.requires.opened c.in-Some.scales (record { before = c.in-Some.ensures.before; behind = c.in-Some.ensures.behind }) c.factors_of.result c.factors_of.ensures.before c.factors_of.ensures.behind c.in-Whole-Whole.first c.in-Whole-Whole.second c.in-Whole-Whole.is-0 c.in-Whole-Whole.is-1) c.in-Some.ensures.worthless (sound at)
+
+pub returns-in-Whole-Whole : goal.returns-in-Whole-Whole
+returns-in-Whole-Whole c =
+    let at = (goal.at.returns-in-Whole-Whole c).After-answer_is_unique in
+    plain_greatest c.args.lines.now c.args.line.now c.requires.opened no_candidate c.factors_of.result c.in-Whole-Whole.first.now c.in-Whole-Whole.second.now (whole_tell c.args.lines.now (sound at).one c.args.line.now c.requires.opened c.in-Some.scales (record { before = c.in-Some.ensures.before; behind = c.in-Some.ensures.behind }) c.factors_of.result c.factors_of.ensures.before c.factors_of.ensures.behind c.in-Whole-Whole.first c.in-Whole-Whole.second c.in-Whole-Whole.is-0 c.in-Whole-Whole.is-1) c.in-Some.ensures.worthless c.greatest_whole.result c.greatest_whole.ensures

@@ -2,8 +2,10 @@ use Rattle.std.proofs.Common.{FitsSigned, w64, arith, rules}
 use Rattle.std.proofs.lemmas.Int.{to_z-of_z}
 use Rattle.cell_answers.proofs.FirstEnds.{AreSound}
 use Rattle.cell_answers.proofs.Spaced.{short_spaced, medium_spaced, long_spaced}
+use Rattle.score_numbers.specs.Entries.{no_candidate}
 use Rattle.score_numbers.specs.Packing.{short, medium, long}
 use Rattle.cell_answers.proofs.ScaledTotals.{short_numbers, medium_numbers, long_numbers, have_numbers, are_low, scaled_first}
+use Rattle.cell_answers.proofs.Sides.{numbers_there, plain_first, plain_low, whole_tell}
 use Rattle.cell_answers.proofs.Soundness.{sound_by}
 use Rattle.cell_answers.proofs.answer_cuts.first_through.Goals as goal
 use Rattle.cell_answers.proofs.answer_cuts.first_through.Goals.{After-answer_is_unique}
@@ -72,7 +74,23 @@ returns-in-Long-Long c =
     (long_numbers c.args.lines.now c.args.line.now c.requires.opened c.in-Some.scales c.in-Some.ensures c.in-Long-Long.first c.in-Long-Long.second c.in-Long-Long.is-0 c.in-Long-Long.is-1)
     c.args.total c.first_long.result (simp to_z-of_z at c.first_long.ensures)
 
+pub first_whole-requires-clause-have : goal.first_whole-requires-clause-have
+first_whole-requires-clause-have c =
+    let at = (goal.at.first_whole-requires-clause-have c).After-answer_is_unique in
+    numbers_there c.args.lines.now c.args.line.now c.requires.opened no_candidate c.factors_of.result c.in-Whole-Whole.first.now c.in-Whole-Whole.second.now (whole_tell c.args.lines.now (sound at).one c.args.line.now c.requires.opened c.in-Some.scales (record { before = c.in-Some.ensures.before; behind = c.in-Some.ensures.behind }) c.factors_of.result c.factors_of.ensures.before c.factors_of.ensures.behind c.in-Whole-Whole.first c.in-Whole-Whole.second c.in-Whole-Whole.is-0 c.in-Whole-Whole.is-1)
+
+pub first_whole-requires-clause-low : goal.first_whole-requires-clause-low
+first_whole-requires-clause-low c =
+    let at = (goal.at.first_whole-requires-clause-low c).After-answer_is_unique in
+    plain_low c.args.lines.now c.args.line.now c.requires.opened no_candidate c.factors_of.result c.in-Whole-Whole.first.now c.in-Whole-Whole.second.now (whole_tell c.args.lines.now (sound at).one c.args.line.now c.requires.opened c.in-Some.scales (record { before = c.in-Some.ensures.before; behind = c.in-Some.ensures.behind }) c.factors_of.result c.factors_of.ensures.before c.factors_of.ensures.behind c.in-Whole-Whole.first c.in-Whole-Whole.second c.in-Whole-Whole.is-0 c.in-Whole-Whole.is-1) c.in-Some.ensures.worthless (sound at)
+
+pub returns-in-Whole-Whole : goal.returns-in-Whole-Whole
+returns-in-Whole-Whole c =
+    let at = (goal.at.returns-in-Whole-Whole c).After-answer_is_unique in
+    let fits_total : FitsSigned w64 c.args.total = search rules in
+    plain_first c.args.lines.now c.args.line.now c.requires.opened no_candidate c.factors_of.result c.in-Whole-Whole.first.now c.in-Whole-Whole.second.now (whole_tell c.args.lines.now (sound at).one c.args.line.now c.requires.opened c.in-Some.scales (record { before = c.in-Some.ensures.before; behind = c.in-Some.ensures.behind }) c.factors_of.result c.factors_of.ensures.before c.factors_of.ensures.behind c.in-Whole-Whole.first c.in-Whole-Whole.second c.in-Whole-Whole.is-0 c.in-Whole-Whole.is-1) c.in-Some.ensures.worthless c.args.total c.first_whole.result (simp to_z-of_z at c.first_whole.ensures)
+
 pub returns : goal.returns
 returns c =
     let fits_total : FitsSigned w64 c.args.total = search rules in
-    simp to_z-of_z at c.first_valued.ensures
+    simp to_z-of_z at c.first_with_letters.ensures
