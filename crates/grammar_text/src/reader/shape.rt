@@ -19,6 +19,10 @@ use adp_model::{Goal, Kind, is_printable};
 use algebra_terms::{Symbol, Token, TokenError, is_term, is_wide_term, symbol_at, tokens};
 use std::alloc::{AllocError, Global};
 
+/// The room that is taken for the alternatives of a rule and for their arguments before the second: of many rules most
+/// have one of each, and growth from nothing would take room for four.
+const USUAL: usize = 1;
+
 // What follows behind one of a list.
 #[derive(Clone, Copy)]
 enum Next {
@@ -432,7 +436,7 @@ fn alternatives<'a>(
         (λ found. option_map (λ alternatives. map alternative_seen alternatives.items) found
         ≡ forms.alternatives_of (tokens_seen said.now)) }
 {
-    let mut alternatives = Vec::new(alloc);
+    let mut alternatives = Vec::with_capacity(alloc, USUAL)?;
     let mut at = 0;
     while let Some(sign) = first_sign(&said[at..]) {
         let Some((arguments, used)) = arguments(alloc, &said[at + 2..])? else {
@@ -530,7 +534,7 @@ fn arguments<'a>(
 ) -> Result<Option<(Vec<Argument<'a>>, usize)>, AllocError>
     ensures { IfOk result (λ found. AreArguments said.now (option_map (λ all. (all.0.items, all.1)) found)) }
 {
-    let mut arguments = Vec::new(alloc);
+    let mut arguments = Vec::with_capacity(alloc, USUAL)?;
     let mut at = 0;
     while let Some((argument, used)) = first_argument(&said[at..]) {
         arguments.push(argument)?;

@@ -51,4 +51,4 @@ pub slice_bounds-first_sign-end : goal.slice_bounds-first_sign-end
 slice_bounds-first_sign-end c = omega arith
 
 pub loop-sign-init : goal.loop-sign-init
-loop-sign-init c = record { within = omega arith; seen = rw c.new-alternatives.ensures.items (front_none _) }
+loop-sign-init c = record { within = omega arith; seen = rw c.in_ok-alternatives.ensures.items (front_none _) }

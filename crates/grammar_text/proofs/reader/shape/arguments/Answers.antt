@@ -32,4 +32,4 @@ pub slice_bounds-first_argument-end : goal.slice_bounds-first_argument-end
 slice_bounds-first_argument-end c = omega arith
 
 pub loop-argument-init : goal.loop-argument-init
-loop-argument-init c = record { within = omega arith; seen = rw c.new-arguments.ensures.items (arguments_none _) }
+loop-argument-init c = record { within = omega arith; seen = rw c.in_ok-arguments.ensures.items (arguments_none _) }
