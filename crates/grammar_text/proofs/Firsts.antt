@@ -10,7 +10,8 @@ use Rattle.job_texts.specs.TermText.{is_among}
 use Rattle.adp_model.specs.declared.grammar.Kind.{Kind}
 use Rattle.job_texts.specs.Declarations.{Declaration, Class, Sign, Algebra, Let, Rule, Axiom, Words}
 use Rattle.job_texts.specs.DeclaredNames.{first_of_list, kinds_given, kinds_of_sign, sign_name_of}
-use Rattle.grammar_text.specs.Names.{gives_kinds}
+use Rattle.std.specs.BTreeMap.{BTreeMap}
+use Rattle.grammar_text.specs.Names.{gives_kinds, number_in, HasFirst}
 use Rattle.std.proofs.lemmas.List.Quantifiers.{position-Some}
 use Rattle.grammar_text.proofs.Sorts.{same_text, either_order}
 
@@ -106,33 +107,38 @@ or_nothing : (found : Option ℕ) → option_or found None ≡ found
 or_nothing None = refl
 or_nothing (Some n) = refl
 
-module _ {X : Type 0} (test : List ℕ → X → Bool) (old : List ℕ → Option ℕ) (xs : List X) (x : X) (are : (name : List ℕ) → old name ≡ position (test name) xs) where
-  pub firsts_kept : (key : List ℕ) → ((name : List ℕ) → test name x ≡ pointwise nat_eq name key) → is_some (old key) ≡ true → (name : List ℕ) → old name ≡ position (test name) (xs ++ x ∷ [])
-  firsts_kept key is known name = are name ∙ sym (first_of_more (test name) xs x ∙ step (pointwise nat_eq name key) refl)
-    where
-      earlier : (found : Option ℕ) (other : Option ℕ) → is_some found ≡ true → option_or found other ≡ found
-      earlier None other h = absurd cc
-      earlier (Some n) other h = refl
+-- a name that a map has not yet gets a number
+pub put_new : (key : List ℕ) (number : ℕ) (old new : List ℕ → Option ℕ) → old key ≡ None
+    → ((name : List ℕ) → new name ≡ cond (pointwise nat_eq key name) (Some number) (old name))
+    → (asked : List ℕ) → new asked ≡ option_or (old asked) (cond (pointwise nat_eq asked key) (Some number) None)
+put_new key number old new none changed asked = changed asked ∙ step (pointwise nat_eq key asked) refl
+  where
+    step : (b : Bool) → pointwise nat_eq key asked ≡ b → cond (pointwise nat_eq key asked) (Some number) (old asked) ≡ option_or (old asked) (cond (pointwise nat_eq asked key) (Some number) None)
+    step true e =
+        let nothing : old asked ≡ None = ap old (sym (same_text key asked e)) ∙ none in
+        rw (nothing, either_order asked key, e) refl
+    step false e = rw (either_order asked key, e) (sym (or_nothing (old asked)))
 
-      step : (b : Bool) → pointwise nat_eq name key ≡ b → option_or (position (test name) xs) (cond (test name x) (Some (length xs)) None) ≡ position (test name) xs
-      step true e =
-          let found : is_some (position (test name) xs) ≡ true = ap is_some (sym (are name)) ∙ ap (λ n. is_some (old n)) (same_text name key e) ∙ known in
-          earlier (position (test name) xs) (cond (test name x) (Some (length xs)) None) found
-      step false e = rw (is name, e) (or_nothing (position (test name) xs))
+-- one that it has gets its own number back
+pub put_back : (key : List ℕ) (number before : ℕ) (old mid new : List ℕ → Option ℕ) → old key ≡ Some before
+    → ((name : List ℕ) → mid name ≡ cond (pointwise nat_eq key name) (Some number) (old name))
+    → ((name : List ℕ) → new name ≡ cond (pointwise nat_eq key name) (Some before) (mid name))
+    → (asked : List ℕ) → new asked ≡ option_or (old asked) (cond (pointwise nat_eq asked key) (Some number) None)
+put_back key number before old mid new had changed again asked = again asked ∙ step (pointwise nat_eq key asked) refl
+  where
+    step : (b : Bool) → pointwise nat_eq key asked ≡ b → cond (pointwise nat_eq key asked) (Some before) (mid asked) ≡ option_or (old asked) (cond (pointwise nat_eq asked key) (Some number) None)
+    step true e =
+        let its : old asked ≡ Some before = ap old (sym (same_text key asked e)) ∙ had in
+        rw (its, e) refl
+    step false e = rw (changed asked, either_order asked key, e) (sym (or_nothing (old asked)))
 
-  pub firsts_more : (key : List ℕ) (new : List ℕ → Option ℕ) (place : ℕ) → ((name : List ℕ) → test name x ≡ pointwise nat_eq name key) → is_some (old key) ≡ false → place ≡ length xs
-      → ((name : List ℕ) → new name ≡ cond (pointwise nat_eq key name) (Some place) (old name)) → (name : List ℕ) → new name ≡ position (test name) (xs ++ x ∷ [])
-  firsts_more key new place is unknown behind changed name = changed name ∙ rw behind (step (pointwise nat_eq key name) refl) ∙ sym (first_of_more (test name) xs x)
-    where
-      nothing : (found : Option ℕ) → is_some found ≡ false → found ≡ None
-      nothing None h = refl
-      nothing (Some n) h = absurd cc
-
-      step : (b : Bool) → pointwise nat_eq key name ≡ b → cond (pointwise nat_eq key name) (Some (length xs)) (old name) ≡ option_or (position (test name) xs) (cond (test name x) (Some (length xs)) None)
-      step true e =
-          let none : position (test name) xs ≡ None = nothing (position (test name) xs) (ap is_some (sym (are name)) ∙ ap (λ n. is_some (old n)) (sym (same_text key name e)) ∙ unknown) in
-          rw (e, none, is name, either_order name key, e) refl
-      step false e = rw (e, is name, either_order name key, e) (are name ∙ sym (or_nothing (position (test name) xs)))
+-- one more item, whose name has its place unless an item before has the name
+pub first_more : {X : Type 0} (test : List ℕ → X → Bool) (old new : BTreeMap (Bor (List ℕ)) ℕ) (xs : List X) (x : X) (name : List ℕ) (number : ℕ)
+    → ((asked : List ℕ) → number_in old asked ≡ position (test asked) xs) → ((asked : List ℕ) → test asked x ≡ pointwise nat_eq asked name) → number ≡ length xs
+    → HasFirst old new name number → (asked : List ℕ) → number_in new asked ≡ position (test asked) (xs ++ x ∷ [])
+first_more test old new xs x name number are is count put asked =
+    let last : cond (pointwise nat_eq asked name) (Some number) None ≡ cond (test asked x) (Some (length xs)) None = rw (is asked, count) refl in
+    put asked ∙ ap₂ (λ found other. option_or found other) (are asked) last ∙ sym (first_of_more (test asked) xs x)
 
 -- one more item is seen
 pub seen_more : {A B : Type 0} (seen : A → B) (xs : List A) (i : ℕ) (item : A) → i < length xs → item ≡ get_or xs i item → map seen (take (i + 1) xs) ≡ map seen (take i xs) ++ seen item ∷ []

@@ -10,12 +10,11 @@ use Rattle.job_texts.specs.Declarations as forms
 use Rattle.algebra_terms.specs.declared.symbols.Symbol.{Symbol}
 use Rattle.grammar_text.specs.declared.reader.declaration.Item.{Item}
 use Rattle.grammar_text.specs.declared.reader.declaration.Argument.{Argument}
-use Rattle.grammar_text.specs.declared.reader.declaration.Argument.TheVariants as arguments
 use Rattle.grammar_text.specs.declared.reader.declaration.Alternative.{Alternative}
 use Rattle.grammar_text.specs.declared.reader.shape.Next.{Next}
 use Rattle.grammar_text.specs.declared.reader.shape.Next.TheVariants as next
 use Rattle.grammar_text.specs.declared.reader.declaration.SizeWords.{SizeWords}
-use Rattle.std.specs.Option.{option_map}
+use Rattle.std.specs.Option.{option_copied, option_map}
 use Rattle.grammar_text.specs.Seen.{tokens_seen, item_seen, argument_seen, words_seen, behind_class, behind_clause, behind_low, let_tokens_seen, IsSizeEnd, IsFirstItem, IsFirstKind, IsFirstVariable, IsFirstArgument, IsArgumentEnd, IsHighBound, IsFirstSign, IsBehindArgument, AreArguments, IsBehindAlternative, further_alternatives, size_seen, with_arguments, alternative_seen}
 use Rattle.grammar_text.proofs.Sorts.{same_text}
 use Rattle.grammar_text.proofs.Fronts.{with_front, front_last, seen_more, front_more, with_variables, variables_more, arguments_more, alternative_closed}
@@ -112,12 +111,13 @@ in_brackets class (Word low ∷ Dots ∷ Word high ∷ CloseSquare ∷ tokens) =
 in_brackets class tokens = refl
 
 -- an argument in square brackets, read to its end
-pub run_end : (class low : Bor (List ℕ)) (said : List Symbol) (high : Option (Bor (List ℕ))) (used : ℕ)
+pub run_end : (class low : Bor (List ℕ)) (said : List Symbol) (high : Option (Bor (List ℕ))) (used : ℕ) (argument : Argument)
+    → argument_seen argument ≡ forms.RunOf class.now low.now (option_copied high)
     → tokens_seen said ≡ Word low.now ∷ Dots ∷ tokens_seen (drop 2 said) → 2 ≤ length said
     → IsHighBound (drop 2 said) (Some (high, used))
-    → IsArgumentEnd (λ tokens. behind_class class.now tokens) said (Some (arguments.RunOf class low high, 2 + used))
-run_end class low said high used front long bound =
-    (rw (front, bound.0, drop-drop) refl, place_within said 2 used long bound.1)
+    → IsArgumentEnd (λ tokens. behind_class class.now tokens) said (Some (argument, 2 + used))
+run_end class low said high used argument is front long bound =
+    (rw (front, bound.0, drop-drop, is) refl, place_within said 2 used long bound.1)
 
 pub brackets_end : (class : Bor (List ℕ)) (said : List Symbol) (argument : Argument) (used : ℕ)
     → tokens_seen said ≡ OpenSquare ∷ Word class.now ∷ tokens_seen (drop 2 said) → 2 ≤ length said
@@ -186,6 +186,13 @@ pub sign_step : (said : List Symbol) (at used : ℕ) (sign : Bor (List ℕ)) (fo
     ≡ forms.with_sign sign.now (with_arguments (map argument_seen found) (forms.behind_alternative (tokens_seen (drop (at + 2 + used) said))))
 sign_step said at used sign found first all =
     rw (first.0, drop-drop) (ap (λ (rest : Option forms.RuleRest). forms.with_sign sign.now rest) (rw drop-drop at all.0))
+
+abbrev as_read : List ℕ → List forms.Argument → Option forms.SizeWords → forms.Alternative
+as_read sign arguments size = record { sign = sign; arguments = arguments; size = size }
+
+-- an alternative whose size stands apart
+pub same_size : (sign : List ℕ) (arguments : List forms.Argument) (kept size : Option forms.SizeWords) → kept ≡ size → as_read sign arguments kept ≡ as_read sign arguments size
+same_size sign arguments kept size is = ap (as_read sign arguments) is
 
 -- an alternative with its size, and those behind it
 sized_step : (said : List Symbol) (at used behind : ℕ) (sign : Bor (List ℕ)) (found : List Argument) (size : Option SizeWords) (follows : Next) (front alternatives : List Alternative) (last : Alternative) (all : Option (List forms.Alternative))

@@ -1,7 +1,7 @@
 -- The names that the declarations of a text give, as the reader holds them, and what the tests of a line ask of them.
-use Rattle.std.specs.Prelude.{◌≡◌, ℕ, Bool, true, false, not, ◌&&◌, ◌||◌, ◌==◌, nat_eq, nat_lt, Option, is_some, List, [], ◌∷◌, length}
+use Rattle.std.specs.Prelude.{◌≡◌, ℕ, Bool, true, false, not, ◌&&◌, ◌||◌, ◌==◌, nat_eq, nat_lt, if◌then◌else◌, Option, Some, None, is_some, List, [], ◌∷◌, length}
 use Rattle.std.specs.List.{filter_map, find, list_all, position, zip}
-use Rattle.std.specs.Option.{option_map, option_map_or}
+use Rattle.std.specs.Option.{option_map, option_map_or, option_or}
 use Rattle.std.specs.Borrow.{Bor}
 use Rattle.std.specs.Ordering.{nat_cmp}
 use Rattle.std.specs.Cmp.Lexicographic.{slice_cmp}
@@ -34,10 +34,20 @@ names_as sort declared = filter_map (name_as sort) declared
 abbrev pub is_named : Sort → List ℕ → Declaration → Bool
 is_named sort name declaration = option_map_or (λ other. pointwise nat_eq other name) (name_as sort declaration) false
 
+-- the number that a map has for a name
+abbrev pub number_in : BTreeMap (Bor (List ℕ)) ℕ → List ℕ → Option ℕ
+number_in numbers name = get_by (λ key. slice_cmp nat_cmp name key.now) numbers
+
+-- the new map has this number for this name, unless the old one has another; and else what the old one has
+abbrev pub HasFirst : BTreeMap (Bor (List ℕ)) ℕ → BTreeMap (Bor (List ℕ)) ℕ → List ℕ → ℕ → Type 0
+HasFirst old new name number =
+    (asked : List ℕ) → number_in new asked
+    ≡ option_or (number_in old asked) (if pointwise nat_eq asked name then Some number else None)
+
 -- the map has the number of the first of these names that is the same
 abbrev pub AreNumbers : BTreeMap (Bor (List ℕ)) ℕ → List (List ℕ) → Type 0
 AreNumbers numbers names =
-    (name : List ℕ) → get_by (λ key. slice_cmp nat_cmp name key.now) numbers ≡ position (pointwise nat_eq name) names
+    (name : List ℕ) → number_in numbers name ≡ position (pointwise nat_eq name) names
 
 -- the line declares the sign of this name
 abbrev pub gives_kinds : List ℕ → Declaration → Bool
@@ -46,7 +56,7 @@ gives_kinds sign declaration = is_some (kinds_given sign declaration)
 -- the map has the place of the first of these declarations that declares the sign
 abbrev pub AreSignPlaces : BTreeMap (Bor (List ℕ)) ℕ → List Declaration → Type 0
 AreSignPlaces places declared =
-    (name : List ℕ) → get_by (λ key. slice_cmp nat_cmp name key.now) places ≡ position (gives_kinds name) declared
+    (name : List ℕ) → number_in places name ≡ position (gives_kinds name) declared
 
 -- the names are those that these declare
 pub record AreNames (names : Names) (declared : List Declaration) : Type 0 where

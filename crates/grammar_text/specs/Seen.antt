@@ -2,6 +2,8 @@
 use Rattle.std.specs.Prelude.{◌≡◌, ℕ, Bool, true, false, take, ◌+◌, ◌*◌, ◌<◌, ◌≤◌, Option, Some, None, unwrap_or, List, [], ◌∷◌, ◌++◌, map, length, drop, codes, MatchOption}
 use Rattle.std.specs.Borrow.{Bor}
 use Rattle.std.specs.Option.{option_map, option_and_then, option_copied}
+use Rattle.std.specs.Global.{Global}
+use Rattle.std.specs.declared.boxed.Box.{Box}
 use Rattle.job_texts.specs.LetTerms.{LetTerm, Parts, term_of_text}
 use Rattle.job_texts.specs.LineTokens.{Token, QuotedRest, Bar, CloseBracket, CloseSquare, Comma, Dots, Word}
 use Rattle.job_texts.specs.Declarations as forms
@@ -41,18 +43,23 @@ abbrev pub argument_seen : Argument → forms.Argument
 argument_seen (arguments.Named rule) = forms.Named rule.now
 argument_seen (arguments.Spelled letters) = forms.Spelled (letters_behind letters.now)
 argument_seen (arguments.OneOf class) = forms.OneOf class.now
-argument_seen (arguments.RunOf class low high) = forms.RunOf class.now low.now (option_copied high)
+argument_seen (arguments.RunOf class low high) = forms.RunOf class.now low.now (Some high.now)
+argument_seen (arguments.RunFrom class low) = forms.RunOf class.now low.now None
 
 -- a size, without where its words lie in memory
 abbrev pub size_seen : SizeWords → forms.SizeWords
 size_seen size = record { low = size.low.now; high = option_copied size.high }
+
+-- a size that stands apart, or none
+abbrev pub kept_size_seen : Option (Box SizeWords Global) → Option forms.SizeWords
+kept_size_seen size = option_map (λ (kept : Box SizeWords Global). size_seen kept.value) size
 
 -- an alternative with its arguments and its size
 abbrev pub alternative_seen : Alternative → forms.Alternative
 alternative_seen alternative = record {
   sign = alternative.sign.now;
   arguments = map argument_seen alternative.arguments.items;
-  size = option_map size_seen alternative.size;
+  size = kept_size_seen alternative.size;
 }
 
 -- the term that these bytes spell in a text of this format; one without parts where they spell none

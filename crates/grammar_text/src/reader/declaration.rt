@@ -25,7 +25,12 @@ pub(crate) enum Argument<'a> {
     RunOf {
         class: &'a [u8],
         low: &'a [u8],
-        high: Option<&'a [u8]>,
+        high: &'a [u8],
+    },
+    /// The same without a high bound.
+    RunFrom {
+        class: &'a [u8],
+        low: &'a [u8],
     },
 }
 
@@ -36,12 +41,12 @@ pub(crate) struct SizeWords<'a> {
     pub(crate) high: Option<&'a [u8]>,
 }
 
-/// A sign by its name, its arguments, and a size where one is given.
+/// A sign by its name, its arguments, and a size where one is given. Few have one, so it stands apart.
 #[derive(Drop)]
 pub(crate) struct Alternative<'a> {
     pub(crate) sign: &'a [u8],
     pub(crate) arguments: Vec<Argument<'a>>,
-    pub(crate) size: Option<SizeWords<'a>>,
+    pub(crate) size: Option<Box<SizeWords<'a>>>,
 }
 
 /// A term as it is spelled in a text of this format.

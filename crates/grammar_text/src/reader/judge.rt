@@ -1,14 +1,14 @@
 // What a declaration shows by itself: words that are no names, no numbers or no bounds, letters, and crossed bounds.
 
 ghost use Rattle.std.specs.Prelude.{◌≡◌, ◌≤◌, ◌^◌, ◌∷◌, true, false, is_some, length, map, IfOk};
-ghost use Rattle.std.specs.Option.{option_copied, option_map, option_map_or, option_to_list};
+ghost use Rattle.std.specs.Option.{option_copied, option_map_or, option_to_list};
 ghost use Rattle.job_texts.specs.TermParts.{term_reading};
 ghost use Rattle.job_texts.specs.WideText.{wide_reading};
 ghost use Rattle.std.specs.List.{flat_map, list_all, list_any};
 ghost use Rattle.job_texts.specs.TextFaults as faults;
 ghost use Rattle.adp_model.specs.WellFormed as words;
 ghost use Rattle.grammar_text.specs.Judged as judged;
-ghost use Rattle.grammar_text.specs.Seen.{alternative_seen, argument_seen, declaration_seen, item_seen, size_seen, term_seen, words_seen};
+ghost use Rattle.grammar_text.specs.Seen.{alternative_seen, argument_seen, declaration_seen, item_seen, kept_size_seen, term_seen, words_seen};
 
 use crate::reader::declaration::{Alternative, Argument, Declaration, Item, SizeWords, Term};
 use crate::reader::letters::class_letters;
@@ -92,7 +92,7 @@ fn has_argument_name(argument: &Argument<'_>) -> bool
     match argument {
         Argument::Named(name) | Argument::OneOf(name) => is_name(name),
         Argument::Spelled(_) => true,
-        Argument::RunOf { class, .. } => is_name(class),
+        Argument::RunOf { class, .. } | Argument::RunFrom { class, .. } => is_name(class),
     }
 }
 
@@ -141,9 +141,9 @@ fn have_bounds(arguments: &[Argument<'_>]) -> bool
         .all(|argument| has_argument_bounds(argument))
 }
 
-fn has_size_bounds(size: &Option<SizeWords<'_>>) -> bool
+fn has_size_bounds(size: &Option<Box<SizeWords<'_>>>) -> bool
     ensures { result ≡ list_all (λ word. is_some (faults.bound_of word))
-        (faults.size_bounds (option_map size_seen size.now)) }
+        (faults.size_bounds (kept_size_seen size.now)) }
 {
     match size {
         None => true,
@@ -163,7 +163,8 @@ fn has_argument_bounds(argument: &Argument<'_>) -> bool
         ≡ list_all (λ word. is_some (faults.bound_of word)) (faults.argument_bounds (argument_seen argument.now)) }
 {
     match argument {
-        Argument::RunOf { low, high, .. } => are_bounds(low, *high),
+        Argument::RunOf { low, high, .. } => are_bounds(low, Some(high)),
+        Argument::RunFrom { low, .. } => are_bounds(low, None),
         _ => true,
     }
 }
@@ -193,9 +194,9 @@ fn is_crossed(alternative: &Alternative<'_>) -> bool
     has_crossed_argument(alternative) || has_crossed_size(&alternative.size)
 }
 
-fn has_crossed_size(size: &Option<SizeWords<'_>>) -> bool
+fn has_crossed_size(size: &Option<Box<SizeWords<'_>>>) -> bool
     ensures { result ≡ option_map_or (λ size. faults.are_crossed size.low size.high)
-        (option_map size_seen size.now) false }
+        (kept_size_seen size.now) false }
 {
     match size {
         None => false,
@@ -216,7 +217,7 @@ fn has_crossed_bounds(argument: &Argument<'_>) -> bool
     ensures { result ≡ faults.has_crossed_bounds (argument_seen argument.now) }
 {
     match argument {
-        Argument::RunOf { low, high, .. } => are_crossed(low, *high),
+        Argument::RunOf { low, high, .. } => are_crossed(low, Some(high)),
         _ => false,
     }
 }

@@ -1,6 +1,6 @@
 // The names that the lines of a text declare, and the tests of names that a line uses.
 
-ghost use Rattle.std.specs.Prelude.{◌≡◌, ◌<◌, ◌≤◌, ◌^◌, map, length, IfOk, List};
+ghost use Rattle.std.specs.Prelude.{◌≡◌, ◌<◌, ◌≤◌, ◌^◌, map, length, IfOk, OnOk, List};
 ghost use Rattle.std.specs.List.{list_all, list_any};
 ghost use Rattle.std.specs.Option.{option_copied};
 ghost use Rattle.job_texts.specs.Declarations as forms;
@@ -8,8 +8,8 @@ ghost use Rattle.job_texts.specs.DeclaredNames.{class_names, sign_names, rule_na
 ghost use Rattle.job_texts.specs.TermText.{is_among};
 ghost use Rattle.job_texts.specs.TextFaults as faults;
 ghost use Rattle.job_texts.specs.JobText.{number_among};
-ghost use Rattle.grammar_text.specs.Seen.{alternative_seen, argument_seen, declaration_seen, words_seen};
-ghost use Rattle.grammar_text.specs.Names.{AreNames, AreNumbers, AreSignPlaces, declares_its_variables, fit_kinds, name_as, names_as};
+ghost use Rattle.grammar_text.specs.Seen.{alternative_seen, argument_seen, declaration_seen};
+ghost use Rattle.grammar_text.specs.Names.{AreNames, AreNumbers, AreSignPlaces, HasFirst, declares_its_variables, fit_kinds, name_as, names_as};
 
 use crate::reader::declaration::{Alternative, Argument, Declaration};
 use adp_model::Kind;
@@ -33,9 +33,9 @@ impl<'a> Names<'a> {
         ensures { IfOk result (λ names. AreNames names (map declaration_seen declared.now)) }
     {
         Ok(Names {
-            classes: numbered(alloc, &names_as(alloc, declared, Sort::Class)?)?,
-            signs: numbered(alloc, &names_as(alloc, declared, Sort::Sign)?)?,
-            rules: numbered(alloc, &names_as(alloc, declared, Sort::Rule)?)?,
+            classes: numbered(alloc, declared, Sort::Class)?,
+            signs: numbered(alloc, declared, Sort::Sign)?,
+            rules: numbered(alloc, declared, Sort::Rule)?,
             sign_places: sign_places(alloc, declared)?,
         })
     }
@@ -127,33 +127,21 @@ pub(crate) fn name_as<'a>(sort: Sort, declaration: &Declaration<'a>) -> Option<&
     }
 }
 
-// The names that the declarations of a sort give, in order.
-fn names_as<'a>(
+// The number of the first of each name among those that the declarations of a sort give.
+fn numbered<'a>(
     alloc: Global,
     declared: &[Declaration<'a>],
     sort: Sort,
-) -> Result<Vec<&'a [u8]>, AllocError>
-    ensures names { IfOk result (λ names. words_seen names.items ≡ names_as sort (map declaration_seen declared.now)) }
-    ensures few { IfOk result (λ names. length names.items ≤ length declared.now) }
-{
-    let mut names = Vec::new(alloc);
-    for declaration in declared {
-        if let Some(name) = name_as(sort, declaration) {
-            names.push(name)?;
-        }
-    }
-    Ok(names)
-}
-
-// The number of the first of each name.
-fn numbered<'a>(alloc: Global, names: &[&'a [u8]]) -> Result<BTreeMap<&'a [u8], u32>, AllocError>
-    requires { length names.now < 2 ^ 32 }
-    ensures { IfOk result (λ numbers. AreNumbers numbers (words_seen names.now)) }
+) -> Result<BTreeMap<&'a [u8], u32>, AllocError>
+    requires { length declared.now < 2 ^ 32 }
+    ensures { IfOk result (λ numbers. AreNumbers numbers (names_as sort (map declaration_seen declared.now))) }
 {
     let mut numbers = BTreeMap::new(alloc);
-    for (i, name) in names.iter().enumerate() {
-        if numbers.get(name).is_none() {
-            numbers.insert(*name, i as u32)?;
+    let mut count = 0;
+    for declaration in declared {
+        if let Some(name) = name_as(sort, declaration) {
+            put_first(&mut numbers, name, count)?;
+            count += 1;
         }
     }
     Ok(numbers)
@@ -172,11 +160,26 @@ fn sign_places<'a>(
         let Some(name) = name_as(Sort::Sign, declaration) else {
             continue;
         };
-        if places.get(name).is_none() {
-            places.insert(name, i as u32)?;
-        }
+        put_first(&mut places, name, i as u32)?;
     }
     Ok(places)
+}
+
+// Gives a name this number, unless it has one. Most names are new, so they are put in without a look before.
+fn put_first<'a>(
+    numbers: &mut BTreeMap<&'a [u8], u32>,
+    name: &'a [u8],
+    number: u32,
+) -> Result<(), AllocError>
+    ensures { OnOk result (HasFirst numbers.old numbers.new name.now number) }
+{
+    match numbers.insert(name, number)? {
+        Some(before) => {
+            numbers.insert(name, before)?;
+            Ok(())
+        }
+        None => Ok(()),
+    }
 }
 
 /// Whether a line uses a sign, rule, class or variable that isn't declared, where it is known whether the variables of
@@ -236,7 +239,8 @@ fn is_unknown(names: &Names<'_>, argument: &Argument<'_>) -> bool
     match argument {
         Argument::Named(rule) => !names.has_rule(rule),
         Argument::Spelled(_) => false,
-        Argument::OneOf(class) | Argument::RunOf { class, .. } => !names.has_class(class),
+        Argument::OneOf(class) | Argument::RunOf { class, .. } | Argument::RunFrom { class, .. } =>
+            !names.has_class(class),
     }
 }
 

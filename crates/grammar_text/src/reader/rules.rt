@@ -8,7 +8,7 @@ ghost use Rattle.adp_model.specs.Printable.{IsPrintable};
 ghost use Rattle.algebra_terms.specs.Tokens.{letters_behind};
 ghost use Rattle.grammar_text.specs.Building.{are_buildable, is_buildable, is_printable_alternative, is_printable_argument};
 ghost use Rattle.grammar_text.specs.Names.{AreNames};
-ghost use Rattle.grammar_text.specs.Seen.{alternative_seen, argument_seen, declaration_seen, size_seen};
+ghost use Rattle.grammar_text.specs.Seen.{alternative_seen, argument_seen, declaration_seen, kept_size_seen};
 ghost use Rattle.std.specs.Option.{option_and_then, option_copied, option_map};
 ghost use Rattle.job_texts.specs.TextFaults.{bound_of};
 
@@ -91,8 +91,8 @@ fn alternative_of(
     })
 }
 
-fn size_of(size: &Option<SizeWords<'_>>) -> Option<Size>
-    ensures { result ≡ option_map texts.size_of (option_map size_seen size.now) }
+fn size_of(size: &Option<Box<SizeWords<'_>>>) -> Option<Size>
+    ensures { result ≡ option_map texts.size_of (kept_size_seen size.now) }
 {
     match size {
         None => None,
@@ -137,15 +137,16 @@ fn argument_of(alloc: Global, argument: &Argument<'_>, names: &Names<'_>) -> Res
         Argument::Named(rule) => Ok(Arg::Rule(names.rule_number(rule))),
         Argument::Spelled(letters) => Ok(Arg::Literal(literal(alloc, letters)?)),
         Argument::OneOf(class) => Ok(Arg::Letter(names.class_number(class))),
-        Argument::RunOf { class, low, high } => {
-            let low = bound_of(low).unwrap_or(0);
-            let high = high_bound(*high);
-            Ok(Arg::Run {
-                class: names.class_number(class),
-                low,
-                high,
-            })
-        }
+        Argument::RunOf { class, low, high } => Ok(Arg::Run {
+            class: names.class_number(class),
+            low: bound_of(low).unwrap_or(0),
+            high: bound_of(high),
+        }),
+        Argument::RunFrom { class, low } => Ok(Arg::Run {
+            class: names.class_number(class),
+            low: bound_of(low).unwrap_or(0),
+            high: None,
+        }),
     }
 }
 

@@ -3,14 +3,14 @@
 ghost use Rattle.std.specs.Prelude.{◌≡◌, ◌+◌, ◌*◌, ◌≤◌, ◌<◌, ◌^◌, ◌∷◌, false, true, length, map, drop, is_none, is_some, All, IfOk, IfSome, IsSome, codes};
 ghost use Rattle.std.specs.List.{list_all};
 ghost use Rattle.adp_model.specs.Printable.{is_printable_byte};
-ghost use Rattle.std.specs.Option.{option_map};
+ghost use Rattle.std.specs.Option.{option_copied, option_map};
 ghost use Rattle.job_texts.specs.LineTokens as lines;
 ghost use Rattle.job_texts.specs.JobLines as job_lines;
 ghost use Rattle.job_texts.specs.LetTerms.{is_second, term_of_text, term_of_tokens};
 ghost use Rattle.job_texts.specs.Declarations as forms;
 ghost use Rattle.algebra_terms.specs.Tokens.{IsIn, placed};
 ghost use Rattle.algebra_terms.specs.Tokens.{said as token_said};
-ghost use Rattle.grammar_text.specs.Seen.{alternative_seen, declaration_seen, item_seen, let_tokens_seen, line_seen, tokens_seen, behind_class, behind_clause, behind_low, AreArguments, IsArgumentEnd, IsBehindAlternative, IsBehindArgument, IsBehindKind, IsFirstArgument, IsFirstItem, IsFirstKind, IsFirstSign, IsFirstVariable, IsHighBound, IsSizeEnd};
+ghost use Rattle.grammar_text.specs.Seen.{alternative_seen, argument_seen, declaration_seen, item_seen, kept_size_seen, let_tokens_seen, line_seen, size_seen, tokens_seen, behind_class, behind_clause, behind_low, AreArguments, IsArgumentEnd, IsBehindAlternative, IsBehindArgument, IsBehindKind, IsFirstArgument, IsFirstItem, IsFirstKind, IsFirstSign, IsFirstVariable, IsHighBound, IsSizeEnd};
 
 use crate::reader::declaration::{
     Alternative, Argument, Declaration, HeaderLine, Item, SizeWords, Term,
@@ -446,6 +446,7 @@ fn alternatives<'a>(
         let Some((size, next, used)) = behind_alternative(&said[at..]) else {
             return Ok(None);
         };
+        let size = kept_apart(alloc, size)?;
         alternatives.push(Alternative {
             sign,
             arguments,
@@ -457,6 +458,19 @@ fn alternatives<'a>(
         }
     }
     Ok(None)
+}
+
+// A size in a place of its own.
+fn kept_apart<'a>(
+    alloc: Global,
+    size: Option<SizeWords<'a>>,
+) -> Result<Option<Box<SizeWords<'a>>>, AllocError>
+    ensures { IfOk result (λ kept. kept_size_seen kept ≡ option_map size_seen size.entry) }
+{
+    match size {
+        Some(size) => Ok(Some(Box::new(alloc, size)?)),
+        None => Ok(None),
+    }
 }
 
 // The sign of the alternative that these tokens begin with.
@@ -582,9 +596,18 @@ fn behind_class<'a>(class: &'a [u8], said: &[Symbol<'a>]) -> Option<(Argument<'a
         [Symbol::CloseSquare, ..] => Some((Argument::OneOf(class), 1)),
         [Symbol::Word(low), Symbol::Dots, rest @ ..] => {
             let (high, used) = high_bound(rest)?;
-            Some((Argument::RunOf { class, low, high }, 2 + used))
+            Some((run_of_class(class, low, high), 2 + used))
         }
         _ => None,
+    }
+}
+
+fn run_of_class<'a>(class: &'a [u8], low: &'a [u8], high: Option<&'a [u8]>) -> Argument<'a>
+    ensures { argument_seen result ≡ forms.RunOf class.now low.now (option_copied high.entry) }
+{
+    match high {
+        Some(high) => Argument::RunOf { class, low, high },
+        None => Argument::RunFrom { class, low },
     }
 }
 

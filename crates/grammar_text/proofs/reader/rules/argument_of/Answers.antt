@@ -8,4 +8,7 @@ pub returns-in-OneOf : goal.returns-in-OneOf
 returns-in-OneOf c = λ all h. rw (c.in-OneOf.is, c.class_number.ensures all h) refl
 
 pub returns-in-RunOf : goal.returns-in-RunOf
-returns-in-RunOf c = λ all h. rw (c.in-RunOf.is, c.class_number-in-RunOf.ensures all h, c.unwrap_or-low.ensures, c.bound_of.ensures, c.high_bound-high.ensures) refl
+returns-in-RunOf c = λ all h. rw (c.in-RunOf.is, c.class_number-in-RunOf.ensures all h, c.unwrap_or.ensures, c.bound_of.ensures, c.bound_of-in-RunOf.ensures) refl
+
+pub returns-in-RunFrom : goal.returns-in-RunFrom
+returns-in-RunFrom c = λ all h. rw (c.in-RunFrom.is, c.class_number-in-RunFrom.ensures all h, c.unwrap_or-in-RunFrom.ensures, c.bound_of-in-RunFrom.ensures) refl

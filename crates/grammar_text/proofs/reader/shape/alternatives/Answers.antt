@@ -1,8 +1,8 @@
 use Rattle.std.proofs.Common.{◌+◌, arith}
-use Rattle.std.proofs.Common.{map, refl}
+use Rattle.std.proofs.Common.{map}
 use Rattle.grammar_text.specs.Seen.{alternative_seen}
 use Rattle.grammar_text.proofs.Fronts.{front_none}
-use Rattle.grammar_text.proofs.ShapeSteps.{rest_of, place_within, alternatives_end, alternatives_step, alternatives_unended, alternatives_without}
+use Rattle.grammar_text.proofs.ShapeSteps.{rest_of, place_within, alternatives_end, alternatives_step, alternatives_unended, alternatives_without, same_size}
 use Rattle.grammar_text.proofs.reader.shape.alternatives.Goals as goal
 
 pub returns-in_default-2 : goal.returns-in_default-2
@@ -16,7 +16,7 @@ returns-in-End c =
     let first = rw rest_of at c.in-Some.ensures in
     let those = rw (rest_of, c.in-Some-2.is) at c.in_ok-arguments.ensures in
     let ends = rw (rest_of, c.in-End.is) at c.in-Some-behind_alternative.ensures in
-    alternatives_end c.args.said.now c.loop-sign.at c.in-Some-2.used c.in-Some-behind_alternative.used c.in-Some.sign c.in-Some-2.arguments.items c.in-Some-behind_alternative.size c.loop-sign.alternatives.items c.push.new.self.items _ _ first those ends refl c.loop-sign.invariant.seen c.in_ok-push.ensures.items
+    alternatives_end c.args.said.now c.loop-sign.at c.in-Some-2.used c.in-Some-behind_alternative.used c.in-Some.sign c.in-Some-2.arguments.items c.in-Some-behind_alternative.size c.loop-sign.alternatives.items c.push.new.self.items _ _ first those ends (same_size _ _ _ _ c.in_ok-size.ensures) c.loop-sign.invariant.seen c.in_ok-push.ensures.items
 
 pub loop-sign-preserved : goal.loop-sign-preserved
 loop-sign-preserved c =
@@ -28,7 +28,7 @@ loop-sign-preserved c =
     let closed = place_within said (c.loop-sign.at + 2) c.in-Some-2.used opened those.1 in
     record {
       within = place_within said (c.loop-sign.at + 2 + c.in-Some-2.used) c.in-Some-behind_alternative.used closed ends.1;
-      seen = alternatives_step said c.loop-sign.at c.in-Some-2.used c.in-Some-behind_alternative.used c.in-Some.sign c.in-Some-2.arguments.items c.in-Some-behind_alternative.size c.loop-sign.alternatives.items c.push.new.self.items _ _ first those ends refl c.loop-sign.invariant.seen c.in_ok-push.ensures.items;
+      seen = alternatives_step said c.loop-sign.at c.in-Some-2.used c.in-Some-behind_alternative.used c.in-Some.sign c.in-Some-2.arguments.items c.in-Some-behind_alternative.size c.loop-sign.alternatives.items c.push.new.self.items _ _ first those ends (same_size _ _ _ _ c.in_ok-size.ensures) c.loop-sign.invariant.seen c.in_ok-push.ensures.items;
     }
 
 pub returns-in_default-behind_alternative : goal.returns-in_default-behind_alternative
