@@ -7,4 +7,5 @@ pub mod Joining
 pub mod Finishing
 pub mod Playing
 pub mod Watching
+pub mod Turns
 pub mod SentProbes

@@ -8,3 +8,5 @@ pub mod Schedules
 pub mod Playing
 pub mod Joined
 pub mod Watching
+pub mod Turns
+pub mod Ends

@@ -59,7 +59,7 @@ pub fn run_workers<'a, R: Threads + Sync, G: Gate>(
 }
 
 /// The problem is prepared for a team that works on it.
-fn team_for<'a, 'g, G: Gate>(
+pub(crate) fn team_for<'a, 'g, G>(
     alloc: Global,
     table: &Table,
     problem: &'a Problem<'a>,
@@ -96,7 +96,7 @@ fn prepare<'a>(
 }
 
 /// As many workers as the table has seats, each with a machine and a pass of its own.
-pub(crate) fn team<'a, 'g, G: Gate>(
+pub(crate) fn team<'a, 'g, G>(
     alloc: Global,
     table: &Table,
     prepared: &Arc<Prepared<'a>, Global>,
@@ -127,7 +127,7 @@ pub(crate) fn team<'a, 'g, G: Gate>(
 }
 
 /// One more worker, with a fresh machine, for the team.
-fn hire<'a, 'g, G: Gate>(
+fn hire<'a, 'g, G>(
     alloc: Global,
     team: &mut Vec<GatedWorker<'g, TableWorker<'a>, G>>,
     prepared: &Arc<Prepared<'a>, Global>,
@@ -179,7 +179,7 @@ pub(crate) struct Leavings<'a> {
 }
 
 /// Joins all passes, and keeps the machines in order. The first of them has ended.
-pub(crate) fn join_all<'a, G: Gate>(
+pub(crate) fn join_all<'a, G>(
     alloc: Global,
     table: &Table,
     seed: u64,
@@ -205,7 +205,7 @@ pub(crate) fn join_all<'a, G: Gate>(
 }
 
 /// What one worker leaves.
-fn left_by<'a, G: Gate>(
+fn left_by<'a, G>(
     alloc: Global,
     gated: GatedWorker<'_, TableWorker<'a>, G>,
 ) -> Result<Leavings<'a>, AllocError>
@@ -229,7 +229,7 @@ fn left_by<'a, G: Gate>(
 }
 
 /// One more worker is joined to those before.
-fn take_in<'a, G: Gate>(
+fn take_in<'a, G>(
     table: &Table,
     left: &mut Leavings<'a>,
     gated: GatedWorker<'_, TableWorker<'a>, G>,

@@ -16,7 +16,8 @@ use std::sync::ledger::{Blank, Ledger};
 
 /// What a worker passes before each step that loads a record word. It isn't a gate itself: what is run in a thread of
 /// its own may call no function over a gate, whose bound speaks of threads.
-pub(crate) trait Door {
+pub trait Door {
+    /// Called before a worker loads a record word. Nothing is promised but that it returns.
     fn pass(&self, worker: u32);
 }
 

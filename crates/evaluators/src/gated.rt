@@ -16,8 +16,8 @@ pub(crate) struct GatedWorker<'g, W, G> {
 
 /// The way through a gate.
 #[derive(Drop)]
-pub(crate) struct Way<'g, G> {
-    pub(crate) gate: &'g G,
+pub struct Way<'g, G> {
+    pub gate: &'g G,
 }
 
 impl<'g, G: Gate> Door for Way<'g, G> {

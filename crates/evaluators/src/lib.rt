@@ -7,12 +7,16 @@ mod finished;
 mod gate;
 mod gated;
 mod halves;
+mod in_turn;
 mod schedule;
 mod watcher;
 mod worker;
 
 pub use crew::run_workers;
+pub use driving::Door;
 pub use finished::{Finished, RunNote};
 pub use gate::{Gate, LogGate, OpenGate};
+pub use gated::Way;
+pub use in_turn::{Ended, run_in_turn};
 pub use schedule::{run_schedule, watch_schedule};
 pub use watcher::{Unwatched, Watcher};

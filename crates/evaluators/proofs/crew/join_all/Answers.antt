@@ -40,10 +40,10 @@ loop-gated-init g c =
     c.args.count many c.requires.first refl refl)
 
 pub take_in-requires-clause-into : goal.take_in-requires-clause-into
-take_in-requires-clause-into g c κs lives = c.loop-gated.invariant.own
+take_in-requires-clause-into g c = c.loop-gated.invariant.own
 
 pub take_in-requires-clause-other : goal.take_in-requires-clause-other
-take_in-requires-clause-other g c κs lives =
+take_in-requires-clause-other g c =
     (All-pop (λ (gated : GatedWorker TableWorker _). IsAtWork c.args.table.now gated.worker) c.loop-gated.workers.items
     c.pop-in-loop-gated.new.self.items (Some c.in-Some-pop.gated) (c.in-Some-pop.ensures {u = tt}).items
     c.loop-gated.invariant.at_work).1.own

@@ -16,7 +16,7 @@ use Rattle.evaluators.proofs.Finishing.{all_ended, first_of_ended}
 use Rattle.evaluators.proofs.crew.run_workers.Goals as goal
 
 pub join_all-requires-clause-posts : goal.join_all-requires-clause-posts
-join_all-requires-clause-posts g c κs lives =
+join_all-requires-clause-posts g c =
     let crew = c.in_ok-crew.crew in
     let same = sym (c.in_ok-table.ensures {u = tt}).problem in
     map_written_back (λ (gated : GatedWorker TableWorker _). post_of gated.worker) crew.items c.run_all.new.workers
@@ -26,7 +26,7 @@ join_all-requires-clause-posts g c κs lives =
     ∙ (c.in_ok-crew.ensures {u = tt}).posts ∙ ap (λ p. posts_of p c.args.seed c.args.workers) same
 
 pub join_all-requires-clause-first : goal.join_all-requires-clause-first
-join_all-requires-clause-first g c κs lives =
+join_all-requires-clause-first g c =
     let crew = c.in_ok-crew.crew in
     let left = c.run_all.new.workers in
     let posts = c.run_all.ensures.posts

@@ -23,7 +23,7 @@ play-requires-clause-some g c =
     omega (arith, counted, same, c.requires.number.0)
 
 pub join_all-requires-clause-first : goal.join_all-requires-clause-first
-join_all-requires-clause-first g c κs =
+join_all-requires-clause-first g c =
     let crew = c.in_ok-crew.crew in
     let left = c.play.new.workers in
     let posts = c.play.ensures.posts
@@ -35,7 +35,7 @@ join_all-requires-clause-first g c κs =
     c.play.ensures.scheduled)
 
 pub join_all-requires-clause-posts : goal.join_all-requires-clause-posts
-join_all-requires-clause-posts g c κs =
+join_all-requires-clause-posts g c =
     let crew = c.in_ok-crew.crew in
     let same : arc_value c.in_ok-prepared.prepared ≡ problem_of c.in_ok-table.table = search rules in
     map_written_back (λ (gated : GatedWorker TableWorker _). post_of gated.worker) crew.items c.play.new.workers
@@ -73,7 +73,7 @@ returns-clause-told g c =
     (λ (gated : GatedWorker TableWorker _). gated.worker.machine) 0 left c.play.ensures.told)
 
 pub join_all-requires-clause-at_work : goal.join_all-requires-clause-at_work
-join_all-requires-clause-at_work g c κs =
+join_all-requires-clause-at_work g c =
     let crew = c.in_ok-crew.crew in
     let left = c.play.new.workers in
     let posts = c.play.ensures.posts
