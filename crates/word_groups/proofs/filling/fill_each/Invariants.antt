@@ -1,0 +1,9 @@
+use Rattle.std.proofs.Common.{◌≡◌, map}
+use Rattle.std.specs.List.{AllWithin}
+use Rattle.word_groups.proofs.filling.fill_each.Given as goal
+
+abbrev pub invariant-loop-place : goal.invariant-loop-place
+invariant-loop-place g l = record {
+  filled : AllWithin (g.S.Fill.is_filled l.order) l.slots 0 l.place;
+  asked : map g.S.Fill.asked l.slots ≡ map g.S.Fill.asked l.fn.slots;
+}
