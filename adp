@@ -604,6 +604,15 @@ find_finished() {
   finished=$(tail -n 2 "$counts" | awk '/^word/ { last = $2 } END { print last + 0 }')
 }
 
+# Has the C library ask for large pages, in which a large table is worked at faster: where the system gives them to those
+# who ask, and the caller has no settings of that library.
+ask_for_large_pages() {
+  local pages
+  [ -z "${GLIBC_TUNABLES+set}" ] || return 0
+  { read -r pages </sys/kernel/mm/transparent_hugepage/enabled; } 2>/dev/null || return 0
+  case $pages in *'[madvise]'*) export GLIBC_TUNABLES=glibc.malloc.hugetlb=1 ;; esac
+}
+
 # Runs the program over `input`: `fault` is then what it wrote on standard error, `status` how it ended, `finished` the
 # last word with a report, and `treeless` are the first words without a tree, of which there are `treeless_count`.
 run() {
@@ -823,6 +832,7 @@ if [ -n "$time_limit" ]; then
   case $time_limit in *.*) fraction=${time_limit#*.}000000 ;; esac
   limit=$((10#${time_limit%.*} * 1000000 + 10#${fraction:0:6}))
 fi
+ask_for_large_pages
 follows=
 if [ -t 2 ] || [ -n "$explains$time_limit" ]; then
   need awk dd grep tail tee

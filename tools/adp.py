@@ -627,6 +627,19 @@ def find_program() -> str:
     return os.environ.get("ADP") or [*_launchers(), "adp"][0]
 
 
+def run_environment() -> dict[str, str] | None:
+    """The environment of a run, or none where it is that of this process: the C library asks for large pages, in which
+    large tables are faster, where the system gives them to those who ask, unless GLIBC_TUNABLES is set already."""
+    try:
+        with open("/sys/kernel/mm/transparent_hugepage/enabled", encoding="ascii") as setting:
+            given = "[madvise]" in setting.read()
+    except OSError:
+        return None
+    if not given or "GLIBC_TUNABLES" in os.environ:
+        return None
+    return {**os.environ, "GLIBC_TUNABLES": "glibc.malloc.hugetlb=1"}
+
+
 def solve(job: str | None = None, *, words: Iterable[str] | None = None, mode: str | None = None,
           algebra: str | None = None, then: str | None = None, workers: int | None = None, seed: int | None = None,
           schedule: str | None = None, program: str | None = None, timeout: float | None = None,
@@ -672,7 +685,8 @@ def _written(program: str | None, mode: str, options: Mapping[str, Any], text: s
     words = [program or find_program(), mode]
     for name, value in options.items():
         words += [] if value is None else ["--" + name, str(value)]
-    with subprocess.Popen(words, stdin=subprocess.PIPE, stdout=subprocess.PIPE, stderr=subprocess.PIPE) as process:
+    with subprocess.Popen(words, stdin=subprocess.PIPE, stdout=subprocess.PIPE, stderr=subprocess.PIPE,
+                          env=run_environment()) as process:
         try:
             written, told = process.communicate(_bytes_of(text), timeout)
         except BaseException as error:
