@@ -8,7 +8,7 @@ export LC_ALL
 self=${BASH_SOURCE[0]}
 most_bytes=4194304
 # (raised with each format that the program reads)
-version=1.2
+version=1.3
 formats='adp 1, adp 2, adp 3'
 
 help() {
@@ -25,6 +25,7 @@ modes
   replay             as wins, with evaluators that are stepped one by one, in the order of a schedule
   lex                the best by one algebra and, among equals, by a second one; as best, with both scores; of jobs in
                      the format adp 1 alone
+  kbest              the first trees of each word in the order of preference, as many as --best says, with their scores
   cert               a certificate: every cell that an answer may depend on with its score, and behind them the job, so
                      that whoever gets it can check it line by line
   verify             reads a certificate with its job, checks each line by its neighbours, and writes the score of each
@@ -34,10 +35,12 @@ modes
 options, in any order, each at most once
   --algebra NAME     the algebra that scores; the first of the job where none is named; not of big
   --then NAME        the algebra that decides among equals; of lex, which needs it
-  --workers N        how many evaluators, 1 to 32; 1 where nothing is said; not of verify
-  --seed N           the seed of their visiting orders, and of the word of big, below 2^64; 0 where nothing is said
+  --workers N        how many evaluators, 1 to 32; 1 where nothing is said; not of kbest and verify
+  --seed N           the seed of their visiting orders, and of the word of big, below 2^64; 0 where nothing is said; not
+                     of kbest and verify
   --schedule S       who makes each step: 1 to 4096 characters, 0 to 9 and a to v for the evaluators 0 to 31; at its end
                      evaluator 0 goes on alone; of replay, which needs it
+  --best N           how many trees of each word are listed, 1 to 64; of kbest, which needs it
   --size N           how many letters are made, 1 to 2046; of big, which needs it
 
 Each FILE is a job, or a certificate of one for verify, run in its turn; `-`, or no file, is standard input. big reads
@@ -579,7 +582,7 @@ follow() {
 relay() {
   local ended
   tee /dev/fd/8 8>&1 >&9 9>&- 2>/dev/null |
-    grep --line-buffered -aE '^(word [0-9]+( cells [0-9]+)?|none)$' >"$counts" 9>&-
+    grep --line-buffered -aE '^(word [0-9]+( cells [0-9]+)?|none|listed 0)$' >"$counts" 9>&-
   ended=${PIPESTATUS[0]}
   return "$ended"
 }
@@ -631,7 +634,7 @@ run() {
     find_finished
     # (a certificate ends with the words of its job)
     [ "$mode" = cert ] || read -r treeless_count treeless < <(awk '
-      $1 == "none" && ++count <= 20 { these = these " " last }
+      $1 != "word" && ++count <= 20 { these = these " " last }
       { last = $2 }
       END { print count + 0 these }' "$counts")
   fi

@@ -27,9 +27,9 @@ from collections.abc import Iterable, Iterator, Mapping, Sequence
 from dataclasses import dataclass, field
 from typing import Any, Union
 
-__version__ = "1.2"
-__all__ = ["Fault", "Job", "Malformed", "Node", "Place", "Report", "find_program", "places", "quoted", "read_reports",
-           "read_tree", "record_of", "solve", "solve_big", "write_job"]
+__version__ = "1.3"
+__all__ = ["Candidate", "Fault", "Job", "Malformed", "Node", "Place", "Report", "find_program", "places", "quoted",
+           "read_reports", "read_tree", "record_of", "solve", "solve_big", "write_job"]
 
 # (by the mode `lex` the scores of two algebras)
 Score = Union[int, "tuple[int, ...]"]
@@ -153,10 +153,19 @@ class _Mark(str):
 
 
 @dataclass
+class Candidate:
+    """A tree of a list, and its score."""
+
+    score: int
+    tree: Node
+
+
+@dataclass
 class Report:
     """What is said of a word: its number, from 1; the best score and the first tree of it, or None; its cells; by the
-    modes `wins` and `replay` how many answers each evaluator put into the table; and by `tools/spread` why a word was
-    refused. By `lex` the score is a pair, that of the first algebra and that of the second."""
+    modes `wins` and `replay` how many answers each evaluator put into the table; by `kbest`, which tells no cells, the
+    first trees with their scores, in order; and by `tools/spread` why a word was refused. By `lex` the score is a pair,
+    that of the first algebra and that of the second."""
 
     word: int
     score: Score | None
@@ -164,6 +173,7 @@ class Report:
     cells: int
     wins: list[int] | None = None
     refused: str | None = None
+    listed: list[Candidate] | None = None
 
 
 @dataclass
@@ -245,32 +255,61 @@ def read_reports(text: str) -> Iterator[Report]:
             yield Report(word, None, None, 0, refused=behind("refused", second))
             line = next(lines, None)
             continue
-        score: Score | None = None
-        tree = wins = None
-        if second != "none":
+        found: list[tuple[Score, Node]] = []
+        while second is not None and second.startswith("score "):
             numbers = _numbers(behind("score", second))
             if len(numbers) > 2:
                 raise Malformed(f"a score has one number, or two, and not {second!r}")
             score = numbers[0] if len(numbers) == 1 else tuple(numbers)
-            tree = read_tree(behind("tree", next(lines, None)))
-        cells, line = int(behind("cells", next(lines, None))), next(lines, None)
+            found.append((score, read_tree(behind("tree", next(lines, None)))))
+            second = next(lines, None)
+        if second is not None and second.startswith("listed "):
+            yield _list_of(word, found, int(behind("listed", second)))
+            line = next(lines, None)
+            continue
+        if not found:
+            if second != "none":
+                behind("score", second)
+            second = next(lines, None)
+        score, tree = found[0] if len(found) == 1 else (None, None)
+        wins = None
+        cells, line = int(behind("cells" if len(found) < 2 else "listed", second)), next(lines, None)
         if line is not None and line.startswith("wins"):
             wins, line = _numbers(behind("wins", line)), next(lines, None)
         yield Report(word, score, tree, cells, wins)
 
 
-def record_of(report: Report, scores: Sequence[Score] | None = None) -> dict[str, Any]:
+def _list_of(word: int, found: Sequence[tuple[Score, Node]], count: int) -> Report:
+    """The report of a word whose first trees are listed."""
+    listed = [Candidate(score, tree) for score, tree in found if isinstance(score, int)]
+    if len(listed) != len(found) or count != len(found):
+        raise Malformed(f"word {word}: {len(found)} trees stand there, and {count} are told, each of one score")
+    first = listed[0] if listed else None
+    return Report(word, first and first.score, first and first.tree, 0, listed=listed)
+
+
+def record_of(report: Report, scores: Sequence[Any] | None = None) -> dict[str, Any]:
     """A report as an object that is not nested, for JSON: the letters that the tree covers, and its nodes in preorder.
     Each tells its sign, the positions where it begins and ends, its parent's number among the nodes, its depth, its
-    score where these are given, and its parts: letters, or the number of a node."""
+    score where these are given, and its parts: letters, or the number of a node. Of a list each tree is told so; its
+    scores are a list for each tree."""
     if report.refused is not None:
         return {"word": report.word, "refused": report.refused}
+    if report.listed is not None:
+        of_each = scores if scores is not None else [None] * len(report.listed)
+        listed = [{"score": it.score} | _record_of_tree(it.tree, own) for it, own in zip(report.listed, of_each)]
+        return {"word": report.word, "listed": listed}
     record: dict[str, Any] = {"word": report.word, "score": report.score, "cells": report.cells}
     if report.wins is not None:
         record["wins"] = report.wins
     if report.tree is None:
         return record | {"letters": None, "nodes": None}
-    found = places(report.tree)
+    return record | _record_of_tree(report.tree, scores)
+
+
+def _record_of_tree(tree: Node, scores: Sequence[Score] | None) -> dict[str, Any]:
+    """The letters and the nodes of a tree."""
+    found = places(tree)
     nodes = [{"sign": it.node.sign, "from": it.start, "to": it.end, "parent": it.parent, "depth": it.depth}
              for it in found]
     parts: list[list[Any]] = [[part if isinstance(part, str) else None for part in it.node.parts] for it in found]
@@ -281,7 +320,7 @@ def record_of(report: Report, scores: Sequence[Score] | None = None) -> dict[str
         if scores is not None:
             node["score"] = scores[number]
         node["parts"] = parts[number]
-    return record | {"letters": report.tree.letters(), "nodes": nodes}
+    return {"letters": tree.letters(), "nodes": nodes}
 
 
 # ---- Jobs
@@ -538,6 +577,13 @@ class Job:
                     best[at][rule] = found, arguments
         return self._told(nodes, number, best, len(names) == 1)
 
+    def is_better(self, one: Score, other: Score, *algebras: str) -> bool:
+        """Whether a score is better than another one, by an algebra (the first one, where none is named), or by several
+        of which the later ones judge what is equal by those before."""
+        names = algebras or (self.algebras[0],)
+        pair = [it if isinstance(it, tuple) else (it,) for it in (one, other)]
+        return self._order(names, pair[0]) < self._order(names, pair[1])
+
     def _order(self, names: Sequence[str], values: tuple[int, ...]) -> list[int]:
         return [value if self._is_least[name] else -value for name, value in zip(names, values)]
 
@@ -641,13 +687,14 @@ def run_environment() -> dict[str, str] | None:
 
 
 def solve(job: str | None = None, *, words: Iterable[str] | None = None, mode: str | None = None,
-          algebra: str | None = None, then: str | None = None, workers: int | None = None, seed: int | None = None,
-          schedule: str | None = None, program: str | None = None, timeout: float | None = None,
-          **parts: Any) -> list[Report]:
+          algebra: str | None = None, then: str | None = None, best: int | None = None, workers: int | None = None,
+          seed: int | None = None, schedule: str | None = None, program: str | None = None,
+          timeout: float | None = None, **parts: Any) -> list[Report]:
     """The reports of a job, which is a text, or is made of its parts (see `write_job`); `words` are asked behind those
-    of a text. A fault is raised, and after `timeout` seconds a `TimeoutError`. The mode is one that reads a job:
-    'best', 'serial', 'wins', 'replay' with a schedule, or 'lex' with `then`, the algebra that decides among equals; where
-    none is named 'best', or 'lex' where `then` is given."""
+    of a text. A fault is raised, and after `timeout` seconds a `TimeoutError`. The mode is one that reads a job and
+    writes reports: 'best', 'serial', 'wins', 'replay' with a schedule, 'lex' with `then`, the algebra that decides
+    among equals, or 'kbest' with `best`, how many trees each report lists; where none is named 'best', or 'lex' where
+    `then` is given, or 'kbest' where `best` is."""
     if job is not None and parts:
         raise TypeError(f"a job is a text, or is given by its parts: beside a text {', '.join(parts)} can't stand")
     if job is None and not parts:
@@ -658,8 +705,8 @@ def solve(job: str | None = None, *, words: Iterable[str] | None = None, mode: s
         text = job if words is None else _with_words(job, words)
     else:
         raise TypeError(f"a job is a text, and this is of type {type(job).__name__}")
-    options = {"algebra": algebra, "then": then, "workers": workers, "seed": seed, "schedule": schedule}
-    mode = mode or ("best" if then is None else "lex")
+    options = {"algebra": algebra, "then": then, "best": best, "workers": workers, "seed": seed, "schedule": schedule}
+    mode = mode or ("kbest" if best is not None else "best" if then is None else "lex")
     reports = list(read_reports(_written(program, mode, options, text, timeout)))
     if [report.word for report in reports] != list(range(1, _count_words(text) + 1)):
         raise Malformed(f"{_count_words(text)} words were given, and {len(reports)} reports came")

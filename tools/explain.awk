@@ -51,6 +51,7 @@ function fill_tables() {
       "step: as `--schedule 0110`")
   add_mode("lex", "--algebra --then --workers --seed", "--then", "a second algebra, which decides among the trees that " \
       "are equal by the first: as `--then NAME`")
+  add_mode("kbest", "--algebra --best", "--best", "a number, which says how many trees are listed: as `--best 5`")
   add_mode("cert", "--algebra --workers --seed")
   add_mode("verify", "--algebra")
   add_mode("big", "--workers --seed --size", "--size", "a size, which says how many letters are made: as `--size 400`")
@@ -59,6 +60,7 @@ function fill_tables() {
   add_option("--workers", "number", "1", "32")
   add_option("--seed", "number", "0", "18446744073709551615")
   add_option("--schedule", "entries")
+  add_option("--best", "number", "1", "64")
   add_option("--size", "number", "1", "2046")
   # of the launcher
   add_option("--words", "file")
@@ -1982,8 +1984,21 @@ function explain_limit(number, kind_number, size,    longest) {
   else if (is_small && kind_number == 4 && ARGV[1] == "lex") tell_both()
   else if (is_small && kind_number == 4 && is_second) tell_products()
   else if (is_small && kind_number == 4) tell_factors()
+  else if (kind_number == 5 || kind_number == 6) tell_lists(size, kind_number)
   else if (is_small && kind_number == 7) tell_joined(size)
   tell_section("Limits of a word", kind_number)
+}
+
+# How many trees could be listed at most.
+function tell_lists(size, kind_number,    i, asked, of_one, most) {
+  for (i = 1; i < ARGC - 1; i++) if (ARGV[i] == "--best") asked = ARGV[i + 1] + 0
+  if (asked < 1) return
+  of_one = size / asked
+  most = int(4194304 / of_one)
+  tell((kind_number == 5 ? "A word of this length could have " plural(of_one, "cell") ", each with " asked \
+      " trees." : "A tree of a word of this length could have " plural(of_one, "node") ", and " asked \
+      " such trees are asked for.") " This limit admits `--best " most "`.")
+  if (is_small && kind_number == 5) tell_cells(length(wanted_line))
 }
 
 function read_word(number,    line, at_line) {

@@ -6,11 +6,12 @@ _adp_options_of() {
     best | serial | wins | cert) echo '--algebra --workers --seed --words' ;;
     replay) echo '--algebra --workers --seed --schedule --words' ;;
     lex) echo '--algebra --then --workers --seed --words' ;;
+    kbest) echo '--algebra --best --words' ;;
     verify) echo '--algebra' ;;
     big) echo '--workers --seed --size' ;;
   esac
 }
-_adp_modes='best serial wins replay lex cert verify big'
+_adp_modes='best serial wins replay lex kbest cert verify big'
 _adp_common='--time-limit --explain --help --version'
 
 # The mode that is named already.

@@ -6,7 +6,6 @@ use Rattle.adp_model.specs.Checks.{IsChecked}
 use Rattle.adp_model.specs.PosedProblem.{PosedProblem}
 use Rattle.nested_jobs.specs.NestedJob.{IsNestedText, hidden_in}
 use Rattle.verdicts.specs.declared.command.Mode.{Mode}
-use Rattle.verdicts.specs.declared.command.Mode.TheVariants.{Serial}
 use Rattle.verdicts.specs.Command.{Command}
 use Rattle.verdicts.specs.WordReport.{HidesAlternatives}
 use Rattle.verdicts.specs.Verdict.{AreReports, IsReportWith}
@@ -26,8 +25,8 @@ abbrev pub ReportsArePlain : Type 0
 ReportsArePlain =
     (p : PosedProblem) (least : List ℕ) (greatest : List (Option ℕ)) (ranks : List ℕ)
     → IsChecked p.grammar p.algebra least greatest ranks → (hidden : Option ℕ) → HidesAlternatives hidden p.grammar
-    → (mode : Mode) (second : Option (List ℕ)) (number : ℕ) (wins report : List ℕ)
-    → IsReportWith mode second None number p wins report ↔ IsReportWith mode second hidden number p wins report
+    → (mode : Mode) (command : Command) (number : ℕ) (wins report : List ℕ)
+    → IsReportWith mode command None number p wins report ↔ IsReportWith mode command hidden number p wins report
 
 -- the grammar has sizes and ranks under the algebra
 abbrev pub HasPassed : Grammar → ℕ → Type 0
@@ -48,10 +47,10 @@ pub record TellsNested (command : Command) (bytes : List ℕ) (job : CheckedJob)
 module _ (plain : ReportsArePlain) (command : Command) (grammar : Grammar) (algebra : ℕ)
     (passed : HasPassed grammar algebra) (hidden : Option ℕ) (hides : HidesAlternatives hidden grammar) where
   in_mode : (mode : Mode) (number : ℕ) (word wins report : List ℕ)
-      → IsReportWith mode command.second None number (posed_word grammar algebra word) wins report
-      → IsReportWith mode command.second hidden number (posed_word grammar algebra word) wins report
+      → IsReportWith mode command None number (posed_word grammar algebra word) wins report
+      → IsReportWith mode command hidden number (posed_word grammar algebra word) wins report
   in_mode mode number word wins report =
-      (plain (posed_word grammar algebra word) passed.0 passed.1 passed.2 passed.3 hidden hides mode command.second number
+      (plain (posed_word grammar algebra word) passed.0 passed.1 passed.2 passed.3 hidden hides mode command number
       wins report).0
 
   nested_reports : (number : ℕ) (words reports : List (List ℕ))
@@ -68,8 +67,8 @@ module _ (plain : ReportsArePlain) (command : Command) (grammar : Grammar) (alge
   nested_run : (number : ℕ) (word report : List ℕ) (noted : List RunNote)
       → IsRunOf command None number (posed_word grammar algebra word) report noted
       → IsRunOf command hidden number (posed_word grammar algebra word) report noted
-  nested_run number word report noted (inl (serial, none, is)) =
-      inl (serial, none, in_mode Serial number word [] report is)
+  nested_run number word report noted (inl (sweeps, none, is)) =
+      inl (sweeps, none, in_mode command.mode number word [] report is)
   nested_run number word report noted (inr (other, note, one, for, is)) =
       inr (other, note, one, for, in_mode command.mode number word note.wins report is)
 

@@ -8,18 +8,18 @@ use Rattle.adp_model.specs.declared.grammar.Grammar.{Grammar}
 use Rattle.verdicts.specs.Certificates.{behind_reports}
 use Rattle.verdicts.specs.Command.{Command, AsksToVerify}
 use Rattle.adp_model.specs.PosedProblem.{PosedProblem}
-use Rattle.verdicts.specs.SecondAlgebra.{IsAdmissibleWith}
-use Rattle.verdicts.specs.Verdict.{IsVerdict, KeepLimits, IsFirstLimit, AreReports}
+use Rattle.verdicts.specs.Verdict.{IsVerdict, AreReports}
+use Rattle.verdicts.specs.WordLimits.{IsFirstLimit, KeepLimits}
 use Rattle.verdicts.specs.Verdict as verdicts
 use Rattle.report.specs.declared.fault.Fault.{Fault}
 use Rattle.report.specs.declared.fault.Fault.TheVariants as faults
 use Rattle.adp_main.specs.declared.checking.CheckedJob.{CheckedJob}
 use Rattle.adp_main.specs.Ending.{IsOfVerdict, ShowsFirst, ShowsPart, ShowsVerdict}
 use Rattle.adp_main.specs.Faults.{fault_verdict, status_after}
-use Rattle.adp_main.specs.Reporting.{AreReportsOf, HasWritten, IsCheckedJob, IsJobEnding, IsJobRefusal, IsReported}
+use Rattle.adp_main.specs.Reporting.{AreReportsOf, HasWritten, IsAdmissibleIn, IsCheckedJob, IsJobEnding, IsJobRefusal, IsReported}
 use Rattle.verdicts.specs.Posed.{posed_word, posed_words}
 use Rattle.nested_jobs.specs.NestedJob.{hidden_in}
-use Rattle.adp_main.proofs.FirstLimit.{kept_of}
+use Rattle.adp_main.proofs.FirstLimit.{kept_in}
 use Rattle.adp_main.proofs.NestedReports.{TellsNested}
 use Rattle.report.specs.Faults.{HasShortName}
 
@@ -31,20 +31,20 @@ module _ (command : Command) where
   reports_are grammar algebra number (word ∷ words) [] h = absurd h
   reports_are grammar algebra number (word ∷ words) (report ∷ reports) h = (h.0, reports_are grammar algebra (number + 1) words reports h.1)
 
-  pub all_keep : (grammar : Grammar) (algebra : ℕ) (words : List (List ℕ)) → AllByRecursion (IsAdmissibleWith command.second) (posed_words grammar algebra words) → KeepLimits command.second grammar algebra words
+  pub all_keep : (grammar : Grammar) (algebra : ℕ) (words : List (List ℕ)) → AllByRecursion (IsAdmissibleIn command) (posed_words grammar algebra words) → KeepLimits command grammar algebra words
   all_keep grammar algebra [] h = tt
-  all_keep grammar algebra (word ∷ words) h = (kept_of command.second (posed_word grammar algebra word) h.0, all_keep grammar algebra words h.1)
+  all_keep grammar algebra (word ∷ words) h = (kept_in command (posed_word grammar algebra word) h.0, all_keep grammar algebra words h.1)
 
   is_reported : (grammar : Grammar) (algebra : ℕ) (words : List (List ℕ)) (problems : List PosedProblem) → problems ≡ posed_words grammar algebra words
-      → AllByRecursion (IsAdmissibleWith command.second) problems → (reports : List (List ℕ)) → AreReportsOf command 1 problems reports
+      → AllByRecursion (IsAdmissibleIn command) problems → (reports : List (List ℕ)) → AreReportsOf command 1 problems reports
       → IsReported command grammar algebra words reports
   is_reported grammar algebra words problems e admissible reports h = record {
-    limits = all_keep grammar algebra words (subst (λ (ps : List PosedProblem). AllByRecursion (IsAdmissibleWith command.second) ps) e admissible);
+    limits = all_keep grammar algebra words (subst (λ (ps : List PosedProblem). AllByRecursion (IsAdmissibleIn command) ps) e admissible);
     reports_are = reports_are grammar algebra 1 words reports (subst (λ (ps : List PosedProblem). AreReportsOf command 1 ps reports) e h);
   }
 
   pub job_ending : (grammar : Grammar) (algebra : ℕ) (words : List (List ℕ)) (input : List ℕ) (problems : List PosedProblem) → problems ≡ posed_words grammar algebra words
-      → AllByRecursion (IsAdmissibleWith command.second) problems → (result : Result (Unit {0}) Fault) (old new : Option (List ℕ))
+      → AllByRecursion (IsAdmissibleIn command) problems → (result : Result (Unit {0}) Fault) (old new : Option (List ℕ))
       → (reports : List (List ℕ)) × AreReportsOf command 1 problems reports
       × HasWritten result old new (reports ++ behind_reports command.mode (length words) input)
       → IsJobEnding command grammar algebra words input result old new
@@ -73,7 +73,7 @@ module _ (command : Command) where
           asked.0,
           job.checked.algebra,
           asked.1,
-          subst (λ (it : Command × Grammar × List (List ℕ)). KeepLimits it.0.second it.1 job.checked.algebra it.2)
+          subst (λ (it : Command × Grammar × List (List ℕ)). KeepLimits it.0 it.1 job.checked.algebra it.2)
               (λ i. (sym asked.2 i, asked.3 i, asked.4 i)) h.limits,
           reports,
           subst (λ (it : Command × Grammar × List (List ℕ)).
@@ -117,7 +117,7 @@ module _ (command : Command) where
   first_of words bytes other job asked tells (Err (faults.Rejected line)) old new h e = cc
 
   limit_verdict : (words : List (List ℕ)) (bytes : List ℕ) (other : AsksToVerify words → ⊥) (job : CheckedJob) → IsCheckedJob words bytes command job → (word : ℕ) (fault : LimitFault)
-      → IsFirstLimit command.second job.checked.grammar job.checked.algebra 1 job.words word fault → IsVerdict words bytes (verdicts.Limit word fault)
+      → IsFirstLimit command job.checked.grammar job.checked.algebra 1 job.words word fault → IsVerdict words bytes (verdicts.Limit word fault)
   limit_verdict words bytes other job asked word fault h = inl (
     other,
     (
@@ -125,7 +125,7 @@ module _ (command : Command) where
       job.checked.algebra,
       asked.1,
       subst (λ (it : Command × Grammar × List (List ℕ)).
-          IsFirstLimit it.0.second it.1 job.checked.algebra 1 it.2 word fault)
+          IsFirstLimit it.0 it.1 job.checked.algebra 1 it.2 word fault)
           (λ i. (sym asked.2 i, asked.3 i, asked.4 i)) h,
     ),
   )

@@ -7,10 +7,9 @@ use Rattle.std.proofs.lemmas.List.{append-nil, append_assoc, take_more, length-t
 use Rattle.adp_io.specs.Streams.{AppendsProperPrefix}
 use Rattle.adp_model.specs.PosedProblem.{PosedProblem}
 use Rattle.verdicts.specs.declared.command.Mode.{Mode}
-use Rattle.verdicts.specs.declared.command.Mode.TheVariants.{Serial, Lex}
+use Rattle.verdicts.specs.declared.command.Mode.TheVariants.{Serial, KBest, Lex}
 use Rattle.verdicts.specs.Command.{Command}
 use Rattle.adp_model.specs.Bounds.{IsScoreBound}
-use Rattle.adp_model.specs.Report.{IsReport}
 use Rattle.lex_product.specs.CompiledGrammar.{compiled_problem, multiplier_of}
 use Rattle.lex_product.specs.PairReport.{IsPairReport}
 use Rattle.verdicts.specs.SecondAlgebra.{IsAdmissibleWith, IsSecond}
@@ -23,7 +22,7 @@ use Rattle.adp_main.specs.declared.status.Status.{Status}
 use Rattle.adp_main.specs.declared.status.Status.TheVariants.{Done, WriteFault, Memory}
 use Rattle.adp_main.specs.Faults.{status_of}
 use Rattle.adp_main.specs.Reporting.{AreReportsOf, HasWritten}
-use Rattle.adp_main.specs.RunNotes.{AddsNotes, AreNoted, AreRunsOf, IsNoteFor, IsNoteIn, IsRunOf}
+use Rattle.adp_main.specs.RunNotes.{AddsNotes, AreNoted, AreRunsOf, IsNoteFor, IsNoteIn, IsRunOf, SweepsOnce}
 use Rattle.adp_main.specs.Writing.{IsReportWritten, IsRunWith, IsWordEnding}
 use Rattle.adp_main.proofs.Written.{AllReported, stopped, one_more, grew_more, broken}
 
@@ -48,13 +47,24 @@ note_in : (mode : Mode) → (mode ≡ Lex → ⊥) → (command : Command) (p : 
 note_in Lex other command p note for = absurd (other refl)
 note_in mode other command p note for = for
 
+-- the report of one sweep tells no wins
+without_wins : (command : Command) (number : ℕ) (p : PosedProblem) (wins others report : List ℕ)
+    → SweepsOnce command.mode → IsReportWith command.mode command None number p wins report
+    → IsReportWith command.mode command None number p others report
+without_wins command number p wins others report (inl serial) is =
+    subst (λ mode. IsReportWith mode command None number p others report) (sym serial)
+    (subst (λ mode. IsReportWith mode command None number p wins report) serial is)
+without_wins command number p wins others report (inr kbest) is =
+    subst (λ mode. IsReportWith mode command None number p others report) (sym kbest)
+    (subst (λ mode. IsReportWith mode command None number p wins report) kbest is)
+
 -- a report beside what was noted of it is one that the command asks for
 pub run_report : (command : Command) (number : ℕ) (p : PosedProblem) (report : List ℕ) (noted : List RunNote)
     → IsRunOf command None number p report noted → IsReportIn command None number p report
-run_report command number p report noted (inl (serial, none, is)) = (
+run_report command number p report noted (inl (sweeps, none, is)) = (
   no_wins command.workers,
   no_wins_number command.workers,
-  subst (λ mode. IsReportWith mode command.second None number p (no_wins command.workers) report) (sym serial) is,
+  without_wins command number p [] (no_wins command.workers) report sweeps is,
 )
 run_report command number p report noted (inr (other, note, one, for, is)) =
     (note.wins, note_wins command.mode command p note for, is)
@@ -209,38 +219,50 @@ pub not_written : {A : List ℕ → List RunNote → Type 0} (runs : Option (Lis
     → IsWordEnding A (Err faults.Memory) runs runs held held
 not_written runs held = (refl, inl (Appends-nil held))
 
+-- the report that a mode asks for is the command's, whose mode it is
+pub in_mode : (command : Command) (mode : Mode) (number : ℕ) (p : PosedProblem) (report : List ℕ) → command.mode ≡ mode
+    → IsReportWith mode command None number p [] report → IsReportWith command.mode command None number p [] report
+in_mode command mode number p report asked is =
+    subst (λ it. IsReportWith it command None number p [] report) (sym asked) is
+
 -- a report by one sweep
 pub swept_word : (command : Command) (number : ℕ) (p : PosedProblem) (report bytes : List ℕ)
-    → command.mode ≡ Serial → IsReport number p report → bytes ≡ report → (result : Result (Unit {0}) Fault)
+    → SweepsOnce command.mode → IsReportWith command.mode command None number p [] report → bytes ≡ report → (result : Result (Unit {0}) Fault)
     (runs : Option (List RunNote)) (held held' : Option (List ℕ)) → IsReportWritten result held held' bytes
     → IsWordEnding (IsRunOf command None number p) result runs runs held held'
-swept_word command number p report bytes serial is same (Ok written) runs held held' whole =
-    (report, [], inl (serial, refl, is), adds_none runs, subst (Appends held held') same whole)
-swept_word command number p report bytes serial is same (Err faults.Write) runs held held' part =
-    (refl, report, [], inl (serial, refl, is), subst (AppendsProperPrefix held held') same part)
-swept_word command number p report bytes serial is same (Err faults.Usage) runs held held' h = absurd h
-swept_word command number p report bytes serial is same (Err faults.Read) runs held held' h = absurd h
-swept_word command number p report bytes serial is same (Err faults.TooLong) runs held held' h = absurd h
-swept_word command number p report bytes serial is same (Err (faults.Text fault)) runs held held' h = absurd h
-swept_word command number p report bytes serial is same (Err (faults.Grammar fault)) runs held held' h = absurd h
-swept_word command number p report bytes serial is same (Err (faults.Limit word fault)) runs held held' h = absurd h
-swept_word command number p report bytes serial is same (Err (faults.Rejected line)) runs held held' h = absurd h
-swept_word command number p report bytes serial is same (Err faults.Memory) runs held held' h = absurd h
+swept_word command number p report bytes sweeps is same (Ok written) runs held held' whole =
+    (report, [], inl (sweeps, refl, is), adds_none runs, subst (Appends held held') same whole)
+swept_word command number p report bytes sweeps is same (Err faults.Write) runs held held' part =
+    (refl, report, [], inl (sweeps, refl, is), subst (AppendsProperPrefix held held') same part)
+swept_word command number p report bytes sweeps is same (Err faults.Usage) runs held held' h = absurd h
+swept_word command number p report bytes sweeps is same (Err faults.Read) runs held held' h = absurd h
+swept_word command number p report bytes sweeps is same (Err faults.TooLong) runs held held' h = absurd h
+swept_word command number p report bytes sweeps is same (Err (faults.Text fault)) runs held held' h = absurd h
+swept_word command number p report bytes sweeps is same (Err (faults.Grammar fault)) runs held held' h = absurd h
+swept_word command number p report bytes sweeps is same (Err (faults.Limit word fault)) runs held held' h = absurd h
+swept_word command number p report bytes sweeps is same (Err (faults.Rejected line)) runs held held' h = absurd h
+swept_word command number p report bytes sweeps is same (Err faults.Memory) runs held held' h = absurd h
+
+-- a mode that is none of those runs evaluators
+runs_them : (mode : Mode) → (mode ≡ Serial → ⊥) → (mode ≡ KBest → ⊥) → SweepsOnce mode → ⊥
+runs_them mode other unlisted (inl serial) = other serial
+runs_them mode other unlisted (inr kbest) = unlisted kbest
 
 -- a report by evaluators
 pub evaluated_word : (command : Command) (mode : Mode) (number : ℕ) (p : PosedProblem) (finished : Finished)
-    (report bytes : List ℕ) → command.mode ≡ mode → (mode ≡ Serial → ⊥) → (mode ≡ Lex → ⊥)
-    → IsReportWith mode command.second None number p finished.wins.items report → bytes ≡ report
+    (report bytes : List ℕ) → command.mode ≡ mode → (mode ≡ Serial → ⊥) → (mode ≡ KBest → ⊥)
+    → (mode ≡ Lex → ⊥)
+    → IsReportWith mode command None number p finished.wins.items report → bytes ≡ report
     → (result : Result (Unit {0}) Fault) (old new : Option (List RunNote)) (held held' : Option (List ℕ))
     → IsWordEnding (IsRunWith command p finished bytes) result old new held held'
     → IsWordEnding (IsRunOf command None number p) result old new held held'
-evaluated_word command mode number p finished report bytes asked other single is same =
+evaluated_word command mode number p finished report bytes asked other unlisted single is same =
     ending_of (λ written noted (run : IsRunWith command p finished bytes written noted). inr (
-      λ serial. other (sym asked ∙ serial),
+      λ sweeps. runs_them mode other unlisted (subst SweepsOnce asked sweeps),
       run.1,
       run.2,
       note_in command.mode (λ lex. single (sym asked ∙ lex)) command p run.1 run.3,
-      subst (λ (it : Mode × List ℕ × List ℕ). IsReportWith it.0 command.second None number p it.1 it.2)
+      subst (λ (it : Mode × List ℕ × List ℕ). IsReportWith it.0 command None number p it.1 it.2)
           (λ i. (sym asked i, sym run.4 i, sym (run.0 ∙ same) i)) is,
     ))
 
@@ -254,11 +276,11 @@ pub compiled_run : (command : Command) (number : ℕ) (p q : PosedProblem) (seco
     → IsWordEnding (IsRunOf command None number p) result old new held held'
 compiled_run command number p q second bound finished report bytes lex named bounded compiled is same =
     ending_of (λ written noted (run : IsRunWith command q finished bytes written noted). inr (
-      λ serial. (let e = sym lex ∙ serial in cc),
+      λ sweeps. runs_them Lex (λ e. cc) (λ e. cc) (subst SweepsOnce lex sweeps),
       run.1,
       run.2,
       subst (λ mode. IsNoteIn mode command p run.1) (sym lex)
           (second, bound, named, bounded, subst (λ it. IsNoteFor command it run.1) compiled run.3),
-      subst (λ mode. IsReportWith mode command.second None number p run.1.wins written) (sym lex)
+      subst (λ mode. IsReportWith mode command None number p run.1.wins written) (sym lex)
           (second, named, subst (IsPairReport number p second) (sym (run.0 ∙ same)) is),
     ))

@@ -23,8 +23,8 @@ use Rattle.verdicts.specs.Certificates.{IsFalseFor, IsRightFor, IsWithoutJob}
 use Rattle.verdicts.specs.CheckableJobs.{AreCheckable, IsCheckableInput, IsJobPart}
 use Rattle.verdicts.specs.Command.{Command, IsCommand, AsksToVerify}
 use Rattle.verdicts.specs.Posed.{posed_word, posed_words}
-use Rattle.verdicts.specs.SecondAlgebra.{IsAdmissibleWith}
-use Rattle.verdicts.specs.Verdict.{AreReports, AsksUnder, AsksWithin, IsFirstLimit, IsReportWith, IsVerdict, KeepLimits, greatest_length}
+use Rattle.verdicts.specs.Verdict.{AreReports, AsksUnder, AsksWithin, IsReportWith, IsVerdict, greatest_length}
+use Rattle.verdicts.specs.WordLimits.{IsFirstLimit, KeepLimits}
 use Rattle.verdicts.specs.Verdict as verdicts
 use Rattle.nested_jobs.specs.NestedJob.{hidden_in}
 use Rattle.report.specs.Faults.{HasShortName}
@@ -33,7 +33,7 @@ use Rattle.report.specs.declared.fault.Fault.TheVariants as faults
 use Rattle.adp_main.specs.declared.checking.CheckedJob.{CheckedJob}
 use Rattle.adp_main.specs.Ending.{IsOfVerdict, ShowsFirst, ShowsPart, ShowsVerdict}
 use Rattle.adp_main.specs.Faults.{fault_verdict, status_after}
-use Rattle.adp_main.specs.Reporting.{HasWritten, IsCheckedJob, IsJobRefusal, IsLimitOf, IsReported}
+use Rattle.adp_main.specs.Reporting.{HasWritten, IsAdmissibleIn, IsCheckedJob, IsJobRefusal, IsLimitOf, IsReported}
 use Rattle.adp_main.specs.Verifying.{IsCertificateEnding, IsTold, score_reports, verify_refusal}
 use Rattle.adp_main.proofs.FirstLimit.{own_limits}
 use Rattle.adp_main.proofs.Reported.{all_keep}
@@ -83,14 +83,14 @@ module _ (command : Command) (verifies : command.mode ≡ Verify) where
     (
       no_wins command.workers,
       no_wins_number command.workers,
-      subst (λ mode. IsReportWith mode command.second None number (posed_word grammar algebra word) (no_wins command.workers)
+      subst (λ mode. IsReportWith mode command None number (posed_word grammar algebra word) (no_wins command.workers)
           (score_lines number score)) (sym verifies) (score, best.0, refl),
     ),
     scores_told grammar algebra (number + 1) words scores best.1,
   )
 
   pub is_told : (grammar : Grammar) (algebra : ℕ) (words : List (List ℕ)) (certificate : List ℕ)
-      (scores : List (Option ℤ)) → AllByRecursion (IsAdmissibleWith command.second) (posed_words grammar algebra words)
+      (scores : List (Option ℤ)) → AllByRecursion (IsAdmissibleIn command) (posed_words grammar algebra words)
       → IsRightFor grammar algebra words certificate → AreBestScores (posed_words grammar algebra words) scores
       → IsTold command grammar algebra words certificate (score_reports 1 scores)
   is_told grammar algebra words certificate scores admissible right best = record {
@@ -102,19 +102,19 @@ module _ (command : Command) (verifies : command.mode ≡ Verify) where
   }
 
 -- each word keeps the limits of its own algebra
-pub words_keep : (second : Option (List ℕ)) (grammar : Grammar) (algebra : ℕ) (words : List (List ℕ))
-    → AllByRecursion (IsAdmissibleWith second) (posed_words grammar algebra words)
+pub words_keep : (command : Command) (grammar : Grammar) (algebra : ℕ) (words : List (List ℕ))
+    → AllByRecursion (IsAdmissibleIn command) (posed_words grammar algebra words)
     → All (λ (word : List ℕ). KeepsLimits grammar algebra (length word)) words
-words_keep second grammar algebra [] all = All-nil (λ (word : List ℕ). KeepsLimits grammar algebra (length word))
-words_keep second grammar algebra (word ∷ words) all =
+words_keep command grammar algebra [] all = All-nil (λ (word : List ℕ). KeepsLimits grammar algebra (length word))
+words_keep command grammar algebra (word ∷ words) all =
     All-cons (λ (word : List ℕ). KeepsLimits grammar algebra (length word)) word words
-    (own_limits second (posed_word grammar algebra word) all.0) (words_keep second grammar algebra words all.1)
+    (own_limits command.second (posed_word grammar algebra word) all.0.0) (words_keep command grammar algebra words all.1)
 
 -- ---- how the words were told
 
 module _ (command : Command) (grammar : Grammar) (algebra : ℕ) (words : List (List ℕ)) (certificate : List ℕ) where
   -- a word passes a limit, or memory ran out
-  pub limit_ending : (fault : Fault) (held : Option (List ℕ)) → IsLimitOf command.second grammar algebra words fault
+  pub limit_ending : (fault : Fault) (held : Option (List ℕ)) → IsLimitOf command grammar algebra words fault
       → IsCertificateEnding command grammar algebra words certificate (Err fault) held held
   limit_ending (faults.Limit word fault) held is = (is, Appends-nil held)
   limit_ending faults.Memory held is = inl (Appends-nil held)
@@ -128,7 +128,7 @@ module _ (command : Command) (grammar : Grammar) (algebra : ℕ) (words : List (
 
   -- the certificate is not accepted
   pub rejected_ending : (error : VerifyError) (held : Option (List ℕ))
-      → AllByRecursion (IsAdmissibleWith command.second) (posed_words grammar algebra words)
+      → AllByRecursion (IsAdmissibleIn command) (posed_words grammar algebra words)
       → IsRejection (posed_words grammar algebra words) (forms_of grammar certificate) error
       → IsCertificateEnding command grammar algebra words certificate (Err (verify_refusal error)) held held
   rejected_ending (verify_errors.Rejected rejected) held admissible is =
@@ -279,16 +279,16 @@ module _ (command : Command) (words : List (List ℕ)) (is : IsCommand words com
           subst (λ (it : Command × Grammar × List (List ℕ)). Holds it.0 it.1 it.2)
           (λ i. (sym asked.2 i, asked.3 i, asked.4 i))
 
-      abbrev within : KeepLimits command.second job.checked.grammar job.checked.algebra job.words → AsksWithin words text
+      abbrev within : KeepLimits command job.checked.grammar job.checked.algebra job.words → AsksWithin words text
       within kept = record {
         job = asked.0;
         algebra = job.checked.algebra;
         asked = asked.1;
-        limits = there (λ c grammar ws. KeepLimits c.second grammar job.checked.algebra ws) kept;
+        limits = there (λ c grammar ws. KeepLimits c grammar job.checked.algebra ws) kept;
       }
 
       limit_verdict : (word : ℕ) (fault : LimitFault)
-          → IsFirstLimit command.second job.checked.grammar job.checked.algebra 1 job.words word fault
+          → IsFirstLimit command job.checked.grammar job.checked.algebra 1 job.words word fault
           → IsVerdict words bytes (verdicts.Limit word fault)
       limit_verdict word fault h = inr (
         asks_to_verify,
@@ -301,12 +301,12 @@ module _ (command : Command) (words : List (List ℕ)) (is : IsCommand words com
             asked.0,
             job.checked.algebra,
             asked.1,
-            there (λ c grammar ws. IsFirstLimit c.second grammar job.checked.algebra 1 ws word fault) h,
+            there (λ c grammar ws. IsFirstLimit c grammar job.checked.algebra 1 ws word fault) h,
           ),
         ),
       )
 
-      false_verdict : (line : ℕ) → KeepLimits command.second job.checked.grammar job.checked.algebra job.words
+      false_verdict : (line : ℕ) → KeepLimits command job.checked.grammar job.checked.algebra job.words
           → IsFalseFor job.checked.grammar job.checked.algebra job.words certificate line
           → IsVerdict words bytes (verdicts.Rejected line)
       false_verdict line kept h = inr (
@@ -334,8 +334,8 @@ module _ (command : Command) (words : List (List ℕ)) (is : IsCommand words com
         (
           wins,
           each,
-          subst (λ mode. IsReportWith mode command.second None number (posed_word grammar algebra word) wins report
-              → IsReportWith mode command.second hidden number (posed_word grammar algebra word) wins report)
+          subst (λ mode. IsReportWith mode command None number (posed_word grammar algebra word) wins report
+              → IsReportWith mode command hidden number (posed_word grammar algebra word) wins report)
               (sym verifies) (λ h. h) of_word,
         ),
         any_hidden hidden grammar algebra (number + 1) words reports others,

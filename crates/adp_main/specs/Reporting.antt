@@ -7,10 +7,11 @@ use Rattle.adp_model.specs.declared.grammar.Grammar.{Grammar}
 use Rattle.adp_model.specs.declared.job.Job.{Job}
 use Rattle.adp_model.specs.PosedProblem.{PosedProblem}
 use Rattle.verdicts.specs.Command as asked
-use Rattle.verdicts.specs.Verdict.{IsJobVerdict, AsksUnder, KeepLimits, IsFirstLimit, IsReportIn, AreReports}
+use Rattle.verdicts.specs.Verdict.{IsJobVerdict, AsksUnder, IsReportIn, AreReports}
 use Rattle.verdicts.specs.Verdict as verdicts
 use Rattle.verdicts.specs.Certificates.{behind_reports}
-use Rattle.verdicts.specs.SecondAlgebra.{IsLimitWith}
+use Rattle.verdicts.specs.SecondAlgebra.{IsAdmissibleWith, IsLimitWith}
+use Rattle.verdicts.specs.WordLimits.{IsFirstLimit, IsLimitIn, KeepLimits, KeepsLimitsOfLists}
 use Rattle.lex_product.specs.PairFaults.{IsPairFault}
 use Rattle.lex_product.specs.PairLimits.{IsPairLimitFault}
 use Rattle.lex_product.specs.declared.error.CompileError.{CompileError}
@@ -87,14 +88,24 @@ abbrev pub AreShort : ℕ → List (List ℕ) → Type 0
 AreShort longest words =
     (place : ℕ) → place < length words → length (slice_index_or words place []) ≤ longest
 
--- the fault of the first word that passes a limit; of want of memory nothing is said
-abbrev pub IsLimitOf : Option (List ℕ) → Grammar → ℕ → List (List ℕ) → Fault → Type 0
-IsLimitOf second grammar algebra words (faults.Limit word fault) =
-    IsFirstLimit second grammar algebra 1 words word fault
-IsLimitOf second grammar algebra words faults.Memory = Unit {0}
-IsLimitOf second grammar algebra words fault = ⊥
+-- the word is admitted under its algebra, or under two, and keeps the limits of its lists where they are asked for
+abbrev pub IsAdmissibleIn : asked.Command → PosedProblem → Type 0
+IsAdmissibleIn command p =
+    IsAdmissibleWith command.second p × KeepsLimitsOfLists command.best p.grammar (length p.word)
 
--- the fault of a length; of want of memory nothing is said
+-- the fault of the first word that passes a limit; of want of memory nothing is said
+abbrev pub IsLimitOf : asked.Command → Grammar → ℕ → List (List ℕ) → Fault → Type 0
+IsLimitOf command grammar algebra words (faults.Limit word fault) =
+    IsFirstLimit command grammar algebra 1 words word fault
+IsLimitOf command grammar algebra words faults.Memory = Unit {0}
+IsLimitOf command grammar algebra words fault = ⊥
+
+-- the fault of a word of this length; of want of memory nothing is said
+abbrev pub IsWordRefusal : asked.Command → Grammar → ℕ → ℕ → AdmitError → Type 0
+IsWordRefusal command grammar algebra len (admit_errors.Fault fault) = IsLimitIn command grammar algebra len fault
+IsWordRefusal command grammar algebra len admit_errors.Memory = Unit {0}
+
+-- the fault of a length under one algebra or two; of want of memory nothing is said
 abbrev pub IsLengthRefusal : Option (List ℕ) → Grammar → ℕ → ℕ → AdmitError → Type 0
 IsLengthRefusal second grammar algebra len (admit_errors.Fault fault) = IsLimitWith second grammar algebra len fault
 IsLengthRefusal second grammar algebra len admit_errors.Memory = Unit {0}
@@ -122,7 +133,7 @@ HasWritten (Err fault) old new reports = ⊥
 -- the words keep the limits, and these are their reports under the grammar itself
 pub record IsReported (command : asked.Command) (grammar : Grammar) (algebra : ℕ) (words : List (List ℕ))
     (reports : List (List ℕ)) : Type 0 where
-  pub limits : KeepLimits command.second grammar algebra words
+  pub limits : KeepLimits command grammar algebra words
   pub reports_are : AreReports command None grammar algebra 1 words reports
 
 -- how the words of a checked job, which came with this input, were reported: one of them passes a limit and nothing was
@@ -130,7 +141,7 @@ pub record IsReported (command : asked.Command) (grammar : Grammar) (algebra : �
 abbrev pub IsJobEnding : asked.Command → Grammar → ℕ → List (List ℕ) → List ℕ → Result (Unit {0}) Fault
     → Option (List ℕ) → Option (List ℕ) → Type 0
 IsJobEnding command grammar algebra words input (Err (faults.Limit word fault)) old new =
-    IsFirstLimit command.second grammar algebra 1 words word fault × Appends old new []
+    IsFirstLimit command grammar algebra 1 words word fault × Appends old new []
 IsJobEnding command grammar algebra words input (Err faults.Memory) old new =
     Appends old new []
     ⊎ ((reports : List (List ℕ)) × IsReported command grammar algebra words reports

@@ -9,12 +9,11 @@ use Rattle.adp_model.specs.Bounds.{IsScoreBound}
 use Rattle.adp_model.specs.Demand.{IsDemandedCount}
 use Rattle.adp_model.specs.BigReport.{made_problem, IsBigReport}
 use Rattle.verdicts.specs.declared.command.Mode.{Mode}
-use Rattle.verdicts.specs.declared.command.Mode.TheVariants.{Serial, Replay, Lex, Big}
+use Rattle.verdicts.specs.declared.command.Mode.TheVariants.{Serial, Replay, Lex, KBest, Big}
 use Rattle.verdicts.specs.Command.{Command, IsCommand, AsksToVerify}
 use Rattle.verdicts.specs.Certificates.{behind_reports}
 use Rattle.verdicts.specs.SecondAlgebra.{IsSecond}
 use Rattle.verdicts.specs.Verdict.{AsksUnder, IsReportWith}
-use Rattle.verdicts.specs.WordReport.{IsWordReport}
 use Rattle.nested_jobs.specs.NestedJob.{hidden_in}
 use Rattle.lex_product.specs.CompiledGrammar.{compiled_problem, multiplier_of}
 use Rattle.evaluators.specs.declared.finished.RunNote.{RunNote}
@@ -53,13 +52,17 @@ IsNoteIn Lex command p note =
     × IsNoteFor command (compiled_problem p second (multiplier_of bound)) note
 IsNoteIn mode command p note = IsNoteFor command p note
 
+-- a mode that runs no evaluators for a word: it answers by one sweep
+abbrev pub SweepsOnce : Mode → Type 0
+SweepsOnce mode = (mode ≡ Serial) ⊎ (mode ≡ KBest)
+
 -- the report of the word with this number under a grammar of which so many rules are hidden, and what was noted beside
 -- it: the note of the run, or nothing of one sweep
 abbrev pub IsRunOf : Command → Option ℕ → ℕ → PosedProblem → List ℕ → List RunNote → Type 0
 IsRunOf command hidden number p report noted =
-    ((command.mode ≡ Serial) × (noted ≡ []) × IsWordReport hidden number p report)
-    ⊎ (((command.mode ≡ Serial) → ⊥) × (note : RunNote) × (noted ≡ note ∷ []) × IsNoteIn command.mode command p note
-    × IsReportWith command.mode command.second hidden number p note.wins report)
+    (SweepsOnce command.mode × (noted ≡ []) × IsReportWith command.mode command hidden number p [] report)
+    ⊎ ((SweepsOnce command.mode → ⊥) × (note : RunNote) × (noted ≡ note ∷ []) × IsNoteIn command.mode command p note
+    × IsReportWith command.mode command hidden number p note.wins report)
 
 -- the report of the word that is made, and the note of its run beside it
 abbrev pub IsBigRun : Command → List ℕ → List RunNote → Type 0

@@ -7,7 +7,7 @@ use Rattle.table_certificate.specs.declared.verifying.VerifyError.TheVariants as
 use Rattle.table_certificate.specs.ScoreReports.{score_lines}
 use Rattle.verdicts.specs.Certificates.{IsFalseFor, IsRightFor}
 use Rattle.verdicts.specs.Command.{Command}
-use Rattle.verdicts.specs.Verdict.{IsFirstLimit, KeepLimits}
+use Rattle.verdicts.specs.WordLimits.{IsFirstLimit, KeepLimits}
 use Rattle.report.specs.declared.fault.Fault.{Fault}
 use Rattle.report.specs.declared.fault.Fault.TheVariants as faults
 use Rattle.adp_main.specs.Reporting.{HasWritten, IsReported}
@@ -33,9 +33,9 @@ pub record IsTold (command : Command) (grammar : Grammar) (algebra : ℕ) (words
 abbrev pub IsCertificateEnding : Command → Grammar → ℕ → List (List ℕ) → List ℕ → Result (Unit {0}) Fault
     → Option (List ℕ) → Option (List ℕ) → Type 0
 IsCertificateEnding command grammar algebra words certificate (Err (faults.Limit word fault)) old new =
-    IsFirstLimit command.second grammar algebra 1 words word fault × Appends old new []
+    IsFirstLimit command grammar algebra 1 words word fault × Appends old new []
 IsCertificateEnding command grammar algebra words certificate (Err (faults.Rejected line)) old new =
-    KeepLimits command.second grammar algebra words × IsFalseFor grammar algebra words certificate line
+    KeepLimits command grammar algebra words × IsFalseFor grammar algebra words certificate line
     × Appends old new []
 IsCertificateEnding command grammar algebra words certificate (Err faults.Memory) old new =
     Appends old new []

@@ -1,8 +1,8 @@
 //! Words that keep the limits, admitted: each is so again when its report is written.
 ghost use Rattle.std.specs.Prelude.{◌≡◌, ◌≤◌, MatchResult, None, length, slice_index_or};
-ghost use Rattle.adp_model.specs.Bounds.{IsScoreBound};
+ghost use Rattle.adp_model.specs.Bounds.{IsNodeBound, IsScoreBound};
 ghost use Rattle.adp_model.specs.LimitFaults.{IsLimitFault};
-ghost use Rattle.adp_model.specs.ProblemFields.{KeepsLimits, greatest_score};
+ghost use Rattle.adp_model.specs.ProblemFields.{KeepsLimits, greatest_score, most_nodes};
 ghost use Rattle.grammar_check.specs.Admitted.{IsProblemOf};
 ghost use Rattle.grammar_check.specs.ToldRows.{AreRowsOf};
 ghost use Rattle.verdicts.specs.declared.command.Mode.TheVariants.{Lex};
@@ -10,6 +10,7 @@ ghost use Rattle.adp_main.specs.KeptLengths.{HasKept, IsCompiledBound};
 
 use crate::checking::CheckedJob;
 use crate::limits::Judged;
+use adp_model::laws::bounds::words_have_one_bound;
 use adp_model::laws::limits::limits_are_kept_or_passed;
 use adp_model::{LimitFault, Problem, Text};
 use grammar_check::{BoundRows, Checked, admit_within, cells_within_limits};
@@ -38,6 +39,19 @@ pub(crate) fn bound_of(problem: &Problem<'_>) -> u64
 {
     problem.admissible();
     problem.score_bound
+}
+
+/// The node bound of a word that keeps the limits. Takes no memory.
+pub(crate) fn nodes_of(checked: &Checked, rows: &BoundRows, word: &Text) -> u64
+    requires rows { AreRowsOf checked.now rows.now }
+    requires known { length word.now ≤ rows.now.longest }
+    requires limits { KeepsLimits checked.now.grammar checked.now.algebra (length word.now) }
+    ensures bound { IsNodeBound checked.now.grammar (length word.now) result }
+    ensures few { result ≤ most_nodes }
+{
+    checked.passes();
+    words_have_one_bound();
+    rows.nodes.as_slice()[word.bytes().len()]
 }
 
 /// The problem of a word that keeps the limits. Takes no memory.

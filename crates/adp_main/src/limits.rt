@@ -9,16 +9,19 @@ ghost use Rattle.grammar_check.specs.ToldRows.{AreRowsOf};
 ghost use Rattle.lex_product.specs.PairAnswers.{IsPair};
 ghost use Rattle.lex_product.specs.PairLimits.{KeepsPairLimits};
 ghost use Rattle.verdicts.specs.SecondAlgebra.{IsAdmissibleWith};
+ghost use Rattle.first_trees.specs.ListLimits.{IsListLimitFault};
+ghost use Rattle.verdicts.specs.WordLimits.{KeepsLimitsOfLists};
 ghost use Rattle.adp_main.specs.KeptLengths.{AreKeptLengths, HasKept, HaveKept, IsFound, IsPairBound};
 ghost use Rattle.verdicts.specs.Posed.{posed_word, posed_words};
-ghost use Rattle.adp_main.specs.Reporting.{AreShort, IsLengthRefusal, IsLimitOf, IsPairLimitRefusal, compile_refusal, limit_refusal};
+ghost use Rattle.adp_main.specs.Reporting.{AreShort, IsAdmissibleIn, IsLengthRefusal, IsLimitOf, IsPairLimitRefusal, IsWordRefusal, compile_refusal, limit_refusal};
 ghost use Rattle.adp_main.specs.Seconds.{AreJobRows, AreSecondRows, IsSecondOf};
 
-use crate::admitting::{admit_word, bound_at, bound_of};
+use crate::admitting::{admit_word, admitted, bound_at, bound_of, nodes_of};
 use crate::checking::CheckedJob;
 use adp_model::laws::bounds::words_have_one_bound;
 use adp_model::{LimitFault, Text};
 use grammar_check::{AdmitError, BoundRows, Checked, cells_within_limits};
+use k_best::admit_lists;
 use lex_product::{CompileError, compile_by};
 use report::Fault;
 use std::alloc::{AllocError, Global};
@@ -81,9 +84,9 @@ pub(crate) fn judge_words(
     ensures known { IfOk result (λ judged. AreShort judged.rows.first.longest job.now.words) }
     ensures bounds { IfOk result (λ judged. HaveKept command.now.second job.now.checked.grammar
         job.now.checked.algebra judged.compiled.items job.now.words) }
-    ensures admissible { IfOk result (λ _. AllByRecursion (IsAdmissibleWith command.now.second)
+    ensures admissible { IfOk result (λ _. AllByRecursion (IsAdmissibleIn command.now)
         (posed_words job.now.checked.grammar job.now.checked.algebra job.now.words)) }
-    ensures fault { IfErr result (IsLimitOf command.now.second job.now.checked.grammar job.now.checked.algebra
+    ensures fault { IfErr result (IsLimitOf command.now job.now.checked.grammar job.now.checked.algebra
         job.now.words) }
 {
     let words = job.words.as_slice();
@@ -92,7 +95,7 @@ pub(crate) fn judge_words(
     let rows = JobRows::new(alloc, job, longest(judged))?;
     let mut compiled = no_bounds(alloc, rows.first.longest)?;
     for (place, word) in judged.iter().enumerate() {
-        match judge_once(alloc, command, job, &rows, word, &mut compiled) {
+        match judge_fully(alloc, command, job, &rows, word, &mut compiled) {
             Ok(()) => {}
             Err(error) => return Err(limit_refusal(place, error)),
         }
@@ -110,6 +113,64 @@ fn no_bounds(alloc: Global, longest: u32) -> Result<Vec<Option<u64>>, AllocError
     ensures none { IfOk result (λ compiled. (len : ℕ) → slice_index_or compiled.items len None ≡ None) }
 {
     vec![in alloc; None; longest as usize + 1]
+}
+
+/// Judges a word: its own limits, and behind them those of its lists, where lists are asked for.
+fn judge_fully(
+    alloc: Global,
+    command: &Command<'_>,
+    job: &CheckedJob,
+    rows: &JobRows,
+    word: &Text,
+    compiled: &mut Vec<Option<u64>>,
+) -> Result<(), AdmitError>
+    requires second { IsSecondOf command.now.second job.now.checked job.now.second }
+    requires rows { AreJobRows job.now.checked job.now.second rows.now }
+    requires known { length word.now ≤ rows.now.first.longest }
+    requires each { length compiled.old.items ≡ rows.now.first.longest + 1 }
+    requires lengths { AreKeptLengths command.now.second job.now.checked.grammar job.now.checked.algebra
+        compiled.old.items }
+    ensures each { length compiled.new.items ≡ length compiled.old.items }
+    ensures lengths { AreKeptLengths command.now.second job.now.checked.grammar job.now.checked.algebra
+        compiled.new.items }
+    ensures stays { (len : ℕ) → HasKept command.now.second job.now.checked.grammar job.now.checked.algebra
+        compiled.old.items len → HasKept command.now.second job.now.checked.grammar job.now.checked.algebra
+        compiled.new.items len }
+    ensures bound { OnOk result (HasKept command.now.second job.now.checked.grammar job.now.checked.algebra
+        compiled.new.items (length word.now)) }
+    ensures kept { OnOk result (IsAdmissibleIn command.now
+        (posed_word job.now.checked.grammar job.now.checked.algebra word.now)) }
+    ensures fault { IfErr result (IsWordRefusal command.now job.now.checked.grammar job.now.checked.algebra
+        (length word.now)) }
+{
+    judge_once(alloc, command, job, rows, word, compiled)?;
+    match judge_lists(command, job, rows, word) {
+        Ok(()) => Ok(()),
+        Err(fault) => Err(AdmitError::Fault(fault)),
+    }
+}
+
+/// Whether the lists of an admitted word keep their limits, where lists are asked for. Takes no memory.
+fn judge_lists(
+    command: &Command<'_>,
+    job: &CheckedJob,
+    rows: &JobRows,
+    word: &Text,
+) -> Result<(), LimitFault>
+    requires rows { AreJobRows job.now.checked job.now.second rows.now }
+    requires known { length word.now ≤ rows.now.first.longest }
+    requires admissible { IsAdmissibleWith command.now.second
+        (posed_word job.now.checked.grammar job.now.checked.algebra word.now) }
+    ensures kept { OnOk result (KeepsLimitsOfLists command.now.best job.now.checked.grammar (length word.now)) }
+    ensures fault { IfErr result (IsListLimitFault job.now.checked.grammar (length word.now) command.now.best) }
+{
+    command.in_range();
+    if command.best == 0 {
+        return Ok(());
+    }
+    let problem = admitted(&job.checked, &rows.first, word);
+    let nodes = nodes_of(&job.checked, &rows.first, word);
+    admit_lists(&problem, nodes, command.best)
 }
 
 /// Judges a word for whose length no bound is kept. Where there is a second algebra and the word keeps the limits, keeps

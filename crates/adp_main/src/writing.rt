@@ -21,7 +21,7 @@ use crate::admitting::admitted;
 use crate::checking::CheckedJob;
 use crate::lex::Compiled;
 use crate::limits::Judged;
-use crate::{best, cert, lex, replay, serial, wins};
+use crate::{best, cert, kbest, lex, replay, serial, wins};
 use adp_io::{Sink, write_whole};
 use adp_model::Text;
 use evaluators::Gate;
@@ -219,6 +219,10 @@ fn write_word<R: Threads + Sync, K: Sink, G: Gate>(
             lex::report_word(
                 rt, alloc, command, number, job, judged, word, kept, out, gate,
             )
+        },
+        Mode::KBest => {
+            let problem = admitted(&job.checked, rows, word);
+            kbest::report_word(alloc, command, number, &problem, out)
         },
         Mode::Verify | Mode::Big => unreachable!(),
     }

@@ -11,7 +11,7 @@ use anyhow::{Context, Result};
 use std::fs;
 
 // The files of cases, in order.
-const FILES: [&str; 14] = [
+const FILES: [&str; 16] = [
     "first.cases",
     "commands.cases",
     "texts.cases",
@@ -22,10 +22,12 @@ const FILES: [&str; 14] = [
     "replay.cases",
     "lex.cases",
     "certificates.cases",
+    "lists.cases",
     "wide.cases",
     "sizes.cases",
     "nested.cases",
     "nested_certificates.cases",
+    "nested_lists.cases",
 ];
 
 fn main(rt: HostRuntime) -> Result<()> {

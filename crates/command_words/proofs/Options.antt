@@ -5,15 +5,18 @@ use Rattle.std.proofs.lemmas.List.Elements.{All-nil, All-cons, All-head, All-tai
 use lib.Pointwise.{pointwise}
 use Rattle.adp_model.specs.WellFormed.{is_name}
 use Rattle.verdicts.specs.declared.command.Mode.{Mode}
-use Rattle.verdicts.specs.declared.command.Mode.TheVariants.{Best, Serial, Wins, Replay, Lex, Cert, Verify, Big}
-use Rattle.verdicts.specs.Command.{Setting, Algebra, Then, Workers, Seed, Schedule, Size, Allows, AreSettings, AreSetOnce, IsValue, IsCommand, HasCommand, algebra_set, second_set, workers_set, seed_set, schedule_set, size_set, mode_word, option_word}
+use Rattle.verdicts.specs.declared.command.Mode.TheVariants.{Best, Serial, Wins, Replay, Lex, Cert, Verify, KBest, Big}
+use Rattle.verdicts.specs.Command.{Setting, Algebra, Then, Workers, Seed, Schedule, Trees, Size, Allows, TakesNoWorkers, AreSettings, AreSetOnce, IsValue, IsCommand, HasCommand, algebra_set, second_set, workers_set, seed_set, schedule_set, best_set, size_set, mode_word, option_word}
 use Rattle.verdicts.specs.ScheduleText.{machines_of, is_schedule}
 use Rattle.command_words.specs.OptionValues.{OptionValues}
-use Rattle.command_words.specs.Settings.{Adds, AddsSchedule, AddsWorkers, AddsSeed, AddsSize, Suits}
+use Rattle.command_words.specs.Settings.{Adds, AddsSchedule, AddsWorkers, AddsSeed, AddsTrees, AddsSize, Suits}
 
 -- ---- one option
 
--- the words of two options differ at their fourth letter
+-- the words of two options differ at their third letter or at their fourth
+abbrev third_letter : List ℕ → ℕ
+third_letter word = get_or word 2 0
+
 abbrev fourth_letter : List ℕ → ℕ
 fourth_letter word = get_or word 3 0
 
@@ -36,24 +39,30 @@ module _ (before : OptionValues) (option value : List ℕ) where
       → ((workers : ℕ) (after : OptionValues) → AddsWorkers before value workers after → ⊥)
       → Refuses before option value
   not_workers is refuses (Workers workers) after adds = refuses workers after adds.1
-  not_workers is refuses setting after adds = omega (arith, ap fourth_letter (sym is ∙ adds.0))
+  not_workers is refuses setting after adds = omega (arith, ap third_letter (sym is ∙ adds.0), ap fourth_letter (sym is ∙ adds.0))
 
   pub not_seed : option ≡ option_word (Seed 0)
       → ((seed : ℕ) (after : OptionValues) → AddsSeed before value seed after → ⊥)
       → Refuses before option value
   not_seed is refuses (Seed seed) after adds = refuses seed after adds.1
-  not_seed is refuses setting after adds = omega (arith, ap fourth_letter (sym is ∙ adds.0))
+  not_seed is refuses setting after adds = omega (arith, ap third_letter (sym is ∙ adds.0), ap fourth_letter (sym is ∙ adds.0))
 
   pub not_schedule : option ≡ option_word (Schedule [])
       → ((after : OptionValues) → AddsSchedule before value after → ⊥) → Refuses before option value
   not_schedule is refuses (Schedule machines) after adds = refuses after adds.2
-  not_schedule is refuses setting after adds = omega (arith, ap fourth_letter (sym is ∙ adds.0))
+  not_schedule is refuses setting after adds = omega (arith, ap third_letter (sym is ∙ adds.0), ap fourth_letter (sym is ∙ adds.0))
+
+  pub not_trees : option ≡ option_word (Trees 0)
+      → ((best : ℕ) (after : OptionValues) → AddsTrees before value best after → ⊥)
+      → Refuses before option value
+  not_trees is refuses (Trees best) after adds = refuses best after adds.1
+  not_trees is refuses setting after adds = omega (arith, ap third_letter (sym is ∙ adds.0), ap fourth_letter (sym is ∙ adds.0))
 
   pub not_size : option ≡ option_word (Size 0)
       → ((size : ℕ) (after : OptionValues) → AddsSize before value size after → ⊥)
       → Refuses before option value
   not_size is refuses (Size size) after adds = refuses size after adds.1
-  not_size is refuses setting after adds = omega (arith, ap fourth_letter (sym is ∙ adds.0))
+  not_size is refuses setting after adds = omega (arith, ap third_letter (sym is ∙ adds.0), ap fourth_letter (sym is ∙ adds.0))
 
 -- ---- the options from a place on
 
@@ -66,6 +75,11 @@ abbrev seed_found : List Setting → Option ℕ
 seed_found [] = None
 seed_found (Seed seed ∷ settings) = Some seed
 seed_found (setting ∷ settings) = seed_found settings
+
+abbrev best_found : List Setting → Option ℕ
+best_found [] = None
+best_found (Trees best ∷ settings) = Some best
+best_found (setting ∷ settings) = best_found settings
 
 abbrev size_found : List Setting → Option ℕ
 size_found [] = None
@@ -87,6 +101,7 @@ pub record AreRead (words : List (List ℕ)) (state : OptionValues) : Type 0 whe
   pub workers : state.workers ≡ workers_found settings
   pub seed : state.seed ≡ seed_found settings
   pub schedule : state.schedule ≡ schedule_found settings
+  pub best : state.best ≡ best_found settings
   pub size : state.size ≡ size_found settings
 
 workers_is : (settings : List Setting) → unwrap_or (workers_found settings) 1 ≡ workers_set settings
@@ -98,6 +113,11 @@ seed_is : (settings : List Setting) → unwrap_or (seed_found settings) 0 ≡ se
 seed_is [] = refl
 seed_is (Seed seed ∷ settings) = refl
 seed_is (setting ∷ settings) = seed_is settings
+
+best_is : (settings : List Setting) → unwrap_or (best_found settings) 0 ≡ best_set settings
+best_is [] = refl
+best_is (Trees best ∷ settings) = refl
+best_is (setting ∷ settings) = best_is settings
 
 size_is : (settings : List Setting) → unwrap_or (size_found settings) 0 ≡ size_set settings
 size_is [] = refl
@@ -124,6 +144,11 @@ module _ (number : ℕ) where
   no_seed (Seed other ∷ settings) e = cc
   no_seed (setting ∷ settings) e = no_seed settings e
 
+  no_trees : (settings : List Setting) → best_found settings ≡ None → occurs (Trees number) settings ≡ false
+  no_trees [] e = refl
+  no_trees (Trees other ∷ settings) e = cc
+  no_trees (setting ∷ settings) e = no_trees settings e
+
   no_size : (settings : List Setting) → size_found settings ≡ None → occurs (Size number) settings ≡ false
   no_size [] e = refl
   no_size (Size other ∷ settings) e = cc
@@ -138,6 +163,11 @@ module _ (number : ℕ) where
   free_seed [] e = refl
   free_seed (Seed other ∷ settings) e = cc
   free_seed (setting ∷ settings) e = free_seed settings e
+
+  free_trees : (settings : List Setting) → occurs (Trees number) settings ≡ false → best_found settings ≡ None
+  free_trees [] e = refl
+  free_trees (Trees other ∷ settings) e = cc
+  free_trees (setting ∷ settings) e = free_trees settings e
 
   free_size : (settings : List Setting) → occurs (Size number) settings ≡ false → size_found settings ≡ None
   free_size [] e = refl
@@ -210,6 +240,7 @@ module _ (option value : List ℕ) (words : List (List ℕ)) (before after : Opt
     workers = ap (λ (s : OptionValues). s.workers) adds.2.set ∙ read.workers;
     seed = ap (λ (s : OptionValues). s.seed) adds.2.set ∙ read.seed;
     schedule = ap (λ (s : OptionValues). s.schedule) adds.2.set ∙ read.schedule;
+    best = ap (λ (s : OptionValues). s.best) adds.2.set ∙ read.best;
     size = ap (λ (s : OptionValues). s.size) adds.2.set ∙ read.size;
   }
   read_more (Then named) adds read = record {
@@ -222,6 +253,7 @@ module _ (option value : List ℕ) (words : List (List ℕ)) (before after : Opt
     workers = ap (λ (s : OptionValues). s.workers) adds.2.set ∙ read.workers;
     seed = ap (λ (s : OptionValues). s.seed) adds.2.set ∙ read.seed;
     schedule = ap (λ (s : OptionValues). s.schedule) adds.2.set ∙ read.schedule;
+    best = ap (λ (s : OptionValues). s.best) adds.2.set ∙ read.best;
     size = ap (λ (s : OptionValues). s.size) adds.2.set ∙ read.size;
   }
   read_more (Workers workers) adds read = record {
@@ -234,6 +266,7 @@ module _ (option value : List ℕ) (words : List (List ℕ)) (before after : Opt
     workers = ap (λ (s : OptionValues). s.workers) adds.1.set;
     seed = ap (λ (s : OptionValues). s.seed) adds.1.set ∙ read.seed;
     schedule = ap (λ (s : OptionValues). s.schedule) adds.1.set ∙ read.schedule;
+    best = ap (λ (s : OptionValues). s.best) adds.1.set ∙ read.best;
     size = ap (λ (s : OptionValues). s.size) adds.1.set ∙ read.size;
   }
   read_more (Seed seed) adds read = record {
@@ -245,6 +278,7 @@ module _ (option value : List ℕ) (words : List (List ℕ)) (before after : Opt
     workers = ap (λ (s : OptionValues). s.workers) adds.1.set ∙ read.workers;
     seed = ap (λ (s : OptionValues). s.seed) adds.1.set;
     schedule = ap (λ (s : OptionValues). s.schedule) adds.1.set ∙ read.schedule;
+    best = ap (λ (s : OptionValues). s.best) adds.1.set ∙ read.best;
     size = ap (λ (s : OptionValues). s.size) adds.1.set ∙ read.size;
   }
   read_more (Schedule named) adds read = record {
@@ -257,7 +291,20 @@ module _ (option value : List ℕ) (words : List (List ℕ)) (before after : Opt
     workers = ap (λ (s : OptionValues). s.workers) adds.2.set ∙ read.workers;
     seed = ap (λ (s : OptionValues). s.seed) adds.2.set ∙ read.seed;
     schedule = ap (λ (s : OptionValues). s.schedule) adds.2.set ∙ ap Some (sym adds.1);
+    best = ap (λ (s : OptionValues). s.best) adds.2.set ∙ read.best;
     size = ap (λ (s : OptionValues). s.size) adds.2.set ∙ read.size;
+  }
+  read_more (Trees best) adds read = record {
+    settings = Trees best ∷ read.settings;
+    set = (adds.0, (adds.1.number, adds.1.some, adds.1.few), read.set);
+    once = once_more (Trees best) read.settings (no_trees best read.settings (sym read.best ∙ adds.1.free)) read.once;
+    algebra = ap (λ (s : OptionValues). s.algebra) adds.1.set ∙ read.algebra;
+    second = ap (λ (s : OptionValues). s.second) adds.1.set ∙ read.second;
+    workers = ap (λ (s : OptionValues). s.workers) adds.1.set ∙ read.workers;
+    seed = ap (λ (s : OptionValues). s.seed) adds.1.set ∙ read.seed;
+    schedule = ap (λ (s : OptionValues). s.schedule) adds.1.set ∙ read.schedule;
+    best = ap (λ (s : OptionValues). s.best) adds.1.set;
+    size = ap (λ (s : OptionValues). s.size) adds.1.set ∙ read.size;
   }
   read_more (Size size) adds read = record {
     settings = Size size ∷ read.settings;
@@ -268,6 +315,7 @@ module _ (option value : List ℕ) (words : List (List ℕ)) (before after : Opt
     workers = ap (λ (s : OptionValues). s.workers) adds.1.set ∙ read.workers;
     seed = ap (λ (s : OptionValues). s.seed) adds.1.set ∙ read.seed;
     schedule = ap (λ (s : OptionValues). s.schedule) adds.1.set ∙ read.schedule;
+    best = ap (λ (s : OptionValues). s.best) adds.1.set ∙ read.best;
     size = ap (λ (s : OptionValues). s.size) adds.1.set;
   }
 
@@ -280,8 +328,9 @@ setting_unique option value (Then a) (Then b) e f g h = ap Then (f.1 ∙ sym h.1
 setting_unique option value (Workers a) (Workers b) e f g h = ap Workers (f.0.1 ∙ sym h.0.1)
 setting_unique option value (Seed a) (Seed b) e f g h = ap Seed (f.0.1 ∙ sym h.0.1)
 setting_unique option value (Schedule a) (Schedule b) e f g h = ap Schedule (f.1 ∙ sym h.1)
+setting_unique option value (Trees a) (Trees b) e f g h = ap Trees (f.0.1 ∙ sym h.0.1)
 setting_unique option value (Size a) (Size b) e f g h = ap Size (f.0.1 ∙ sym h.0.1)
-setting_unique option value s t e f g h = absurd (omega (arith, ap fourth_letter (sym e ∙ g)))
+setting_unique option value s t e f g h = absurd (omega (arith, ap third_letter (sym e ∙ g), ap fourth_letter (sym e ∙ g)))
 
 settings_unique : (words : List (List ℕ)) (a b : List Setting) → AreSettings words a
     → AreSettings words b → a ≡ b
@@ -349,6 +398,11 @@ module _ (option value : List ℕ) (words : List (List ℕ)) (before : OptionVal
       let free : before.schedule ≡ None = read.schedule ∙ ap schedule_found same ∙ free_schedule named ss absent in
       refuses (Schedule named) (record before { schedule = Some (machines_of value) })
       (is, value_is.1, record { free = free; schedule = value_is.0; set = refl })
+  refused_by (Trees best) ss is value_is set absent =
+      let same = settings_unique words read.settings ss read.set set in
+      let free : before.best ≡ None = read.best ∙ ap best_found same ∙ free_trees best ss absent in
+      refuses (Trees best) (record before { best = Some best })
+      (is, record { free = free; number = value_is.0; some = value_is.1; few = value_is.2; set = refl })
   refused_by (Size size) ss is value_is set absent =
       let same = settings_unique words read.settings ss read.set set in
       let free : before.size ≡ None = read.size ∙ ap size_found same ∙ free_size size ss absent in
@@ -371,6 +425,7 @@ mode_same Replay Replay e = refl
 mode_same Lex Lex e = refl
 mode_same Cert Cert e = refl
 mode_same Verify Verify e = refl
+mode_same KBest KBest e = refl
 mode_same Big Big e = refl
 mode_same a b e =
     absurd (omega (arith, ap (λ (w : List ℕ). get_or w 0 0) e, ap (λ (w : List ℕ). get_or w 2 0) e))
@@ -380,9 +435,10 @@ module _ (mode : Mode) where
   record CanBeSet (settings : List Setting) : Type 0 where
     algebra : IsNone (algebra_set settings) ⊎ (mode ≡ Big → ⊥)
     second : IsNone (second_set settings) ⊎ (mode ≡ Lex)
-    workers : IsNone (workers_found settings) ⊎ (mode ≡ Verify → ⊥)
-    seed : IsNone (seed_found settings) ⊎ (mode ≡ Verify → ⊥)
+    workers : IsNone (workers_found settings) ⊎ (TakesNoWorkers mode → ⊥)
+    seed : IsNone (seed_found settings) ⊎ (TakesNoWorkers mode → ⊥)
     schedule : IsNone (schedule_found settings) ⊎ (mode ≡ Replay)
+    best : IsNone (best_found settings) ⊎ (mode ≡ KBest)
     size : IsNone (size_found settings) ⊎ (mode ≡ Big)
 
   all_allowed : (settings : List Setting) → CanBeSet settings → All (Allows mode) settings
@@ -394,6 +450,7 @@ module _ (mode : Mode) where
         workers = can.workers;
         seed = can.seed;
         schedule = can.schedule;
+        best = can.best;
         size = can.size;
       }))
     where
@@ -407,6 +464,7 @@ module _ (mode : Mode) where
         workers = can.workers;
         seed = can.seed;
         schedule = can.schedule;
+        best = can.best;
         size = can.size;
       }))
     where
@@ -420,10 +478,11 @@ module _ (mode : Mode) where
         workers = inr (allowed can.workers);
         seed = can.seed;
         schedule = can.schedule;
+        best = can.best;
         size = can.size;
       }))
     where
-      allowed : IsNone (Some workers) ⊎ (mode ≡ Verify → ⊥) → mode ≡ Verify → ⊥
+      allowed : IsNone (Some workers) ⊎ (TakesNoWorkers mode → ⊥) → TakesNoWorkers mode → ⊥
       allowed (inl none) = absurd cc
       allowed (inr other) = other
   all_allowed (Seed seed ∷ settings) can =
@@ -433,10 +492,11 @@ module _ (mode : Mode) where
         workers = can.workers;
         seed = inr (allowed can.seed);
         schedule = can.schedule;
+        best = can.best;
         size = can.size;
       }))
     where
-      allowed : IsNone (Some seed) ⊎ (mode ≡ Verify → ⊥) → mode ≡ Verify → ⊥
+      allowed : IsNone (Some seed) ⊎ (TakesNoWorkers mode → ⊥) → TakesNoWorkers mode → ⊥
       allowed (inl none) = absurd cc
       allowed (inr other) = other
   all_allowed (Schedule machines ∷ settings) can =
@@ -446,12 +506,27 @@ module _ (mode : Mode) where
         workers = can.workers;
         seed = can.seed;
         schedule = inr (allowed can.schedule);
+        best = can.best;
         size = can.size;
       }))
     where
       allowed : IsNone (Some machines) ⊎ (mode ≡ Replay) → mode ≡ Replay
       allowed (inl none) = absurd cc
       allowed (inr replay) = replay
+  all_allowed (Trees best ∷ settings) can =
+      All-cons (Allows mode) (Trees best) settings (allowed can.best) (all_allowed settings (record {
+        algebra = can.algebra;
+        second = can.second;
+        workers = can.workers;
+        seed = can.seed;
+        schedule = can.schedule;
+        best = inr (allowed can.best);
+        size = can.size;
+      }))
+    where
+      allowed : IsNone (Some best) ⊎ (mode ≡ KBest) → mode ≡ KBest
+      allowed (inl none) = absurd cc
+      allowed (inr kbest) = kbest
   all_allowed (Size size ∷ settings) can =
       All-cons (Allows mode) (Size size) settings (allowed can.size) (all_allowed settings (record {
         algebra = can.algebra;
@@ -459,6 +534,7 @@ module _ (mode : Mode) where
         workers = can.workers;
         seed = can.seed;
         schedule = can.schedule;
+        best = can.best;
         size = inr (allowed can.size);
       }))
     where
@@ -481,21 +557,21 @@ module _ (mode : Mode) where
   never_second (setting ∷ settings) other all =
       never_second settings other (All-tail (Allows mode) setting settings all)
 
-  never_staffed : (settings : List Setting) → mode ≡ Verify → All (Allows mode) settings
+  never_staffed : (settings : List Setting) → TakesNoWorkers mode → All (Allows mode) settings
       → IsNone (workers_found settings)
-  never_staffed [] verify all = refl
-  never_staffed (Workers workers ∷ settings) verify all =
-      absurd (All-head (Allows mode) (Workers workers) settings all verify)
-  never_staffed (setting ∷ settings) verify all =
-      never_staffed settings verify (All-tail (Allows mode) setting settings all)
+  never_staffed [] takes all = refl
+  never_staffed (Workers workers ∷ settings) takes all =
+      absurd (All-head (Allows mode) (Workers workers) settings all takes)
+  never_staffed (setting ∷ settings) takes all =
+      never_staffed settings takes (All-tail (Allows mode) setting settings all)
 
-  never_seeded : (settings : List Setting) → mode ≡ Verify → All (Allows mode) settings
+  never_seeded : (settings : List Setting) → TakesNoWorkers mode → All (Allows mode) settings
       → IsNone (seed_found settings)
-  never_seeded [] verify all = refl
-  never_seeded (Seed seed ∷ settings) verify all =
-      absurd (All-head (Allows mode) (Seed seed) settings all verify)
-  never_seeded (setting ∷ settings) verify all =
-      never_seeded settings verify (All-tail (Allows mode) setting settings all)
+  never_seeded [] takes all = refl
+  never_seeded (Seed seed ∷ settings) takes all =
+      absurd (All-head (Allows mode) (Seed seed) settings all takes)
+  never_seeded (setting ∷ settings) takes all =
+      never_seeded settings takes (All-tail (Allows mode) setting settings all)
 
   never_scheduled : (settings : List Setting) → (mode ≡ Replay → ⊥) → All (Allows mode) settings
       → IsNone (schedule_found settings)
@@ -504,6 +580,14 @@ module _ (mode : Mode) where
       absurd (other (All-head (Allows mode) (Schedule machines) settings all))
   never_scheduled (setting ∷ settings) other all =
       never_scheduled settings other (All-tail (Allows mode) setting settings all)
+
+  never_listed : (settings : List Setting) → (mode ≡ KBest → ⊥) → All (Allows mode) settings
+      → IsNone (best_found settings)
+  never_listed [] other all = refl
+  never_listed (Trees best ∷ settings) other all =
+      absurd (other (All-head (Allows mode) (Trees best) settings all))
+  never_listed (setting ∷ settings) other all =
+      never_listed settings other (All-tail (Allows mode) setting settings all)
 
   never_sized : (settings : List Setting) → (mode ≡ Big → ⊥) → All (Allows mode) settings
       → IsNone (size_found settings)
@@ -514,6 +598,19 @@ module _ (mode : Mode) where
       never_sized settings other (All-tail (Allows mode) setting settings all)
 
 -- a size is set where it is at least 1, as each size that is set is
+some_trees : (settings : List Setting) → 1 ≤ best_set settings → IsSome (best_found settings)
+some_trees [] some = absurd (omega arith)
+some_trees (Trees best ∷ settings) some = refl
+some_trees (setting ∷ settings) some = some_trees settings some
+
+set_trees : (words : List (List ℕ)) (settings : List Setting) → AreSettings words settings
+    → IsSome (best_found settings) → 1 ≤ best_set settings
+set_trees words [] set found = absurd cc
+set_trees [] (s ∷ ss) set found = absurd set
+set_trees (option ∷ []) (s ∷ ss) set found = absurd set
+set_trees (option ∷ value ∷ words) (Trees best ∷ ss) set found = set.1.1
+set_trees (option ∷ value ∷ words) (s ∷ ss) set found = set_trees words ss set.2 found
+
 some_size : (settings : List Setting) → 1 ≤ size_set settings → IsSome (size_found settings)
 some_size [] some = absurd (omega arith)
 some_size (Size size ∷ settings) some = refl
@@ -565,33 +662,51 @@ set_second (option ∷ value ∷ words) (Then name ∷ ss) set =
     subst (λ (it : List ℕ). IsTrue (is_name it)) (sym set.1.1) set.1.0
 set_second (option ∷ value ∷ words) (s ∷ ss) set = set_second words ss set.2
 
+two_apart : {A B : Type 0} → (A → ⊥) → (B → ⊥) → A ⊎ B → ⊥
+two_apart first second (inl a) = first a
+two_apart first second (inr b) = second b
+
 -- what was read suits the mode exactly where its options are allowed, and those that it needs are set
 module _ (words : List (List ℕ)) (state : OptionValues) (read : AreRead words state) where
   allowed_by : (mode : Mode) → IsNone state.algebra ⊎ (mode ≡ Big → ⊥) → IsNone state.second ⊎ (mode ≡ Lex)
-      → IsNone state.workers ⊎ (mode ≡ Verify → ⊥) → IsNone state.seed ⊎ (mode ≡ Verify → ⊥)
-      → IsNone state.schedule ⊎ (mode ≡ Replay) → IsNone state.size ⊎ (mode ≡ Big)
-      → All (Allows mode) read.settings
-  allowed_by mode named seconded staffed seeded scheduled sized =
+      → IsNone state.workers ⊎ (TakesNoWorkers mode → ⊥) → IsNone state.seed ⊎ (TakesNoWorkers mode → ⊥)
+      → IsNone state.schedule ⊎ (mode ≡ Replay) → IsNone state.best ⊎ (mode ≡ KBest)
+      → IsNone state.size ⊎ (mode ≡ Big) → All (Allows mode) read.settings
+  allowed_by mode named seconded staffed seeded scheduled listed sized =
       all_allowed mode read.settings (record {
         algebra = subst (λ o. IsNone o ⊎ (mode ≡ Big → ⊥)) read.algebra named;
         second = subst (λ o. IsNone o ⊎ (mode ≡ Lex)) read.second seconded;
-        workers = subst (λ o. IsNone o ⊎ (mode ≡ Verify → ⊥)) read.workers staffed;
-        seed = subst (λ o. IsNone o ⊎ (mode ≡ Verify → ⊥)) read.seed seeded;
+        workers = subst (λ o. IsNone o ⊎ (TakesNoWorkers mode → ⊥)) read.workers staffed;
+        seed = subst (λ o. IsNone o ⊎ (TakesNoWorkers mode → ⊥)) read.seed seeded;
         schedule = subst (λ o. IsNone o ⊎ (mode ≡ Replay)) read.schedule scheduled;
+        best = subst (λ o. IsNone o ⊎ (mode ≡ KBest)) read.best listed;
         size = subst (λ o. IsNone o ⊎ (mode ≡ Big)) read.size sized;
       })
 
+  -- a mode of evaluators, whose options are these and a first algebra
+  by_evaluators : (mode : Mode) → (mode ≡ Big → ⊥) → (mode ≡ Verify → ⊥) → (mode ≡ KBest → ⊥)
+      → IsNone state.second ⊎ (mode ≡ Lex) → IsNone state.schedule ⊎ (mode ≡ Replay) → IsNone state.best
+      → IsNone state.size → All (Allows mode) read.settings
+  by_evaluators mode reads finds lists seconded scheduled listed sized =
+      allowed_by mode (inr reads) seconded (inr (two_apart finds lists)) (inr (two_apart finds lists)) scheduled
+      (inl listed) (inl sized)
+
   suited_allowed : (mode : Mode) → Suits mode state → All (Allows mode) read.settings
   suited_allowed Replay suits =
-      allowed_by Replay (inr (λ e. cc)) (inl suits.0) (inr (λ e. cc)) (inr (λ e. cc)) (inr refl) (inl suits.2)
+      by_evaluators Replay (λ e. cc) (λ e. cc) (λ e. cc) (inl suits.0) (inr refl) suits.2 suits.3
   suited_allowed Lex suits =
-      allowed_by Lex (inr (λ e. cc)) (inr refl) (inr (λ e. cc)) (inr (λ e. cc)) (inl suits.1) (inl suits.2)
+      by_evaluators Lex (λ e. cc) (λ e. cc) (λ e. cc) (inr refl) (inl suits.1) suits.2 suits.3
   suited_allowed Verify suits =
       allowed_by Verify (inr (λ e. cc)) (inl suits.0) (inl suits.1) (inl suits.2) (inl suits.3) (inl suits.4)
+      (inl suits.5)
+  suited_allowed KBest suits =
+      allowed_by KBest (inr (λ e. cc)) (inl suits.0) (inl suits.1) (inl suits.2) (inl suits.3) (inr refl)
+      (inl suits.5)
   suited_allowed Big suits =
-      allowed_by Big (inl suits.0) (inl suits.1) (inr (λ e. cc)) (inr (λ e. cc)) (inl suits.2) (inr refl)
+      allowed_by Big (inl suits.0) (inl suits.1) (inr (two_apart (λ e. cc) (λ e. cc)))
+      (inr (two_apart (λ e. cc) (λ e. cc))) (inl suits.2) (inl suits.3) (inr refl)
   suited_allowed mode suits =
-      allowed_by mode (inr (λ e. cc)) (inl suits.0) (inr (λ e. cc)) (inr (λ e. cc)) (inl suits.1) (inl suits.2)
+      by_evaluators mode (λ e. cc) (λ e. cc) (λ e. cc) (inl suits.0) (inl suits.1) suits.2 suits.3
 
   suited_second : (mode : Mode) → Suits mode state → mode ≡ Lex → IsSome state.second
   suited_second Lex suits e = suits.0
@@ -602,9 +717,14 @@ module _ (words : List (List ℕ)) (state : OptionValues) (read : AreRead words 
       set_schedule words read.settings read.set (subst (λ o. IsSome o) read.schedule suits.1)
   suited_scheduled mode suits e = absurd cc
 
+  suited_listed : (mode : Mode) → Suits mode state → mode ≡ KBest → 1 ≤ best_set read.settings
+  suited_listed KBest suits e =
+      set_trees words read.settings read.set (subst (λ o. IsSome o) read.best suits.4)
+  suited_listed mode suits e = absurd cc
+
   suited_sized : (mode : Mode) → Suits mode state → mode ≡ Big → 1 ≤ size_set read.settings
   suited_sized Big suits e =
-      set_size words read.settings read.set (subst (λ o. IsSome o) read.size suits.3)
+      set_size words read.settings read.set (subst (λ o. IsSome o) read.size suits.4)
   suited_sized mode suits e = absurd cc
 
   -- what is allowed and set by a command
@@ -615,45 +735,69 @@ module _ (words : List (List ℕ)) (state : OptionValues) (read : AreRead words 
     unseconded : (mode ≡ Lex → ⊥) → IsNone state.second
     unseconded other = subst (λ o. IsNone o) (sym read.second) (never_second mode read.settings other allowed)
 
-    unstaffed : mode ≡ Verify → IsNone state.workers
-    unstaffed verify =
-        subst (λ o. IsNone o) (sym read.workers) (never_staffed mode read.settings verify allowed)
+    unstaffed : TakesNoWorkers mode → IsNone state.workers
+    unstaffed takes =
+        subst (λ o. IsNone o) (sym read.workers) (never_staffed mode read.settings takes allowed)
 
-    unseeded : mode ≡ Verify → IsNone state.seed
-    unseeded verify = subst (λ o. IsNone o) (sym read.seed) (never_seeded mode read.settings verify allowed)
+    unseeded : TakesNoWorkers mode → IsNone state.seed
+    unseeded takes =
+        subst (λ o. IsNone o) (sym read.seed) (never_seeded mode read.settings takes allowed)
 
     unscheduled : (mode ≡ Replay → ⊥) → IsNone state.schedule
     unscheduled other =
         subst (λ o. IsNone o) (sym read.schedule) (never_scheduled mode read.settings other allowed)
+
+    unlisted : (mode ≡ KBest → ⊥) → IsNone state.best
+    unlisted other = subst (λ o. IsNone o) (sym read.best) (never_listed mode read.settings other allowed)
 
     unsized : (mode ≡ Big → ⊥) → IsNone state.size
     unsized other = subst (λ o. IsNone o) (sym read.size) (never_sized mode read.settings other allowed)
 
   suited : (mode : Mode) → All (Allows mode) read.settings → (mode ≡ Lex → IsSome state.second)
       → (mode ≡ Replay → 1 ≤ length (schedule_set read.settings))
+      → (mode ≡ KBest → 1 ≤ best_set read.settings)
       → (mode ≡ Big → 1 ≤ size_set read.settings) → Suits mode state
-  suited Replay allowed there scheduled sized = (
+  suited Replay allowed there scheduled listed sized = (
     unseconded Replay allowed (λ e. cc),
     subst (λ o. IsSome o) (sym read.schedule) (some_schedule read.settings (scheduled refl)),
+    unlisted Replay allowed (λ e. cc),
     unsized Replay allowed (λ e. cc),
   )
-  suited Lex allowed there scheduled sized =
-      (there refl, unscheduled Lex allowed (λ e. cc), unsized Lex allowed (λ e. cc))
-  suited Verify allowed there scheduled sized = (
+  suited Lex allowed there scheduled listed sized = (
+    there refl,
+    unscheduled Lex allowed (λ e. cc),
+    unlisted Lex allowed (λ e. cc),
+    unsized Lex allowed (λ e. cc),
+  )
+  suited Verify allowed there scheduled listed sized = (
     unseconded Verify allowed (λ e. cc),
-    unstaffed Verify allowed refl,
-    unseeded Verify allowed refl,
+    unstaffed Verify allowed (inl refl),
+    unseeded Verify allowed (inl refl),
     unscheduled Verify allowed (λ e. cc),
+    unlisted Verify allowed (λ e. cc),
     unsized Verify allowed (λ e. cc),
   )
-  suited Big allowed there scheduled sized = (
+  suited KBest allowed there scheduled listed sized = (
+    unseconded KBest allowed (λ e. cc),
+    unstaffed KBest allowed (inr refl),
+    unseeded KBest allowed (inr refl),
+    unscheduled KBest allowed (λ e. cc),
+    subst (λ o. IsSome o) (sym read.best) (some_trees read.settings (listed refl)),
+    unsized KBest allowed (λ e. cc),
+  )
+  suited Big allowed there scheduled listed sized = (
     unnamed Big allowed refl,
     unseconded Big allowed (λ e. cc),
     unscheduled Big allowed (λ e. cc),
+    unlisted Big allowed (λ e. cc),
     subst (λ o. IsSome o) (sym read.size) (some_size read.settings (sized refl)),
   )
-  suited mode allowed there scheduled sized =
-      (unseconded mode allowed (λ e. cc), unscheduled mode allowed (λ e. cc), unsized mode allowed (λ e. cc))
+  suited mode allowed there scheduled listed sized = (
+    unseconded mode allowed (λ e. cc),
+    unscheduled mode allowed (λ e. cc),
+    unlisted mode allowed (λ e. cc),
+    unsized mode allowed (λ e. cc),
+  )
 
 -- ---- the words of the whole line
 
@@ -688,8 +832,8 @@ no_option words place option value before odd e read refuses has =
 -- the words behind the mode are all read
 module _ (words : List (List ℕ)) (first : List ℕ) (mode : Mode) (state : OptionValues)
     (e : words ≡ first ∷ drop 1 words) (is : first ≡ mode_word mode) (read : AreRead (drop 1 words) state) where
-  all_read : Suits mode state → (workers seed size : ℕ) → workers ≡ unwrap_or state.workers 1
-      → seed ≡ unwrap_or state.seed 0 → size ≡ unwrap_or state.size 0
+  all_read : Suits mode state → (workers seed best size : ℕ) → workers ≡ unwrap_or state.workers 1
+      → seed ≡ unwrap_or state.seed 0 → best ≡ unwrap_or state.best 0 → size ≡ unwrap_or state.size 0
       → IsCommand words (record {
         mode = mode;
         algebra = state.algebra;
@@ -697,11 +841,14 @@ module _ (words : List (List ℕ)) (first : List ℕ) (mode : Mode) (state : Opt
         workers = workers;
         seed = seed;
         schedule = unwrap_or state.schedule [];
+        best = best;
         size = size;
       })
-  all_read suits workers seed size w s z =
+  all_read suits workers seed best size w s b z =
       let schedule_set_is : unwrap_or state.schedule [] ≡ schedule_set read.settings =
       ap (λ (o : Option (List ℕ)). unwrap_or o []) read.schedule ∙ schedule_is read.settings in
+      let best_set_is : best ≡ best_set read.settings =
+      b ∙ ap (λ (o : Option ℕ). unwrap_or o 0) read.best ∙ best_is read.settings in
       let size_set_is : size ≡ size_set read.settings =
       z ∙ ap (λ (o : Option ℕ). unwrap_or o 0) read.size ∙ size_is read.settings in
       record {
@@ -716,10 +863,13 @@ module _ (words : List (List ℕ)) (first : List ℕ) (mode : Mode) (state : Opt
         workers_are = w ∙ ap (λ (o : Option ℕ). unwrap_or o 1) read.workers ∙ workers_is read.settings;
         seed_is = s ∙ ap (λ (o : Option ℕ). unwrap_or o 0) read.seed ∙ seed_is read.settings;
         schedule_is = schedule_set_is;
+        best_is = best_set_is;
         size_is = size_set_is;
         paired = λ lex. suited_second (drop 1 words) state read mode suits lex;
         scheduled = λ replay. subst (λ (machines : List ℕ). 1 ≤ length machines) (sym schedule_set_is)
             (suited_scheduled (drop 1 words) state read mode suits replay);
+        listed = λ kbest. subst (λ (n : ℕ). 1 ≤ n) (sym best_set_is)
+            (suited_listed (drop 1 words) state read mode suits kbest);
         sized = λ big. subst (λ (n : ℕ). 1 ≤ n) (sym size_set_is)
             (suited_sized (drop 1 words) state read mode suits big);
       }
@@ -737,10 +887,12 @@ module _ (words : List (List ℕ)) (first : List ℕ) (mode : Mode) (state : Opt
       (subst (λ (ss : List Setting). All (Allows command.mode) ss) same h.allowed) in
       let second_by = h.second_is ∙ ap second_set same ∙ sym read.second in
       let scheduled_by = h.schedule_is ∙ ap schedule_set same in
+      let listed_by = h.best_is ∙ ap best_set same in
       let sized_by = h.size_is ∙ ap size_set same in
       refuses (suited (drop 1 words) state read mode allowed
       (λ lex. subst (λ o. IsSome o) second_by (h.paired (same_mode ∙ lex)))
       (λ replay. subst (λ (machines : List ℕ). 1 ≤ length machines) scheduled_by (h.scheduled (same_mode ∙ replay)))
+      (λ kbest. subst (λ (n : ℕ). 1 ≤ n) listed_by (h.listed (same_mode ∙ kbest)))
       (λ big. subst (λ (n : ℕ). 1 ≤ n) sized_by (h.sized (same_mode ∙ big))))
 
 module _ {A : Type 0} (f : A → List ℕ) where
@@ -801,8 +953,8 @@ module _ {A : Type 0} (f : A → List ℕ) where
         let one : place ≡ 1 = omega arith in
         subst B one read
 
-    pub finish : Suits mode state → (workers seed size : ℕ) → workers ≡ unwrap_or state.workers 1
-        → seed ≡ unwrap_or state.seed 0 → size ≡ unwrap_or state.size 0
+    pub finish : Suits mode state → (workers seed best size : ℕ) → workers ≡ unwrap_or state.workers 1
+        → seed ≡ unwrap_or state.seed 0 → best ≡ unwrap_or state.best 0 → size ≡ unwrap_or state.size 0
         → IsCommand (map f words) (record {
           mode = mode;
           algebra = state.algebra;
@@ -810,6 +962,7 @@ module _ {A : Type 0} (f : A → List ℕ) where
           workers = workers;
           seed = seed;
           schedule = unwrap_or state.schedule [];
+          best = best;
           size = size;
         })
     finish =

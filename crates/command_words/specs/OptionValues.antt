@@ -11,6 +11,7 @@ pub record OptionValues : Type 0 where
   pub workers : Option ℕ
   pub seed : Option ℕ
   pub schedule : Option (List ℕ)
+  pub best : Option ℕ
   pub size : Option ℕ
 
 abbrev pub values_of : Inside → OptionValues
@@ -20,5 +21,6 @@ values_of fields = record {
   workers = fields.workers;
   seed = fields.seed;
   schedule = option_map (λ text. machines_of text.now) fields.schedule;
+  best = fields.best;
   size = fields.size;
 }

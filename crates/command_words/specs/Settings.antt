@@ -2,8 +2,8 @@
 use Rattle.std.specs.Prelude.{◌≡◌, ℕ, ◌^◌, ◌<◌, ◌≤◌, List, Some, None, IsNone, IsSome, IsTrue}
 use Rattle.adp_model.specs.WellFormed.{is_name}
 use Rattle.verdicts.specs.declared.command.Mode.{Mode}
-use Rattle.verdicts.specs.declared.command.Mode.TheVariants.{Replay, Lex, Verify, Big}
-use Rattle.verdicts.specs.Command.{IsNumberWord, Setting, Algebra, Then, Workers, Seed, Schedule, Size, greatest_size, option_word}
+use Rattle.verdicts.specs.declared.command.Mode.TheVariants.{Replay, Lex, Verify, KBest, Big}
+use Rattle.verdicts.specs.Command.{IsNumberWord, Setting, Algebra, Then, Workers, Seed, Schedule, Trees, Size, greatest_size, most_trees, option_word}
 use Rattle.verdicts.specs.ScheduleText.{is_schedule, machines_of}
 use Rattle.command_words.specs.OptionValues.{OptionValues}
 
@@ -40,6 +40,14 @@ pub record AddsSchedule (before : OptionValues) (value : List ℕ) (after : Opti
   pub schedule : IsTrue (is_schedule value)
   pub set : after ≡ record before { schedule = Some (machines_of value) }
 
+-- the option is not set before, the value is a number of first trees, and then it is set
+pub record AddsTrees (before : OptionValues) (value : List ℕ) (best : ℕ) (after : OptionValues) : Type 0 where
+  pub free : before.best ≡ None
+  pub number : IsNumberWord value best
+  pub some : 1 ≤ best
+  pub few : best ≤ most_trees
+  pub set : after ≡ record before { best = Some best }
+
 -- the option is not set before, the value is a size of a word that is made, and then it is set
 pub record AddsSize (before : OptionValues) (value : List ℕ) (size : ℕ) (after : OptionValues) : Type 0 where
   pub free : before.size ≡ None
@@ -60,14 +68,18 @@ Adds before option value (Seed seed) after =
     (option ≡ option_word (Seed seed)) × AddsSeed before value seed after
 Adds before option value (Schedule machines) after =
     (option ≡ option_word (Schedule machines)) × (machines ≡ machines_of value) × AddsSchedule before value after
+Adds before option value (Trees best) after =
+    (option ≡ option_word (Trees best)) × AddsTrees before value best after
 Adds before option value (Size size) after =
     (option ≡ option_word (Size size)) × AddsSize before value size after
 
 -- the options that are set are those that the mode allows, and those that it needs are among them
 abbrev pub Suits : Mode → OptionValues → Type 0
-Suits Replay set = IsNone set.second × IsSome set.schedule × IsNone set.size
-Suits Lex set = IsSome set.second × IsNone set.schedule × IsNone set.size
+Suits Replay set = IsNone set.second × IsSome set.schedule × IsNone set.best × IsNone set.size
+Suits Lex set = IsSome set.second × IsNone set.schedule × IsNone set.best × IsNone set.size
 Suits Verify set =
-    IsNone set.second × IsNone set.workers × IsNone set.seed × IsNone set.schedule × IsNone set.size
-Suits Big set = IsNone set.algebra × IsNone set.second × IsNone set.schedule × IsSome set.size
-Suits mode set = IsNone set.second × IsNone set.schedule × IsNone set.size
+    IsNone set.second × IsNone set.workers × IsNone set.seed × IsNone set.schedule × IsNone set.best × IsNone set.size
+Suits KBest set =
+    IsNone set.second × IsNone set.workers × IsNone set.seed × IsNone set.schedule × IsSome set.best × IsNone set.size
+Suits Big set = IsNone set.algebra × IsNone set.second × IsNone set.schedule × IsNone set.best × IsSome set.size
+Suits mode set = IsNone set.second × IsNone set.schedule × IsNone set.best × IsNone set.size

@@ -4,7 +4,7 @@ ghost use Rattle.std.specs.Str.Parse.{IsNumeral, digits_value};
 ghost use Rattle.verdicts.specs.declared.command.Mode.{Mode as AnyMode};
 ghost use Rattle.verdicts.specs.Command.{HasCommand, IsCommand, Setting, mode_word};
 ghost use Rattle.command_words.specs.OptionValues.{OptionValues};
-ghost use Rattle.command_words.specs.Settings.{Adds, AddsAlgebra, AddsSchedule, AddsSecond, AddsSeed, AddsSize, AddsWorkers, Suits};
+ghost use Rattle.command_words.specs.Settings.{Adds, AddsAlgebra, AddsSchedule, AddsSecond, AddsSeed, AddsSize, AddsTrees, AddsWorkers, Suits};
 
 use crate::schedule::is_schedule;
 use adp_model::is_name;
@@ -14,6 +14,9 @@ use verdicts::{Command, Mode};
 
 /// The most workers.
 const MOST_WORKERS: u64 = 32;
+
+/// The most first trees of a word.
+const MOST_TREES: u64 = 64;
 
 /// The greatest size of a word that is made.
 const GREATEST_SIZE: u64 = 2046;
@@ -40,6 +43,7 @@ pub fn read_words<'w>(words: &'w [String]) -> Result<Command<'w>, Usage>
         workers: None,
         seed: None,
         schedule: None,
+        best: None,
         size: None,
     };
     let mut place = words.len();
@@ -57,6 +61,7 @@ pub fn read_words<'w>(words: &'w [String]) -> Result<Command<'w>, Usage>
         workers: set.workers.unwrap_or(1),
         seed: set.seed.unwrap_or(0),
         schedule: set.schedule,
+        best: set.best.unwrap_or(0),
         size: set.size.unwrap_or(0),
     })
 }
@@ -73,6 +78,7 @@ fn read_mode(word: &str) -> Result<Mode, Usage>
         "lex" => Ok(Mode::Lex),
         "cert" => Ok(Mode::Cert),
         "verify" => Ok(Mode::Verify),
+        "kbest" => Ok(Mode::KBest),
         "big" => Ok(Mode::Big),
         _ => Err(Usage),
     }
@@ -86,6 +92,7 @@ struct Settings<'w> {
     workers: Option<u32>,
     seed: Option<u64>,
     schedule: Option<&'w str>,
+    best: Option<u32>,
     size: Option<u32>,
 }
 
@@ -111,6 +118,7 @@ impl<'w> Settings<'w> {
             "--workers" => self.add_workers(value),
             "--seed" => self.add_seed(value),
             "--schedule" => self.add_schedule(value),
+            "--best" => self.add_best(value),
             "--size" => self.add_size(value),
             _ => Err(Usage),
         }
@@ -183,6 +191,20 @@ impl<'w> Settings<'w> {
         })
     }
 
+    fn add_best(self, value: &'w str) -> Result<Settings<'w>, Usage>
+        ensures added { IfOk result (λ after. (best : ℕ) × AddsTrees self.entry value.now best after) }
+        ensures refused { OnErr result ((best : ℕ) (after : OptionValues)
+            → AddsTrees self.entry value.now best after → ⊥) }
+    {
+        match number(value) {
+            Some(best @ 1..=MOST_TREES) if self.best.is_none() => Ok(Settings {
+                best: Some(best as u32),
+                ..self
+            }),
+            _ => Err(Usage),
+        }
+    }
+
     fn add_size(self, value: &'w str) -> Result<Settings<'w>, Usage>
         ensures added { IfOk result (λ after. (size : ℕ) × AddsSize self.entry value.now size after) }
         ensures refused { OnErr result ((size : ℕ) (after : OptionValues)
@@ -203,23 +225,44 @@ impl<'w> Settings<'w> {
     {
         match mode {
             Mode::Best | Mode::Serial | Mode::Wins | Mode::Cert => {
-                self.second.is_none() && self.schedule.is_none() && self.size.is_none()
+                self.second.is_none()
+                    && self.schedule.is_none()
+                    && self.best.is_none()
+                    && self.size.is_none()
             }
             Mode::Replay => {
-                self.second.is_none() && self.schedule.is_some() && self.size.is_none()
+                self.second.is_none()
+                    && self.schedule.is_some()
+                    && self.best.is_none()
+                    && self.size.is_none()
             }
-            Mode::Lex => self.second.is_some() && self.schedule.is_none() && self.size.is_none(),
+            Mode::Lex => {
+                self.second.is_some()
+                    && self.schedule.is_none()
+                    && self.best.is_none()
+                    && self.size.is_none()
+            }
             Mode::Verify => {
                 self.second.is_none()
                     && self.workers.is_none()
                     && self.seed.is_none()
                     && self.schedule.is_none()
+                    && self.best.is_none()
+                    && self.size.is_none()
+            }
+            Mode::KBest => {
+                self.second.is_none()
+                    && self.workers.is_none()
+                    && self.seed.is_none()
+                    && self.schedule.is_none()
+                    && self.best.is_some()
                     && self.size.is_none()
             }
             Mode::Big => {
                 self.algebra.is_none()
                     && self.second.is_none()
                     && self.schedule.is_none()
+                    && self.best.is_none()
                     && self.size.is_some()
             }
         }

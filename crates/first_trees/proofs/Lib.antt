@@ -13,3 +13,6 @@ pub mod Ends
 pub mod Ranked
 pub mod Lowered
 pub mod Reported
+pub mod LimitsKept
+pub mod Mapped
+pub mod Erased

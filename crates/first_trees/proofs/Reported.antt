@@ -4,9 +4,9 @@ use Rattle.adp_model.specs.PosedProblem.{PosedProblem, axiom_cell}
 use Rattle.adp_model.specs.Tree.{Tree}
 use Rattle.adp_model.specs.Preference.{IsPreferred}
 use Rattle.adp_model.specs.Answers.{HasNoTree}
-use Rattle.adp_model.specs.Report.{line, tree_lines}
+use Rattle.adp_model.specs.Report.{IsReport, line, tree_lines}
 use Rattle.first_trees.specs.FirstTrees.{AreFirst}
-use Rattle.first_trees.specs.ListReport.{lines_of, IsListReport, IsPreferredReport}
+use Rattle.first_trees.specs.ListReport.{lines_of, IsListReport, IsPreferredReport, TellOneCandidate}
 
 -- the report of these trees
 abbrev pub report_of : ℕ → PosedProblem → List Tree → List ℕ
@@ -46,3 +46,30 @@ module _ (p : PosedProblem)
 
   pub preferred_reported : IsListReport number p 1 report ↔ IsPreferredReport number p report
   preferred_reported = ((λ listed. there listed.0 listed.1 listed.2), back)
+
+-- the answer of the word and its one first tree are one
+pub answer_told : (p : PosedProblem) → ((t u : Tree) → IsPreferred p (axiom_cell p) t → IsPreferred p (axiom_cell p) u → t ≡ u)
+    → (number : ℕ) (report listed : List ℕ) → IsReport number p report → IsPreferredReport number p listed
+    → TellOneCandidate number p report listed
+answer_told p one number report listed (answer, count, inl (tree, preferred, text), counted, told) (inl (other, best, same)) = (
+  count,
+  inl (
+    tree,
+    preferred,
+    told ∙ ap (λ lines. line (codes "word " ++ decimal number) ++ lines ++ line (codes "cells " ++ decimal count)) text,
+    same ∙ ap (λ (it : Tree). line (codes "word " ++ decimal number) ++ tree_lines p it ++ line (codes "listed " ++ decimal 1))
+        (one other tree best preferred),
+  ),
+)
+answer_told p one number report listed (answer, count, inl (tree, preferred, text), counted, told) (inr (none, same)) =
+    absurd (none tree preferred.derived)
+answer_told p one number report listed (answer, count, inr (none, text), counted, told) (inl (tree, preferred, same)) =
+    absurd (none tree preferred.derived)
+answer_told p one number report listed (answer, count, inr (none, text), counted, told) (inr (none', same)) = (
+  count,
+  inr (
+    none,
+    told ∙ ap (λ lines. line (codes "word " ++ decimal number) ++ lines ++ line (codes "cells " ++ decimal count)) text,
+    same,
+  ),
+)

@@ -27,3 +27,14 @@ IsPreferredReport number p report =
     × (report ≡ line (codes "word " ++ decimal number) ++ tree_lines p tree ++ line (codes "listed " ++ decimal 1)))
     ⊎ (HasNoTree p (axiom_cell p)
     × (report ≡ line (codes "word " ++ decimal number) ++ line (codes "listed " ++ decimal 0)))
+
+-- the report of the word's answer, and that of one first candidate: the lines of score and tree are the same, those of the
+-- preferred candidate; or there is none, and the one says so and the other has no such lines
+abbrev pub TellOneCandidate : ℕ → PosedProblem → List ℕ → List ℕ → Type 0
+TellOneCandidate number p report listed =
+    (cells : ℕ) × (((tree : Tree) × IsPreferred p (axiom_cell p) tree
+    × (report ≡ line (codes "word " ++ decimal number) ++ tree_lines p tree ++ line (codes "cells " ++ decimal cells))
+    × (listed ≡ line (codes "word " ++ decimal number) ++ tree_lines p tree ++ line (codes "listed " ++ decimal 1)))
+    ⊎ (HasNoTree p (axiom_cell p)
+    × (report ≡ line (codes "word " ++ decimal number) ++ line (codes "none") ++ line (codes "cells " ++ decimal cells))
+    × (listed ≡ line (codes "word " ++ decimal number) ++ line (codes "listed " ++ decimal 0))))

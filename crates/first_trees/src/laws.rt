@@ -15,15 +15,16 @@ ghost use Rattle.adp_model.specs.ProblemFields.{IsAdmissible, most_letters};
 ghost use Rattle.adp_model.specs.Bounds.{IsScoreBound};
 ghost use Rattle.adp_model.specs.Terms.{magnitude};
 ghost use Rattle.adp_model.specs.WellFormed.{is_well_formed};
+ghost use Rattle.adp_model.specs.Report.{IsReport};
 ghost use Rattle.first_trees.specs.FirstTrees.{AreFirst, HasPlace};
-ghost use Rattle.first_trees.specs.ListReport.{IsListReport, IsPreferredReport};
+ghost use Rattle.first_trees.specs.ListReport.{IsListReport, IsPreferredReport, TellOneCandidate};
 ghost use Rattle.first_trees.specs.Entries.{AreEntries, choices_up_to, Entry, EntryPrecedes, IsEntry};
 ghost use Rattle.first_trees.specs.RankedSplits.{AreFirstSplits, IsRankedSplit};
 
 use adp_model::laws::bounds::words_keep_their_score_bound;
 use adp_model::laws::derivation::children_are_placed;
 use adp_model::laws::heights::heights_fall;
-use adp_model::laws::order::preference_is_a_strict_total_order;
+use adp_model::laws::order::{preference_is_a_strict_total_order, preferred_tree_is_unique};
 use adp_model::laws::sizes::derived_lengths_are_within_sizes;
 use adp_model::laws::terms::scores_are_not_negative;
 use adp_model::laws::well_formed::{alternatives_fit, arguments_are_few_and_known};
@@ -188,4 +189,13 @@ pub fn words_have_one_list_report()
     cells_have_first_trees();
     first_trees_are_unique();
     first_tree_is_the_preferred_tree();
+}
+
+/// Where one first tree is asked for, score and tree are those of the word's answer.
+pub fn one_first_tree_is_the_answer()
+    ensures { (number : ℕ) (p : PosedProblem) → IsTrue (is_well_formed p.grammar) → (report listed : List ℕ)
+        → IsReport number p report → IsListReport number p 1 listed → TellOneCandidate number p report listed }
+{
+    preferred_tree_is_unique();
+    words_have_one_list_report();
 }

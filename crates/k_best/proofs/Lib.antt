@@ -6,3 +6,6 @@ pub mod Meeting
 pub mod Rows
 pub mod Walking
 pub mod Fills
+pub mod Unlisted
+pub mod AtPlaces
+pub mod Reporting

@@ -1,7 +1,7 @@
 pub mod Settled
 pub mod ListTables
-pub mod ListLimits
 pub mod ListsOf
+pub mod ListedNodes
 pub mod ListsFields
 pub mod Chosen
 pub mod RankedRows

@@ -1,7 +1,7 @@
 ghost use Rattle.std.specs.Prelude.{◌≤◌, MatchResult, length};
 ghost use Rattle.adp_model.specs.Bounds.{IsNodeBound};
 ghost use Rattle.adp_model.specs.ProblemFields.{most_nodes};
-ghost use Rattle.k_best.specs.ListLimits.{IsListLimitFault, KeepsListLimits, most_first_trees};
+ghost use Rattle.first_trees.specs.ListLimits.{IsListLimitFault, KeepsListLimits, most_first_trees};
 
 use adp_model::{LimitFault, Problem};
 
@@ -18,7 +18,8 @@ pub fn admit_lists(problem: &Problem<'_>, nodes: u64, k: u32) -> Result<(), Limi
     requires few_trees { k ≤ most_first_trees }
     requires node_bound { IsNodeBound problem.now.grammar (length problem.now.word) nodes }
     requires few_nodes { nodes ≤ most_nodes }
-    ensures { MatchResult result (λ _. KeepsListLimits problem.now k) (IsListLimitFault problem.now k) }
+    ensures { MatchResult result (λ _. KeepsListLimits problem.now.grammar (length problem.now.word) k)
+        (IsListLimitFault problem.now.grammar (length problem.now.word) k) }
 {
     let entries = problem.cells * u64::from(k);
     if entries > MOST_LISTED {

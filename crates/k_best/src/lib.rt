@@ -7,10 +7,13 @@ mod chosen;
 mod entry;
 mod filling;
 mod list_table;
+mod listed_trees;
 mod listing;
 mod lists;
+mod reports;
 mod split_ranks;
 
 pub use admission::admit_lists;
 pub use entry::Entry;
 pub use lists::{Lists, solve_lists};
+pub use reports::{first_trees_report, list_report};

@@ -1,7 +1,7 @@
 ghost use Rattle.std.specs.Prelude.{◌≡◌, ◌≤◌, IfOk, IfSome, IsSome};
 ghost use Rattle.adp_model.specs.Demand.{IsDemanded};
 ghost use Rattle.first_trees.specs.Entries.{AreEntries};
-ghost use Rattle.k_best.specs.ListLimits.{most_first_trees};
+ghost use Rattle.first_trees.specs.ListLimits.{most_first_trees};
 
 use crate::entry::Entry;
 use crate::filling::filled_lists;

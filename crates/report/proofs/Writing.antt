@@ -298,15 +298,13 @@ first_taken p placed_so written pieces piece nodes none whole is unwritten =
 
 -- ---- the whole tree
 
-pub begun : (p : PosedProblem) (written : List ℕ) (pieces : List Piece) (nodes : List NodeAt) → pieces ≡ Subtree ∷ [] → AreBestNodes p nodes
-    → (tree : Tree) × IsPreferred p (axiom_cell p) tree × Unwritten p written pieces nodes (written ++ tree_text p tree)
-begun p written pieces nodes is (tree, preferred, nodes_are) = (
-  tree,
-  preferred,
-  subst (λ x. Unwritten p written x nodes (written ++ tree_text p tree)) (sym is) (record {
-    rest = tree_text p tree;
-    waiting = subst (λ x. Waiting p (Subtree ∷ []) x (tree_text p tree)) (sym nodes_are)
-        (alone p Subtree (nodes_of tree) (tree_text p tree) (axiom_cell p, tree, preferred.derived, refl, refl));
-    whole_is = refl;
-  }),
-)
+pub begun : (p : PosedProblem) (written : List ℕ) (pieces : List Piece) (nodes : List NodeAt) → pieces ≡ Subtree ∷ []
+    → (cell : Cell) (tree : Tree) → Derives p cell tree → nodes ≡ nodes_of tree
+    → Unwritten p written pieces nodes (written ++ tree_text p tree)
+begun p written pieces nodes is cell tree derived nodes_are =
+    subst (λ x. Unwritten p written x nodes (written ++ tree_text p tree)) (sym is) (record {
+      rest = tree_text p tree;
+      waiting = subst (λ x. Waiting p (Subtree ∷ []) x (tree_text p tree)) (sym nodes_are)
+          (alone p Subtree (nodes_of tree) (tree_text p tree) (cell, tree, derived, refl, refl));
+      whole_is = refl;
+    })

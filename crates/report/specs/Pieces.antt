@@ -68,6 +68,10 @@ abbrev pub pieces_behind : PosedProblem → NodeAt → List Piece
 pieces_behind p node =
     Mark closing_bracket ∷ child_pieces (placed p node.cell node.choice.alt node.choice.cuts)
 
+-- the nodes of a tree of some cell
+abbrev pub AreTreeNodes : PosedProblem → List NodeAt → Type 0
+AreTreeNodes p nodes = (cell : Cell) × (tree : Tree) × Derives p cell tree × (nodes ≡ nodes_of tree)
+
 -- the nodes of the preferred tree of the whole word
 abbrev pub AreBestNodes : PosedProblem → List NodeAt → Type 0
 AreBestNodes p nodes = (tree : Tree) × IsPreferred p (axiom_cell p) tree × (nodes ≡ nodes_of tree)

@@ -6,11 +6,7 @@ use adp_model::push_decimal;
 use std::alloc::AllocError;
 
 // Appends a line with a word and a number.
-pub(crate) fn push_number_line(
-    out: &mut Vec<u8>,
-    word: &[u8],
-    number: u64,
-) -> Result<(), AllocError>
+pub fn push_number_line(out: &mut Vec<u8>, word: &[u8], number: u64) -> Result<(), AllocError>
     ensures { OnOk result (out.new.items ≡ out.old.items ++ line (word.now ++ decimal number)) }
 {
     out.extend_from_slice(word)?;

@@ -5,7 +5,12 @@ ghost use Rattle.adp_model.specs.PosedProblem.{IsSpan};
 ghost use Rattle.adp_model.specs.Parts.{alternatives_of, alternative_at};
 ghost use Rattle.adp_model.specs.Splits.{place};
 ghost use Rattle.adp_model.specs.Tokens.{letters_between};
-ghost use Rattle.report.specs.Pieces.{AreBestNodes, IsBestText, Unwritten, Waiting, child_pieces, comma_before, head_text, piece_of, pieces_behind};
+ghost use Rattle.adp_model.specs.declared.cell.Cell.{Cell};
+ghost use Rattle.adp_model.specs.Derivation.{Derives};
+ghost use Rattle.adp_model.specs.Tree.{Tree};
+ghost use Rattle.adp_model.specs.TreeText.{tree_text};
+ghost use Rattle.traceback.specs.Preorder.{nodes_of};
+ghost use Rattle.report.specs.Pieces.{AreBestNodes, AreTreeNodes, IsBestText, Unwritten, Waiting, child_pieces, comma_before, head_text, piece_of, pieces_behind};
 
 use adp_model::laws::derivation::children_are_placed;
 use adp_model::laws::well_formed::arguments_are_few_and_known;
@@ -24,8 +29,7 @@ pub(crate) enum Piece {
     Subtree,
 }
 
-// Appends the text of the preferred tree of the whole word, whose nodes these are. Takes memory for the text, and for
-// at most eight pieces a node on the way down.
+// Appends the text of the preferred tree of the whole word, whose nodes these are. Takes memory as `push_nodes` does.
 pub(crate) fn push_tree(
     alloc: Global,
     out: &mut Vec<u8>,
@@ -34,6 +38,25 @@ pub(crate) fn push_tree(
 ) -> Result<(), AllocError>
     requires { AreBestNodes problem.now nodes.now }
     ensures { OnOk result ((text : List ℕ) × IsBestText problem.now text × (out.new.items ≡ out.old.items ++ text)) }
+{
+    push_nodes(alloc, out, problem, nodes)
+}
+
+/// Appends the text of the tree of a cell whose nodes these are, in preorder. Takes memory for the text, and for at
+/// most eight pieces a node on the way down.
+///
+/// # Errors
+///
+/// Where there is no memory.
+pub fn push_nodes(
+    alloc: Global,
+    out: &mut Vec<u8>,
+    problem: &Problem<'_>,
+    nodes: &[NodeAt],
+) -> Result<(), AllocError>
+    requires { AreTreeNodes problem.now nodes.now }
+    ensures { OnOk result ((cell : Cell) (tree : Tree) → Derives problem.now cell tree → nodes.now ≡ nodes_of tree
+        → out.new.items ≡ out.old.items ++ tree_text problem.now tree) }
 {
     let mut pieces = vec![in alloc; Piece::Subtree]?;
     let mut rest = nodes;

@@ -9,7 +9,7 @@ use Rattle.adp_model.specs.Checks.{IsChecked}
 use Rattle.adp_model.specs.GrammarFaults.{IsFaultless}
 use Rattle.adp_model.specs.Parts.{algebra_at}
 use Rattle.adp_model.specs.PosedProblem.{PosedProblem}
-use Rattle.adp_model.specs.ProblemFields.{IsAdmissible}
+use Rattle.adp_model.specs.ProblemFields.{IsAdmissible, KeepsLimits}
 use Rattle.adp_model.specs.Report.{line}
 use Rattle.adp_model.specs.declared.grammar.Grammar.{Grammar}
 use Rattle.adp_model.specs.declared.job.Job.{Job}
@@ -20,15 +20,16 @@ use Rattle.table_certificate.specs.LocalCertificate.{IsLocallyRight}
 use Rattle.table_certificate.specs.Verified.{posed_problems}
 use Rattle.table_certificate.specs.WrittenCertificate.{AreCertificates, IsCertifiedJob, IsWritten}
 use Rattle.verdicts.specs.declared.command.Mode.{Mode}
-use Rattle.verdicts.specs.declared.command.Mode.TheVariants.{Lex, Cert, Verify, Big}
+use Rattle.verdicts.specs.declared.command.Mode.TheVariants.{Lex, Cert, Verify, KBest, Big}
 use Rattle.verdicts.specs.Certificates.{before_block, behind_blocks, behind_reports, IsBlockReport, IsRightFor}
 use Rattle.verdicts.specs.CheckableJobs.{IsCheckableInput}
 use Rattle.verdicts.specs.Command.{Command, IsCommand, ReadsJob, AsksToVerify}
 use Rattle.verdicts.specs.Posed.{posed_word, posed_words}
-use Rattle.verdicts.specs.SecondAlgebra.{IsAdmissibleWith, MakesPairWith}
+use Rattle.verdicts.specs.SecondAlgebra.{IsAdmissibleWith, KeepsLimitsWith, MakesPairWith}
 use Rattle.verdicts.specs.WordReport.{HidesAlternatives}
-use Rattle.verdicts.specs.Verdict.{AreReports, AskForReports, AsksUnder, AsksWithin, greatest_length, IsReportIn, IsReportWith, IsVerdict, KeepLimits, Reports}
-use Rattle.verdicts.proofs.OneVerdict.{command_unique, no_second, some_workers}
+use Rattle.verdicts.specs.Verdict.{AreReports, AskForReports, AsksUnder, AsksWithin, greatest_length, IsReportIn, IsReportWith, IsVerdict, Reports}
+use Rattle.verdicts.specs.WordLimits.{KeepLimits}
+use Rattle.verdicts.proofs.OneVerdict.{command_unique, no_second, no_trees, some_workers}
 
 -- what is known of certificates and reports
 pub record AcceptLaws : Type 0 where
@@ -55,7 +56,7 @@ module _ (command : Command) (certifies : command.mode ≡ Cert) (hidden : Optio
   block_of : (number : ℕ) (word report : List ℕ) → IsReportIn command hidden number (posed_word grammar algebra word) report
       → IsBlockReport number (posed_word grammar algebra word) report
   block_of number word report (wins, each, is) =
-      subst (λ mode. IsReportWith mode command.second hidden number (posed_word grammar algebra word) wins report) certifies is
+      subst (λ mode. IsReportWith mode command hidden number (posed_word grammar algebra word) wins report) certifies is
 
   blocks_from : (number : ℕ) → 2 ≤ number → (words reports : List (List ℕ))
       → AreReports command hidden grammar algebra number words reports
@@ -100,9 +101,34 @@ module _ (command : Command) (certifies : command.mode ≡ Cert) (hidden : Optio
 
 -- ---- the words of the job
 
+-- all of these words keep the limits of their own algebra
+abbrev KeepOwn : Grammar → ℕ → List (List ℕ) → Type 0
+KeepOwn grammar algebra [] = Unit {0}
+KeepOwn grammar algebra (word ∷ words) = KeepsLimits grammar algebra (length word) × KeepOwn grammar algebra words
+
+own_of : (command : Command) → command.second ≡ None → (grammar : Grammar) (algebra : ℕ) (words : List (List ℕ))
+    → KeepLimits command grammar algebra words → KeepOwn grammar algebra words
+own_of command single grammar algebra [] kept = tt
+own_of command single grammar algebra (word ∷ words) (first, others) = (
+  subst (λ second. KeepsLimitsWith second grammar algebra (length word)) single first.0,
+  own_of command single grammar algebra words others,
+)
+
+-- they keep those of a command that asks for no second algebra and no first candidates
+of_own : (command : Command) → command.second ≡ None → command.best ≡ 0 → (grammar : Grammar) (algebra : ℕ)
+    (words : List (List ℕ)) → KeepOwn grammar algebra words → KeepLimits command grammar algebra words
+of_own command single unlisted grammar algebra [] kept = tt
+of_own command single unlisted grammar algebra (word ∷ words) (first, others) = (
+  (
+    subst (λ second. KeepsLimitsWith second grammar algebra (length word)) (sym single) first,
+    λ some. absurd (omega (arith, unlisted, some)),
+  ),
+  of_own command single unlisted grammar algebra words others,
+)
+
 module _ (grammar : Grammar) (algebra : ℕ) (least : List ℕ) (greatest : List (Option ℕ)) (ranks : List ℕ)
     (checked : IsChecked grammar algebra least greatest ranks) where
-  all_admissible : (words : List (List ℕ)) → KeepLimits None grammar algebra words
+  all_admissible : (words : List (List ℕ)) → KeepOwn grammar algebra words
       → All IsAdmissible (posed_words grammar algebra words)
   all_admissible [] kept = All-nil IsAdmissible
   all_admissible (word ∷ words) kept =
@@ -112,7 +138,7 @@ module _ (grammar : Grammar) (algebra : ℕ) (least : List ℕ) (greatest : List
 
   scores_there : AcceptLaws → (command : Command) → ReadsJob command.mode → (command.mode ≡ Lex → IsSome command.second)
       → 1 ≤ command.workers → command.second ≡ None → (hidden : Option ℕ) → HidesAlternatives hidden grammar
-      → (number : ℕ) (words : List (List ℕ)) → KeepLimits None grammar algebra words
+      → (number : ℕ) (words : List (List ℕ)) → KeepOwn grammar algebra words
       → (reports : List (List ℕ)) × AreReports command hidden grammar algebra number words reports
   scores_there laws command reads paired some alone hidden hides number [] kept = ([], tt)
   scores_there laws command reads paired some alone hidden hides number (word ∷ words) kept =
@@ -137,6 +163,9 @@ module _ (laws : AcceptLaws) (words others : List (List ℕ)) (bytes : List ℕ)
   alone : other.second ≡ None
   alone = none_is other.second (no_second others other other_is (λ lex. (let e = sym verifies ∙ lex in cc)))
 
+  unlisted : other.best ≡ 0
+  unlisted = no_trees others other other_is (λ kbest. (let e = sym verifies ∙ kbest in cc))
+
   no_verify : AsksToVerify words → ⊥
   no_verify (found, found_is, verified) =
       let e = sym (ap (λ (c : Command). c.mode) (command_unique words found command found_is is) ∙ certifies) ∙ verified in cc
@@ -149,8 +178,8 @@ module _ (laws : AcceptLaws) (words others : List (List ℕ)) (bytes : List ℕ)
       let single : asked.command.second ≡ None =
       none_is asked.command.second
       (no_second words asked.command asked.asks.is_command (λ lex. (let e = sym mode ∙ lex in cc))) in
-      let limits : KeepLimits None job.grammar algebra job.words =
-      subst (λ second. KeepLimits second job.grammar algebra job.words) single kept in
+      let limits : KeepOwn job.grammar algebra job.words =
+      own_of asked.command single job.grammar algebra job.words kept in
       let found = checks bytes (inl (no_verify, refl)) job algebra asked in
       let whole : concat pieces ≡ concat (reports ++ behind_blocks (length job.words) bytes) =
       ap concat (pieces_are ∙ ap (λ m. reports ++ behind_reports m (length job.words) bytes) mode) in
@@ -192,7 +221,7 @@ module _ (laws : AcceptLaws) (words others : List (List ℕ)) (bytes : List ℕ)
         job = job;
         algebra = algebra;
         asked = under;
-        limits = subst (λ second. KeepLimits second job.grammar algebra job.words) (sym alone) limits;
+        limits = of_own other alone unlisted job.grammar algebra job.words limits;
       } in
       let scores = scores_there job.grammar algebra found.0 found.1 found.2 found.3 laws other reads other_is.paired
       (some_workers others other other_is) alone (hidden_in bytes) (laws.hides bytes job asked.asks.is_text) 1 job.words

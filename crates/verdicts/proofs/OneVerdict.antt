@@ -16,8 +16,8 @@ use Rattle.adp_model.specs.declared.fault.LimitFault.{LimitFault}
 use Rattle.adp_model.specs.Parts.{sign_at}
 use Rattle.adp_model.specs.WellFormed.{are_distinct, is_well_formed, counts_fit, names_differ, parts_fit}
 use Rattle.verdicts.specs.declared.command.Mode.{Mode}
-use Rattle.verdicts.specs.declared.command.Mode.TheVariants.{Best, Serial, Wins, Replay, Lex, Cert, Verify, Big}
-use Rattle.verdicts.specs.Command.{mode_word, Setting, Algebra as ByAlgebra, Then, Workers, Seed, Schedule, Size, option_word, IsValue, AreSettings, Allows, algebra_set, second_set, workers_set, seed_set, schedule_set, size_set, greatest_size, Command, IsCommand, HasCommand, ReadsJob, ShowsWins, AsksForJob}
+use Rattle.verdicts.specs.declared.command.Mode.TheVariants.{Best, Serial, Wins, Replay, Lex, Cert, Verify, KBest, Big}
+use Rattle.verdicts.specs.Command.{mode_word, Setting, Algebra as ByAlgebra, Then, Workers, Seed, Schedule, Trees, Size, option_word, IsValue, AreSettings, Allows, algebra_set, second_set, workers_set, seed_set, schedule_set, best_set, size_set, greatest_size, most_trees, Command, IsCommand, HasCommand, ReadsJob, ShowsWins, AsksForJob}
 use Rattle.nested_jobs.specs.NestedJob.{IsNestedFault, IsNestedText, hidden_in}
 use Rattle.adp_model.specs.Lengths.{IsProductive}
 use Rattle.adp_model.specs.Loops.{IsOnLoop}
@@ -27,10 +27,13 @@ use Rattle.lex_product.specs.PairFaults.{BothAddScores, HasOtherFactor, IsPairFa
 use Rattle.lex_product.specs.PairLimits.{IsCheckedPair, IsPairAdmissible, IsPairLimitFault, KeepsPairLimits}
 use Rattle.lex_product.specs.PairReport.{IsPairReport}
 use Rattle.verdicts.specs.SecondAlgebra.{IsAdmissibleWith, IsFaultWith, IsLimitWith, IsSecond, KeepsLimitsWith, MakesPairWith}
+use Rattle.verdicts.specs.WordLimits.{IsFirstLimit, IsLimitIn, KeepLimits, KeepsLimitsIn}
+use Rattle.first_trees.specs.ListLimits.{IsListLimitFault, KeepsListLimits}
+use Rattle.first_trees.specs.ListReport.{IsListReport}
 use Rattle.adp_model.specs.Checks.{IsChecked}
 use Rattle.verdicts.specs.CheckableJobs.{AreCheckable}
 use Rattle.adp_model.specs.PosedProblem.{PosedProblem}
-use Rattle.verdicts.specs.Verdict.{AsksFor, AsksUnder, asked_name, greatest_length, KeepLimits, IsFirstLimit, AreReports, Verdict, Usage, TooLong, Text, Grammar as OfGrammar, Limit, Rejected, Reports, AskForReports, AskForBigReport, AreOfWins, AsksWithin, IsLimit, IsReports, IsJobVerdict}
+use Rattle.verdicts.specs.Verdict.{AsksFor, AsksUnder, asked_name, greatest_length, AreReports, Verdict, Usage, TooLong, Text, Grammar as OfGrammar, Limit, Rejected, Reports, AskForReports, AskForBigReport, AreOfWins, AsksWithin, IsLimit, IsReports, IsJobVerdict}
 use Rattle.std.specs.Cmp.{first_so, second_so}
 use Rattle.adp_model.specs.LimitFaults.{IsLimitFault}
 use Rattle.adp_model.specs.ProblemFields.{KeepsLimits}
@@ -57,8 +60,8 @@ pub record ModelLaws : Type 0 where
       → HidesAlternatives (hidden_in bytes) job.grammar
   pub plain : (p : PosedProblem) (least : List ℕ) (greatest : List (Option ℕ)) (ranks : List ℕ)
       → IsChecked p.grammar p.algebra least greatest ranks → (hidden : Option ℕ) → HidesAlternatives hidden p.grammar
-      → (mode : Mode) (second : Option (List ℕ)) (number : ℕ) (wins report : List ℕ)
-      → IsReportWith mode second None number p wins report ↔ IsReportWith mode second hidden number p wins report
+      → (mode : Mode) (command : Command) (number : ℕ) (wins report : List ℕ)
+      → IsReportWith mode command None number p wins report ↔ IsReportWith mode command hidden number p wins report
   pub one_report : (number : ℕ) (p : PosedProblem) (a b : List ℕ) → IsTrue (is_well_formed p.grammar)
       → IsReport number p a → IsReport number p b → a ≡ b
   pub one_made : (seed size : ℕ) (a b : List ℕ) → IsBigReport seed size a → IsBigReport seed size b → a ≡ b
@@ -80,18 +83,29 @@ pub record ModelLaws : Type 0 where
       → a ≡ b
   pub one_score : (number : ℕ) (p : PosedProblem) (a b : List ℕ) → IsScoreReport number p a → IsScoreReport number p b
       → a ≡ b
+  pub one_list : (number : ℕ) (p : PosedProblem) (k : ℕ) (a b : List ℕ) → IsListReport number p k a
+      → IsListReport number p k b → a ≡ b
+  pub lists_kept : (grammar : Grammar) (algebra : ℕ) (least : List ℕ) (greatest : List (Option ℕ)) (ranks : List ℕ)
+      → IsChecked grammar algebra least greatest ranks → (len k : ℕ) (fault : LimitFault)
+      → KeepsListLimits grammar len k → IsListLimitFault grammar len k fault → ⊥
+  pub one_list_limit : (grammar : Grammar) (algebra : ℕ) (least : List ℕ) (greatest : List (Option ℕ))
+      (ranks : List ℕ) → IsChecked grammar algebra least greatest ranks → (len k : ℕ) (a b : LimitFault)
+      → IsListLimitFault grammar len k a → IsListLimitFault grammar len k b → a ≡ b
+  pub some_listed : (grammar : Grammar) (len k : ℕ) (fault : LimitFault) → IsListLimitFault grammar len k fault → 1 ≤ k
 
 -- ---- the command
 
--- the words of two options differ at their fourth letter
+-- the words of two options differ at their third letter or at their fourth
 setting_unique : (value : List ℕ) (a b : Setting) → option_word a ≡ option_word b → IsValue value a → IsValue value b → a ≡ b
 setting_unique value (ByAlgebra m) (ByAlgebra n) e v w = ap ByAlgebra (v.1 ∙ sym w.1)
 setting_unique value (Then m) (Then n) e v w = ap Then (v.1 ∙ sym w.1)
 setting_unique value (Workers m) (Workers n) e v w = ap Workers (v.0.1 ∙ sym w.0.1)
 setting_unique value (Seed m) (Seed n) e v w = ap Seed (v.0.1 ∙ sym w.0.1)
 setting_unique value (Schedule m) (Schedule n) e v w = ap Schedule (v.1 ∙ sym w.1)
+setting_unique value (Trees m) (Trees n) e v w = ap Trees (v.0.1 ∙ sym w.0.1)
 setting_unique value (Size m) (Size n) e v w = ap Size (v.0.1 ∙ sym w.0.1)
-setting_unique value a b e v w = absurd (omega (arith, ap (λ (w : List ℕ). get_or w 3 0) e))
+setting_unique value a b e v w =
+    absurd (omega (arith, ap (λ (w : List ℕ). get_or w 2 0) e, ap (λ (w : List ℕ). get_or w 3 0) e))
 
 settings_unique : (words : List (List ℕ)) (a b : List Setting) → AreSettings words a → AreSettings words b → a ≡ b
 settings_unique [] [] [] h k = refl
@@ -113,6 +127,7 @@ mode_unique Replay Replay e = refl
 mode_unique Lex Lex e = refl
 mode_unique Cert Cert e = refl
 mode_unique Verify Verify e = refl
+mode_unique KBest KBest e = refl
 mode_unique Big Big e = refl
 mode_unique a b e =
     absurd (omega (arith, ap (λ (w : List ℕ). get_or w 0 0) e, ap (λ (w : List ℕ). get_or w 2 0) e))
@@ -128,6 +143,7 @@ command_unique words a b h k =
     let workers = h.workers_are ∙ ap workers_set settings ∙ sym k.workers_are in
     let seed = h.seed_is ∙ ap seed_set settings ∙ sym k.seed_is in
     let schedule = h.schedule_is ∙ ap schedule_set settings ∙ sym k.schedule_is in
+    let best = h.best_is ∙ ap best_set settings ∙ sym k.best_is in
     let size = h.size_is ∙ ap size_set settings ∙ sym k.size_is in
     λ i. record {
       mode = mode i;
@@ -136,44 +152,63 @@ command_unique words a b h k =
       workers = workers i;
       seed = seed i;
       schedule = schedule i;
+      best = best i;
       size = size i;
     }
 
 -- the numbers of settings are in range
-numbers_in_range : (words : List (List ℕ)) (settings : List Setting) → AreSettings words settings
-    → (1 ≤ workers_set settings) × (workers_set settings ≤ 32) × (seed_set settings < 2 ^ 64)
-    × (size_set settings ≤ greatest_size)
-numbers_in_range words [] h = (omega arith, omega arith, omega arith, omega arith)
+record AreInRange (settings : List Setting) : Type 0 where
+  some_workers : 1 ≤ workers_set settings
+  few_workers : workers_set settings ≤ 32
+  seed : seed_set settings < 2 ^ 64
+  trees : best_set settings ≤ most_trees
+  size : size_set settings ≤ greatest_size
+
+numbers_in_range : (words : List (List ℕ)) (settings : List Setting) → AreSettings words settings → AreInRange settings
+numbers_in_range words [] h =
+    record { some_workers = omega arith; few_workers = omega arith; seed = omega arith; trees = omega arith; size = omega arith }
 numbers_in_range [] (setting ∷ settings) h = absurd h
 numbers_in_range (option ∷ []) (setting ∷ settings) h = absurd h
 numbers_in_range (option ∷ value ∷ words) (ByAlgebra named ∷ settings) h =
-    numbers_in_range words settings h.2
+    let rest = numbers_in_range words settings h.2 in
+    record { some_workers = rest.some_workers; few_workers = rest.few_workers; seed = rest.seed; trees = rest.trees; size = rest.size }
 numbers_in_range (option ∷ value ∷ words) (Then named ∷ settings) h =
-    numbers_in_range words settings h.2
+    let rest = numbers_in_range words settings h.2 in
+    record { some_workers = rest.some_workers; few_workers = rest.few_workers; seed = rest.seed; trees = rest.trees; size = rest.size }
 numbers_in_range (option ∷ value ∷ words) (Workers workers ∷ settings) h =
     let rest = numbers_in_range words settings h.2 in
-    (h.1.1, h.1.2, rest.2, rest.3)
+    record { some_workers = h.1.1; few_workers = h.1.2; seed = rest.seed; trees = rest.trees; size = rest.size }
 numbers_in_range (option ∷ value ∷ words) (Seed seed ∷ settings) h =
     let rest = numbers_in_range words settings h.2 in
-    (rest.0, rest.1, h.1.1, rest.3)
+    record { some_workers = rest.some_workers; few_workers = rest.few_workers; seed = h.1.1; trees = rest.trees; size = rest.size }
 numbers_in_range (option ∷ value ∷ words) (Schedule named ∷ settings) h =
-    numbers_in_range words settings h.2
+    let rest = numbers_in_range words settings h.2 in
+    record { some_workers = rest.some_workers; few_workers = rest.few_workers; seed = rest.seed; trees = rest.trees; size = rest.size }
+numbers_in_range (option ∷ value ∷ words) (Trees best ∷ settings) h =
+    let rest = numbers_in_range words settings h.2 in
+    record { some_workers = rest.some_workers; few_workers = rest.few_workers; seed = rest.seed; trees = h.1.2; size = rest.size }
 numbers_in_range (option ∷ value ∷ words) (Size size ∷ settings) h =
     let rest = numbers_in_range words settings h.2 in
-    (rest.0, rest.1, rest.2, h.1.2)
+    record { some_workers = rest.some_workers; few_workers = rest.few_workers; seed = rest.seed; trees = rest.trees; size = h.1.2 }
 
 module _ (words : List (List ℕ)) (command : Command) (is : IsCommand words command) where
+  range : AreInRange is.settings
+  range = numbers_in_range is.options is.settings is.set
+
   pub some_workers : 1 ≤ command.workers
-  some_workers = subst (λ n. 1 ≤ n) (sym is.workers_are) (numbers_in_range is.options is.settings is.set).0
+  some_workers = subst (λ n. 1 ≤ n) (sym is.workers_are) range.some_workers
 
   pub few_workers : command.workers ≤ 32
-  few_workers = subst (λ n. n ≤ 32) (sym is.workers_are) (numbers_in_range is.options is.settings is.set).1
+  few_workers = subst (λ n. n ≤ 32) (sym is.workers_are) range.few_workers
 
   pub seed_in_range : command.seed < 2 ^ 64
-  seed_in_range = subst (λ n. n < 2 ^ 64) (sym is.seed_is) (numbers_in_range is.options is.settings is.set).2
+  seed_in_range = subst (λ n. n < 2 ^ 64) (sym is.seed_is) range.seed
+
+  pub trees_in_range : command.best ≤ most_trees
+  trees_in_range = subst (λ n. n ≤ most_trees) (sym is.best_is) range.trees
 
   pub size_in_range : command.size ≤ greatest_size
-  size_in_range = subst (λ n. n ≤ greatest_size) (sym is.size_is) (numbers_in_range is.options is.settings is.set).3
+  size_in_range = subst (λ n. n ≤ greatest_size) (sym is.size_is) range.size
 
 -- a second algebra is named in one mode alone
 never_second : (mode : Mode) → (mode ≡ Lex → ⊥) → (settings : List Setting) → All (Allows mode) settings
@@ -188,6 +223,19 @@ pub no_second : (words : List (List ℕ)) (command : Command) → IsCommand word
 no_second words command is other =
     subst (λ (o : Option (List ℕ)). IsNone o) (sym is.second_is)
     (never_second command.mode other is.settings is.allowed)
+
+-- and first trees are asked for in another one alone
+never_trees : (mode : Mode) → (mode ≡ KBest → ⊥) → (settings : List Setting) → All (Allows mode) settings
+    → best_set settings ≡ 0
+never_trees mode other [] all = refl
+never_trees mode other (Trees best ∷ settings) all =
+    absurd (other (All-head (Allows mode) (Trees best) settings all))
+never_trees mode other (setting ∷ settings) all =
+    never_trees mode other settings (All-tail (Allows mode) setting settings all)
+
+pub no_trees : (words : List (List ℕ)) (command : Command) → IsCommand words command → (command.mode ≡ KBest → ⊥)
+    → command.best ≡ 0
+no_trees words command is other = is.best_is ∙ never_trees command.mode other is.settings is.allowed
 
 -- ---- the text
 
@@ -376,25 +424,41 @@ module _ (laws : ModelLaws) (grammar : Grammar) (algebra : ℕ) (least : List �
     },
   )
 
-  module _ (second : Option (List ℕ)) (pair : MakesPairWith second grammar algebra) where
+  -- a length under a command
+  module _ (command : Command) (pair : MakesPairWith command.second grammar algebra) where
+    kept_in : (len : ℕ) (fault : LimitFault) → KeepsLimitsIn command grammar algebra len
+        → IsLimitIn command grammar algebra len fault → ⊥
+    kept_in len fault kept (inl is) = kept_with command.second pair len fault kept.0 is
+    kept_in len fault kept (inr (own, is)) =
+        laws.lists_kept grammar algebra least greatest ranks checked len command.best fault
+        (kept.1 (laws.some_listed grammar len command.best fault is)) is
+
+    one_in : (len : ℕ) (a b : LimitFault) → IsLimitIn command grammar algebra len a
+        → IsLimitIn command grammar algebra len b → a ≡ b
+    one_in len a b (inl h) (inl k) = one_with command.second pair len a b h k
+    one_in len a b (inl h) (inr (own, k)) = absurd (kept_with command.second pair len a own h)
+    one_in len a b (inr (own, h)) (inl k) = absurd (kept_with command.second pair len b own k)
+    one_in len a b (inr (own, h)) (inr (own', k)) =
+        laws.one_list_limit grammar algebra least greatest ranks checked len command.best a b h k
+
     limit_unique : (number : ℕ) (words : List (List ℕ)) (a b : ℕ) (fault fault' : LimitFault)
-        → IsFirstLimit second grammar algebra number words a fault
-        → IsFirstLimit second grammar algebra number words b fault' → Limit a fault ≡ Limit b fault'
+        → IsFirstLimit command grammar algebra number words a fault
+        → IsFirstLimit command grammar algebra number words b fault' → Limit a fault ≡ Limit b fault'
     limit_unique number [] a b fault fault' h k = absurd h
     limit_unique number (word ∷ words) a b fault fault' (inl h) (inl k) =
-        ap₂ Limit (h.0 ∙ sym k.0) (one_with second pair (length word) fault fault' h.1 k.1)
+        ap₂ Limit (h.0 ∙ sym k.0) (one_in (length word) fault fault' h.1 k.1)
     limit_unique number (word ∷ words) a b fault fault' (inl h) (inr k) =
-        absurd (kept_with second pair (length word) fault k.0 h.1)
+        absurd (kept_in (length word) fault k.0 h.1)
     limit_unique number (word ∷ words) a b fault fault' (inr h) (inl k) =
-        absurd (kept_with second pair (length word) fault' h.0 k.1)
+        absurd (kept_in (length word) fault' h.0 k.1)
     limit_unique number (word ∷ words) a b fault fault' (inr h) (inr k) =
         limit_unique (number + 1) words a b fault fault' h.1 k.1
 
     kept_or_limit : (number : ℕ) (words : List (List ℕ)) (first : ℕ) (fault : LimitFault)
-        → KeepLimits second grammar algebra words → IsFirstLimit second grammar algebra number words first fault → ⊥
+        → KeepLimits command grammar algebra words → IsFirstLimit command grammar algebra number words first fault → ⊥
     kept_or_limit number [] first fault kept h = h
     kept_or_limit number (word ∷ words) first fault kept (inl h) =
-        kept_with second pair (length word) fault kept.0 h.1
+        kept_in (length word) fault kept.0 h.1
     kept_or_limit number (word ∷ words) first fault kept (inr h) =
         kept_or_limit (number + 1) words first fault kept.1 h.1
 
@@ -420,9 +484,9 @@ pair_with (Some name) p algebra h named =
 
 -- a mode tells wins, or its reports of a word are one
 abbrev OneOrWins : Mode → Type 0
-OneOrWins mode = ShowsWins mode ⊎ ((second : Option (List ℕ)) (number : ℕ) (p : PosedProblem) (wins wins' a b : List ℕ)
-    → IsAdmissibleWith second p → IsReportWith mode second None number p wins a
-    → IsReportWith mode second None number p wins' b → a ≡ b)
+OneOrWins mode = ShowsWins mode ⊎ ((command : Command) (number : ℕ) (p : PosedProblem) (wins wins' a b : List ℕ)
+    → IsAdmissibleWith command.second p → IsReportWith mode command None number p wins a
+    → IsReportWith mode command None number p wins' b → a ≡ b)
 
 module _ (laws : ModelLaws) (command : Command) (grammar : Grammar) (algebra : ℕ) (least : List ℕ)
     (greatest : List (Option ℕ)) (ranks : List ℕ) (checked : IsChecked grammar algebra least greatest ranks)
@@ -439,34 +503,36 @@ module _ (laws : ModelLaws) (command : Command) (grammar : Grammar) (algebra : �
         (
           wins,
           each,
-          (laws.plain p least greatest ranks checked hidden hides command.mode command.second number wins report).1 is,
+          (laws.plain p least greatest ranks checked hidden hides command.mode command number wins report).1 is,
         ),
         plain_reports (number + 1) words reports others,
       )
 
 module _ (laws : ModelLaws) where
   one_or_wins : (mode : Mode) → OneOrWins mode
-  one_or_wins Best = inr (λ second number p wins wins' a b is h k.
-      laws.one_report number p a b (formed_with second p is) h k)
-  one_or_wins Serial = inr (λ second number p wins wins' a b is h k.
-      laws.one_report number p a b (formed_with second p is) h k)
+  one_or_wins Best = inr (λ command number p wins wins' a b is h k.
+      laws.one_report number p a b (formed_with command.second p is) h k)
+  one_or_wins Serial = inr (λ command number p wins wins' a b is h k.
+      laws.one_report number p a b (formed_with command.second p is) h k)
   one_or_wins Wins = inl (inl refl)
   one_or_wins Replay = inl (inr refl)
-  one_or_wins Lex = inr (λ second number p wins wins' a b is h k.
-      laws.one_pair_report number p h.0 (pair_with second p h.0 is h.1) a b h.2
-      (subst (λ n. IsPairReport number p n b) (one_second second p.grammar (formed_with second p is) k.0 h.0 k.1 h.1) k.2))
-  one_or_wins Cert = inr (λ second number p wins wins' a b is h k.
+  one_or_wins Lex = inr (λ command number p wins wins' a b is h k.
+      laws.one_pair_report number p h.0 (pair_with command.second p h.0 is h.1) a b h.2
+      (subst (λ n. IsPairReport number p n b)
+      (one_second command.second p.grammar (formed_with command.second p is) k.0 h.0 k.1 h.1) k.2))
+  one_or_wins Cert = inr (λ command number p wins wins' a b is h k.
       h.2 ∙ ap (λ block. before_block number ++ block) (laws.one_block number p h.0 k.0 h.1 k.1) ∙ sym k.2)
-  one_or_wins Verify = inr (λ second number p wins wins' a b is h k. laws.one_score number p a b h k)
-  one_or_wins Big = inr (λ second number p wins wins' a b is h k. absurd h)
+  one_or_wins Verify = inr (λ command number p wins wins' a b is h k. laws.one_score number p a b h k)
+  one_or_wins KBest = inr (λ command number p wins wins' a b is h k. laws.one_list number p command.best a b h k)
+  one_or_wins Big = inr (λ command number p wins wins' a b is h k. absurd h)
 
-module _ (command : Command) (plain : (second : Option (List ℕ)) (number : ℕ) (p : PosedProblem)
-    (wins wins' a b : List ℕ) → IsAdmissibleWith second p → IsReportWith command.mode second None number p wins a
-    → IsReportWith command.mode second None number p wins' b → a ≡ b)
+module _ (command : Command) (plain : (number : ℕ) (p : PosedProblem) (wins wins' a b : List ℕ)
+    → IsAdmissibleWith command.second p → IsReportWith command.mode command None number p wins a
+    → IsReportWith command.mode command None number p wins' b → a ≡ b)
     (grammar : Grammar) (algebra : ℕ)
     (admissible : (word : List ℕ) → KeepsLimitsWith command.second grammar algebra (length word)
     → IsAdmissibleWith command.second (record { grammar = grammar; algebra = algebra; word = word })) where
-  reports_unique : (number : ℕ) (words a b : List (List ℕ)) → KeepLimits command.second grammar algebra words
+  reports_unique : (number : ℕ) (words a b : List (List ℕ)) → KeepLimits command grammar algebra words
       → AreReports command None grammar algebra number words a
       → AreReports command None grammar algebra number words b → a ≡ b
   reports_unique number [] [] [] kept h k = refl
@@ -477,7 +543,7 @@ module _ (command : Command) (plain : (second : Option (List ℕ)) (number : ℕ
   reports_unique number (word ∷ words) (x ∷ a) (y ∷ b) kept h k =
       let p : PosedProblem = record { grammar = grammar; algebra = algebra; word = word } in
       ap₂ (λ r rs. r ∷ rs)
-      (plain command.second number p h.0.0 k.0.0 x y (admissible word kept.0) h.0.2 k.0.2)
+      (plain number p h.0.0 k.0.0 x y (admissible word kept.0.0) h.0.2 k.0.2)
       (reports_unique (number + 1) words a b kept.1 h.1 k.1)
 
 -- ---- the verdict
@@ -521,10 +587,10 @@ module _ (texts : TextLaws) (words : List (List ℕ)) (bytes : List ℕ) where
   asked_algebra a b m n h k = sym (same_algebra a b m n h k)
 
   limit_of_first : (a b : Job) (m n word : ℕ) (fault : LimitFault) (h : AsksUnder words bytes a m)
-      (k : AsksUnder words bytes b n) → IsFirstLimit k.command.second b.grammar n 1 b.words word fault
-      → IsFirstLimit h.command.second a.grammar m 1 a.words word fault
+      (k : AsksUnder words bytes b n) → IsFirstLimit k.command b.grammar n 1 b.words word fault
+      → IsFirstLimit h.command a.grammar m 1 a.words word fault
   limit_of_first a b m n word fault h k is =
-      subst (λ (it : Command × Grammar × ℕ × List (List ℕ)). IsFirstLimit it.0.second it.1 it.2 1 it.3 word fault)
+      subst (λ (it : Command × Grammar × ℕ × List (List ℕ)). IsFirstLimit it.0 it.1 it.2 1 it.3 word fault)
       (λ i. (
         command_unique words k.command h.command k.asks.is_command h.asks.is_command i,
         same_grammar texts bytes b a k.asks.is_text h.asks.is_text i,
@@ -570,7 +636,7 @@ module _ (laws : ModelLaws) (words : List (List ℕ)) (bytes : List ℕ) where
       by : OneOrWins h.2.command.mode → (Reports a ≡ Reports b) ⊎ AreOfWins words (Reports a) (Reports b)
       by (inl wins) = inr (h.2.command, h.2.asks.is_command, wins)
       by (inr plain) =
-          let reports = reports_unique h.2.command plain h.0.grammar h.1 admissible 1 h.0.words h.4 k.4 h.3 (plainly h.4 h.5)
+          let reports = reports_unique h.2.command (plain h.2.command) h.0.grammar h.1 admissible 1 h.0.words h.4 k.4 h.3 (plainly h.4 h.5)
           (plainly k.4 others) in
           let texts = same_words laws.texts bytes h.0 k.0 h.2.asks.is_text k.2.asks.is_text in
           let pieces : h.4 ++ behind_reports h.2.command.mode (length h.0.words) bytes
@@ -675,10 +741,10 @@ module _ (laws : ModelLaws) (words : List (List ℕ)) (bytes : List ℕ) where
       absurd (faultless_with_or_fault k.1.grammar k.1.well_formed (asked_name k.0 k.1.grammar) k.0.second h.1 fault' (faultless_of_first laws.texts words bytes k.0 k.1 h.0 h.1 k.2 h.2) (pair_of_first laws.texts words bytes k.0 k.1 h.0 h.1 k.2 h.2) k.3)
   one_verdict checks (Limit word fault) (Limit word' fault') h k =
       let found = checks h.0 h.1 h.2 in
-      inl (limit_unique laws h.0.grammar h.1 found.0 found.1 found.2 found.3 h.2.command.second h.2.pair 1 h.0.words word word' fault fault' h.3 (limit_of_first laws.texts words bytes h.0 k.0 h.1 k.1 word' fault' h.2 k.2 k.3))
+      inl (limit_unique laws h.0.grammar h.1 found.0 found.1 found.2 found.3 h.2.command h.2.pair 1 h.0.words word word' fault fault' h.3 (limit_of_first laws.texts words bytes h.0 k.0 h.1 k.1 word' fault' h.2 k.2 k.3))
   one_verdict checks (Limit word fault) (Reports reports) h (inl k) =
       let found = checks k.0 k.1 k.2 in
-      absurd (kept_or_limit laws k.0.grammar k.1 found.0 found.1 found.2 found.3 k.2.command.second k.2.pair 1 k.0.words word fault k.3 (limit_of_first laws.texts words bytes k.0 h.0 k.1 h.1 word fault k.2 h.2 h.3))
+      absurd (kept_or_limit laws k.0.grammar k.1 found.0 found.1 found.2 found.3 k.2.command k.2.pair 1 k.0.words word fault k.3 (limit_of_first laws.texts words bytes k.0 h.0 k.1 h.1 word fault k.2 h.2 h.3))
   one_verdict checks (Limit word fault) (Reports reports) h (inr k) = inl (sym (of_made (Limit word fault) reports k h))
   one_verdict checks (Reports reports) Usage (inl h) k =
       absurd (k (has_command laws.texts words bytes h.2.command h.0 h.2.asks))
@@ -690,7 +756,7 @@ module _ (laws : ModelLaws) (words : List (List ℕ)) (bytes : List ℕ) where
       absurd (faultless_with_or_fault k.1.grammar k.1.well_formed (asked_name k.0 k.1.grammar) k.0.second h.1 fault' (faultless_of_first laws.texts words bytes k.0 k.1 h.0 h.1 k.2 h.2) (pair_of_first laws.texts words bytes k.0 k.1 h.0 h.1 k.2 h.2) k.3)
   one_verdict checks (Reports reports) (Limit word fault) (inl h) k =
       let found = checks h.0 h.1 h.2 in
-      absurd (kept_or_limit laws h.0.grammar h.1 found.0 found.1 found.2 found.3 h.2.command.second h.2.pair 1 h.0.words word fault h.3 (limit_of_first laws.texts words bytes h.0 k.0 h.1 k.1 word fault h.2 k.2 k.3))
+      absurd (kept_or_limit laws h.0.grammar h.1 found.0 found.1 found.2 found.3 h.2.command h.2.pair 1 h.0.words word fault h.3 (limit_of_first laws.texts words bytes h.0 k.0 h.1 k.1 word fault h.2 k.2 k.3))
   one_verdict checks (Reports reports) (Reports reports') (inl h) (inl k) = both_reported checks reports reports' h k
   one_verdict checks (Reports reports) (Reports reports') (inl h) (inr k) =
       inl (sym (of_made (Reports reports) reports' k (inl h)))
@@ -715,7 +781,7 @@ module _ (laws : ModelLaws) (words : List (List ℕ)) (bytes : List ℕ) where
       (pair_of_first laws.texts words bytes k.0 k.1 h.job h.algebra k.2 h.asked) k.3)
   only_within h (Limit word fault) k checks =
       let found = checks tt h.job h.algebra h.asked in
-      absurd (kept_or_limit laws h.job.grammar h.algebra found.0 found.1 found.2 found.3 h.asked.command.second h.asked.pair
+      absurd (kept_or_limit laws h.job.grammar h.algebra found.0 found.1 found.2 found.3 h.asked.command h.asked.pair
       1 h.job.words word fault h.limits (limit_of_first laws.texts words bytes h.job k.0 h.algebra k.1 word fault h.asked k.2 k.3))
 
   pub only_reports : (reports : List (List ℕ)) (verdict : Verdict) → IsJobVerdict words bytes (Reports reports)

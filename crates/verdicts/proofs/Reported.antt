@@ -7,14 +7,15 @@ use Rattle.adp_model.specs.Checks.{IsChecked}
 use Rattle.adp_model.specs.Demand.{IsDemandedCount}
 use Rattle.adp_model.specs.Report.{wins_line, IsReport}
 use Rattle.verdicts.specs.declared.command.Mode.{Mode}
-use Rattle.verdicts.specs.declared.command.Mode.TheVariants.{Best, Serial, Wins, Replay, Lex, Cert, Verify, Big}
+use Rattle.verdicts.specs.declared.command.Mode.TheVariants.{Best, Serial, Wins, Replay, Lex, Cert, Verify, KBest, Big}
 use Rattle.verdicts.specs.Command.{Command, ReadsJob}
+use Rattle.first_trees.specs.ListReport.{IsListReport}
 use Rattle.lex_product.specs.PairLimits.{IsPairAdmissible}
 use Rattle.lex_product.specs.PairReport.{IsPairReport}
 use Rattle.table_certificate.specs.ScoreReports.{IsScoreReport}
 use Rattle.table_certificate.specs.WrittenCertificate.{IsCertificate}
 use Rattle.verdicts.specs.Certificates.{before_block}
-use Rattle.verdicts.specs.SecondAlgebra.{IsAdmissibleWith}
+use Rattle.verdicts.specs.SecondAlgebra.{IsAdmissibleWith, IsSecond}
 use Rattle.verdicts.specs.Verdict.{IsReportIn, IsReportWith}
 use Rattle.verdicts.specs.WordReport.{HidesAlternatives}
 
@@ -27,8 +28,10 @@ pub record ReportLaws : Type 0 where
   pub score : (number : ℕ) (p : PosedProblem) → IsAdmissible p → (report : List ℕ) × IsScoreReport number p report
   pub nested : (p : PosedProblem) (least : List ℕ) (greatest : List (Option ℕ)) (ranks : List ℕ)
       → IsChecked p.grammar p.algebra least greatest ranks → (hidden : Option ℕ) → HidesAlternatives hidden p.grammar
-      → (mode : Mode) (second : Option (List ℕ)) (number : ℕ) (wins report : List ℕ)
-      → IsReportWith mode second None number p wins report ↔ IsReportWith mode second hidden number p wins report
+      → (mode : Mode) (command : Command) (number : ℕ) (wins report : List ℕ)
+      → IsReportWith mode command None number p wins report ↔ IsReportWith mode command hidden number p wins report
+  pub listed : (number : ℕ) (p : PosedProblem) → IsAdmissible p → (k : ℕ)
+      → (report : List ℕ) × IsListReport number p k report
 
 -- a word that is admitted with a second algebra is admitted
 own_admissible : (second : Option (List ℕ)) (p : PosedProblem) → IsAdmissibleWith second p → IsAdmissible p
@@ -57,30 +60,34 @@ no_wins_sum (suc count) = no_wins_sum count
 
 module _ (laws : ReportLaws) where
   -- by both algebras
-  by_both : (second : Option (List ℕ)) (number : ℕ) (p : PosedProblem) (wins : List ℕ) → IsSome second
-      → IsAdmissibleWith second p → (report : List ℕ) × IsReportWith Lex second None number p wins report
-  by_both None number p wins there is = cc
-  by_both (Some name) number p wins there (second, named, pair) =
+  by_both : (second : Option (List ℕ)) (number : ℕ) (p : PosedProblem) → IsSome second
+      → IsAdmissibleWith second p
+      → (report : List ℕ) × (algebra : ℕ) × IsSecond second p.grammar algebra × IsPairReport number p algebra report
+  by_both None number p there is = cc
+  by_both (Some name) number p there (second, named, pair) =
       let found = laws.paired number p second pair in
-      (found.0, (second, named, found.1))
+      (found.0, second, named, found.1)
 
   -- with wins that have been found for a plain report
   module _ (command : Command) (number : ℕ) (p : PosedProblem) (is : IsAdmissibleWith command.second p) (wins : List ℕ)
       (each : length wins ≡ command.workers) (plain : (report : List ℕ) × IsReport number p report)
       (all : sum wins ≡ plain.1.1) where
     with_wins : (mode : Mode) → ReadsJob mode → (mode ≡ Lex → IsSome command.second)
-        → (report : List ℕ) × IsReportWith mode command.second None number p wins report
+        → (report : List ℕ) × IsReportWith mode command None number p wins report
     with_wins Best reads there = plain
     with_wins Serial reads there = plain
     with_wins Wins reads there =
         (plain.0 ++ wins_line wins, (plain.0, plain.1, subst (IsDemandedCount p) (sym all) plain.1.3, refl))
     with_wins Replay reads there =
         (plain.0 ++ wins_line wins, (plain.0, plain.1, subst (IsDemandedCount p) (sym all) plain.1.3, refl))
-    with_wins Lex reads there = by_both command.second number p wins (there refl) is
+    with_wins Lex reads there =
+        let found = by_both command.second number p (there refl) is in
+        (found.0, (found.1, found.2, found.3))
     with_wins Cert reads there =
         let found = laws.block number p (own_admissible command.second p is) in
         (before_block number ++ found.0, (found.0, found.1, refl))
     with_wins Verify reads there = laws.score number p (own_admissible command.second p is)
+    with_wins KBest reads there = laws.listed number p (own_admissible command.second p is) command.best
     with_wins Big reads there = absurd (reads refl)
 
     in_mode : ReadsJob command.mode → (command.mode ≡ Lex → IsSome command.second)
@@ -113,7 +120,7 @@ module _ (laws : ReportLaws) where
         (
           found.1.0,
           found.1.1,
-          (laws.nested p own.least own.greatest own.ranks own.checked hidden hides command.mode command.second number
+          (laws.nested p own.least own.greatest own.ranks own.checked hidden hides command.mode command number
               found.1.0 found.0).0 found.1.2,
         ),
       )

@@ -4,7 +4,7 @@ use Rattle.std.specs.Prelude.{◌≡◌, ℕ, ◌^◌, ◌<◌, ◌≤◌, ◌�
 use Rattle.std.specs.Str.Parse.{IsNumeral, digits_value}
 use Rattle.adp_model.specs.WellFormed.{is_name, are_distinct}
 use Rattle.verdicts.specs.declared.command.Mode.{Mode}
-use Rattle.verdicts.specs.declared.command.Mode.TheVariants.{Best, Serial, Wins, Replay, Lex, Cert, Verify, Big}
+use Rattle.verdicts.specs.declared.command.Mode.TheVariants.{Best, Serial, Wins, Replay, Lex, Cert, Verify, KBest, Big}
 use Rattle.verdicts.specs.ScheduleText.{is_schedule, machines_of}
 
 abbrev pub mode_word : Mode → List ℕ
@@ -15,16 +15,19 @@ mode_word Replay = codes "replay"
 mode_word Lex = codes "lex"
 mode_word Cert = codes "cert"
 mode_word Verify = codes "verify"
+mode_word KBest = codes "kbest"
 mode_word Big = codes "big"
 
 -- an option with its value: an algebra's name; that of a second one, which decides among equals; a number of evaluators;
--- the seed of their orders; the machines that a schedule names in turn; the size of the word that is made
+-- the seed of their orders; the machines that a schedule names in turn; how many first trees of each word are asked for;
+-- the size of the word that is made
 pub data Setting : Type 0 where
   Algebra : (name : List ℕ) → Setting
   Then : (name : List ℕ) → Setting
   Workers : (workers : ℕ) → Setting
   Seed : (seed : ℕ) → Setting
   Schedule : (machines : List ℕ) → Setting
+  Trees : (best : ℕ) → Setting
   Size : (size : ℕ) → Setting
 
 abbrev pub option_word : Setting → List ℕ
@@ -33,16 +36,22 @@ option_word (Then name) = codes "--then"
 option_word (Workers workers) = codes "--workers"
 option_word (Seed seed) = codes "--seed"
 option_word (Schedule machines) = codes "--schedule"
+option_word (Trees best) = codes "--best"
 option_word (Size size) = codes "--size"
 
--- the options of a mode: a word that is made has no other algebra than its grammar's, a certificate is checked without
--- evaluators, and a second algebra is asked for, and a schedule followed, in one mode alone
+-- a mode that has no evaluators to choose: a certificate is checked, and first trees are found, without any
+abbrev pub TakesNoWorkers : Mode → Type 0
+TakesNoWorkers mode = (mode ≡ Verify) ⊎ (mode ≡ KBest)
+
+-- the options of a mode: a word that is made has no other algebra than its grammar's, some modes have no evaluators, and
+-- a second algebra or first trees are asked for, and a schedule followed, in one mode alone
 abbrev pub Allows : Mode → Setting → Type 0
 Allows mode (Algebra name) = (mode ≡ Big) → ⊥
 Allows mode (Then name) = mode ≡ Lex
-Allows mode (Workers workers) = (mode ≡ Verify) → ⊥
-Allows mode (Seed seed) = (mode ≡ Verify) → ⊥
+Allows mode (Workers workers) = TakesNoWorkers mode → ⊥
+Allows mode (Seed seed) = TakesNoWorkers mode → ⊥
 Allows mode (Schedule machines) = mode ≡ Replay
+Allows mode (Trees best) = mode ≡ KBest
 Allows mode (Size size) = mode ≡ Big
 
 -- one or more decimal digits with this value; zeros may come first
@@ -53,6 +62,10 @@ IsNumberWord word number = IsNumeral 10 word × (number ≡ digits_value 10 word
 abbrev pub greatest_size : ℕ
 greatest_size = 2046
 
+-- the most first trees of a word
+abbrev pub most_trees : ℕ
+most_trees = 64
+
 -- the word is a value that the setting allows
 abbrev pub IsValue : List ℕ → Setting → Type 0
 IsValue word (Algebra name) = IsTrue (is_name word) × (name ≡ word)
@@ -60,6 +73,7 @@ IsValue word (Then name) = IsTrue (is_name word) × (name ≡ word)
 IsValue word (Workers workers) = IsNumberWord word workers × (1 ≤ workers) × (workers ≤ 32)
 IsValue word (Seed seed) = IsNumberWord word seed × (seed < 2 ^ 64)
 IsValue word (Schedule machines) = IsTrue (is_schedule word) × (machines ≡ machines_of word)
+IsValue word (Trees best) = IsNumberWord word best × (1 ≤ best) × (best ≤ most_trees)
 IsValue word (Size size) = IsNumberWord word size × (1 ≤ size) × (size ≤ greatest_size)
 
 -- the words are these settings, one behind the other
@@ -74,7 +88,7 @@ abbrev pub AreSetOnce : List Setting → Type 0
 AreSetOnce settings = IsTrue (are_distinct (map option_word settings))
 
 -- the value of an option, or what holds where it is not set: the first algebra, no second one, one evaluator, the seed
--- 0, a schedule without machines, the size 0
+-- 0, a schedule without machines, no first trees, the size 0
 abbrev pub algebra_set : List Setting → Option (List ℕ)
 algebra_set [] = None
 algebra_set (Algebra name ∷ settings) = Some name
@@ -100,13 +114,18 @@ schedule_set [] = []
 schedule_set (Schedule machines ∷ settings) = machines
 schedule_set (setting ∷ settings) = schedule_set settings
 
+abbrev pub best_set : List Setting → ℕ
+best_set [] = 0
+best_set (Trees best ∷ settings) = best
+best_set (setting ∷ settings) = best_set settings
+
 abbrev pub size_set : List Setting → ℕ
 size_set [] = 0
 size_set (Size size ∷ settings) = size
 size_set (setting ∷ settings) = size_set settings
 
 -- what the words of a command line say: the names of the algebra and of the second one, and numbers; where none is set,
--- there is no machine in the schedule, and the size is 0
+-- there is no machine in the schedule, no first trees are asked for, and the size is 0
 pub record Command : Type 0 where
   pub mode : Mode
   pub algebra : Option (List ℕ)
@@ -114,6 +133,7 @@ pub record Command : Type 0 where
   pub workers : ℕ
   pub seed : ℕ
   pub schedule : List ℕ
+  pub best : ℕ
   pub size : ℕ
 
 -- the words are this command
@@ -129,10 +149,13 @@ pub record IsCommand (words : List (List ℕ)) (command : Command) : Type 0 wher
   pub workers_are : command.workers ≡ workers_set settings
   pub seed_is : command.seed ≡ seed_set settings
   pub schedule_is : command.schedule ≡ schedule_set settings
+  pub best_is : command.best ≡ best_set settings
   pub size_is : command.size ≡ size_set settings
-  -- two algebras in order are two, what is replayed has a schedule, and a word that is made has a size
+  -- two algebras in order are two, what is replayed has a schedule, some first trees are asked for, and a word that is
+  -- made has a size
   pub paired : command.mode ≡ Lex → IsSome command.second
   pub scheduled : command.mode ≡ Replay → 1 ≤ length command.schedule
+  pub listed : command.mode ≡ KBest → 1 ≤ command.best
   pub sized : command.mode ≡ Big → 1 ≤ command.size
 
 -- the words are some command

@@ -3,8 +3,8 @@ use Rattle.std.specs.Prelude.{◌≡◌, ◌≤◌, [], IfSome, IsSome, IsTrue}
 use Rattle.std.specs.Option.{option_map, unwrap_or}
 use Rattle.adp_model.specs.WellFormed.{is_name}
 use Rattle.verdicts.specs.declared.command.Command.TheInside.{Inside}
-use Rattle.verdicts.specs.declared.command.Mode.TheVariants.{Lex}
-use Rattle.verdicts.specs.Command.{Command, greatest_size}
+use Rattle.verdicts.specs.declared.command.Mode.TheVariants.{Lex, KBest}
+use Rattle.verdicts.specs.Command.{Command, greatest_size, most_trees}
 use Rattle.verdicts.specs.ScheduleText.{machines_of}
 
 -- the names and the schedule as texts that are borrowed
@@ -16,6 +16,7 @@ command_of fields = record {
   workers = fields.workers;
   seed = fields.seed;
   schedule = unwrap_or (option_map (λ text. machines_of text.now) fields.schedule) [];
+  best = fields.best;
   size = fields.size;
 }
 
@@ -26,4 +27,6 @@ pub record AreInRange (fields : Inside) : Type 0 where
   pub name : IfSome (option_map (λ name. name.now) fields.algebra) (λ name. IsTrue (is_name name))
   pub second_name : IfSome (option_map (λ name. name.now) fields.second) (λ name. IsTrue (is_name name))
   pub paired : fields.mode ≡ Lex → IsSome (option_map (λ name. name.now) fields.second)
+  pub few_trees : fields.best ≤ most_trees
+  pub listed : fields.mode ≡ KBest → 1 ≤ fields.best
   pub size : fields.size ≤ greatest_size

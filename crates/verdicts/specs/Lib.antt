@@ -3,6 +3,7 @@ pub mod Command
 pub mod CommandFields
 pub mod SecondAlgebra
 pub mod WordReport
+pub mod WordLimits
 pub mod Posed
 pub mod Certificates
 pub mod Verdict

@@ -13,13 +13,14 @@ use Rattle.adp_model.specs.PosedProblem.{PosedProblem}
 use Rattle.adp_model.specs.BigReport.{IsBigReport}
 use Rattle.lex_product.specs.PairReport.{IsPairReport}
 use Rattle.verdicts.specs.declared.command.Mode.{Mode}
-use Rattle.verdicts.specs.declared.command.Mode.TheVariants.{Best, Serial, Wins, Replay, Lex, Cert, Verify, Big}
+use Rattle.verdicts.specs.declared.command.Mode.TheVariants.{Best, Serial, Wins, Replay, Lex, Cert, Verify, KBest, Big}
 use Rattle.verdicts.specs.Command.{ShowsWins, Command, IsCommand, HasCommand, ReadsJob, AsksForJob, AsksToVerify}
 use Rattle.table_certificate.specs.JobSplit.{IsSplitAtJob}
 use Rattle.table_certificate.specs.ScoreReports.{IsScoreReport}
 use Rattle.verdicts.specs.Certificates.{behind_reports, IsBlockReport, IsFalseFor, IsRightFor, IsWithoutJob}
-use Rattle.verdicts.specs.SecondAlgebra.{IsFaultWith, IsLimitWith, IsSecond, KeepsLimitsWith, MakesPairWith}
-use Rattle.verdicts.specs.WordReport.{IsWordReport, IsWordWinsReport}
+use Rattle.verdicts.specs.SecondAlgebra.{IsFaultWith, IsSecond, MakesPairWith}
+use Rattle.verdicts.specs.WordLimits.{IsFirstLimit, KeepLimits}
+use Rattle.verdicts.specs.WordReport.{IsWordListReport, IsWordReport, IsWordWinsReport}
 
 -- a job has at most this many bytes
 abbrev pub greatest_length : ℕ
@@ -56,39 +57,26 @@ pub record AsksUnder (words : List (List ℕ)) (bytes : List ℕ) (job : Job) (a
   pub faultless : IsFaultless job.grammar (asked_name command job.grammar) algebra
   pub pair : MakesPairWith command.second job.grammar algebra
 
--- all of these words keep the limits, those of the second algebra of this name too where there is one
-abbrev pub KeepLimits : Option (List ℕ) → grammars.Grammar → ℕ → List (List ℕ) → Type 0
-KeepLimits second grammar algebra [] = Unit {0}
-KeepLimits second grammar algebra (word ∷ words) =
-    KeepsLimitsWith second grammar algebra (length word) × KeepLimits second grammar algebra words
-
--- the first word that passes a limit has this number, counted on from the first of these words, and this is its fault
-abbrev pub IsFirstLimit : Option (List ℕ) → grammars.Grammar → ℕ → ℕ → List (List ℕ) → ℕ → LimitFault → Type 0
-IsFirstLimit second grammar algebra number [] first fault = ⊥
-IsFirstLimit second grammar algebra number (word ∷ words) first fault =
-    ((first ≡ number) × IsLimitWith second grammar algebra (length word) fault)
-    ⊎ (KeepsLimitsWith second grammar algebra (length word)
-    × IsFirstLimit second grammar algebra (number + 1) words first fault)
-
--- the report that a mode asks for of the word with this number, with the second algebra of this name where there is one,
--- under a grammar of which so many rules are hidden, and where its evaluators have these wins; a pair of algebras has
--- linear terms, and hides no rule; a certificate tells cells and scores, which are those of the plain grammar
-abbrev pub IsReportWith : Mode → Option (List ℕ) → Option ℕ → ℕ → PosedProblem → List ℕ → List ℕ → Type 0
-IsReportWith Best second hidden number p wins report = IsWordReport hidden number p report
-IsReportWith Serial second hidden number p wins report = IsWordReport hidden number p report
-IsReportWith Wins second hidden number p wins report = IsWordWinsReport hidden number p wins report
-IsReportWith Replay second hidden number p wins report = IsWordWinsReport hidden number p wins report
-IsReportWith Lex second hidden number p wins report =
-    (algebra : ℕ) × IsSecond second p.grammar algebra × IsPairReport number p algebra report
-IsReportWith Cert second hidden number p wins report = IsBlockReport number p report
-IsReportWith Verify second hidden number p wins report = IsScoreReport number p report
-IsReportWith Big second hidden number p wins report = ⊥
+-- the report that a mode asks for of the word with this number, as the command says, under a grammar of which so many
+-- rules are hidden, and where its evaluators have these wins; a pair of algebras has linear terms, and hides no rule; a
+-- certificate tells cells and scores, which are those of the plain grammar
+abbrev pub IsReportWith : Mode → Command → Option ℕ → ℕ → PosedProblem → List ℕ → List ℕ → Type 0
+IsReportWith Best command hidden number p wins report = IsWordReport hidden number p report
+IsReportWith Serial command hidden number p wins report = IsWordReport hidden number p report
+IsReportWith Wins command hidden number p wins report = IsWordWinsReport hidden number p wins report
+IsReportWith Replay command hidden number p wins report = IsWordWinsReport hidden number p wins report
+IsReportWith Lex command hidden number p wins report =
+    (algebra : ℕ) × IsSecond command.second p.grammar algebra × IsPairReport number p algebra report
+IsReportWith Cert command hidden number p wins report = IsBlockReport number p report
+IsReportWith Verify command hidden number p wins report = IsScoreReport number p report
+IsReportWith KBest command hidden number p wins report = IsWordListReport hidden number p command.best report
+IsReportWith Big command hidden number p wins report = ⊥
 
 -- the report that a command asks for of the word with this number, with some wins for each of its evaluators
 abbrev pub IsReportIn : Command → Option ℕ → ℕ → PosedProblem → List ℕ → Type 0
 IsReportIn command hidden number p report =
     (wins : List ℕ) × (length wins ≡ command.workers)
-    × IsReportWith command.mode command.second hidden number p wins report
+    × IsReportWith command.mode command hidden number p wins report
 
 -- the reports of these words in order, the first of which has this number, as the command asks for them
 abbrev pub AreReports : Command → Option ℕ → grammars.Grammar → ℕ → ℕ → List (List ℕ) → List (List ℕ) → Type 0
@@ -103,7 +91,7 @@ AreReports command hidden grammar algebra number words reports = ⊥
 abbrev pub AskForReports : List (List ℕ) → List ℕ → List (List ℕ) → Type 0
 AskForReports words bytes pieces =
     (job : Job) × (algebra : ℕ) × (asked : AsksUnder words bytes job algebra)
-    × KeepLimits asked.command.second job.grammar algebra job.words
+    × KeepLimits asked.command job.grammar algebra job.words
     × (reports : List (List ℕ)) × AreReports asked.command (hidden_in bytes) job.grammar algebra 1 job.words reports
     × (pieces ≡ reports ++ behind_reports asked.command.mode (length job.words) bytes)
 
@@ -124,7 +112,7 @@ IsJobVerdict words bytes (Grammar fault) =
     × IsFaultWith command.second job.grammar (asked_name command job.grammar) fault
 IsJobVerdict words bytes (Limit word fault) =
     (job : Job) × (algebra : ℕ) × (asked : AsksUnder words bytes job algebra)
-    × IsFirstLimit asked.command.second job.grammar algebra 1 job.words word fault
+    × IsFirstLimit asked.command job.grammar algebra 1 job.words word fault
 IsJobVerdict words bytes (Rejected line) = ⊥
 IsJobVerdict words bytes (Reports reports) = AskForReports words bytes reports ⊎ AskForBigReport words reports
 
@@ -133,7 +121,7 @@ pub record AsksWithin (words : List (List ℕ)) (bytes : List ℕ) : Type 0 wher
   pub job : Job
   pub algebra : ℕ
   pub asked : AsksUnder words bytes job algebra
-  pub limits : KeepLimits asked.command.second job.grammar algebra job.words
+  pub limits : KeepLimits asked.command job.grammar algebra job.words
 
 -- on a certificate with its job behind the line `job`: an input that is too long comes first, then one without that line,
 -- then the faults of the job, whose lines count from 1, then the first line that is false, and then the best score of

@@ -5,6 +5,8 @@ use Rattle.adp_model.specs.declared.grammar.Grammar.{Grammar}
 use Rattle.adp_model.specs.PosedProblem.{PosedProblem}
 use Rattle.adp_model.specs.Report.{IsReport, IsWinsReport}
 use Rattle.nested_trees.specs.HiddenRules.{AreNestedAlternatives}
+use Rattle.first_trees.specs.ListReport.{IsListReport}
+use Rattle.first_trees.specs.NestedListReport.{IsNestedListReport}
 use Rattle.nested_trees.specs.NestedReport.{IsNestedReport, IsNestedWinsReport}
 
 -- the hidden rules of the grammar, where there are any, are nested alternatives
@@ -21,3 +23,8 @@ IsWordReport (Some hidden) number p report = IsNestedReport number p hidden repo
 abbrev pub IsWordWinsReport : Option ℕ → ℕ → PosedProblem → List ℕ → List ℕ → Type 0
 IsWordWinsReport None number p wins report = IsWinsReport number p wins report
 IsWordWinsReport (Some hidden) number p wins report = IsNestedWinsReport number p hidden wins report
+
+-- the report of its first candidates, so many
+abbrev pub IsWordListReport : Option ℕ → ℕ → PosedProblem → ℕ → List ℕ → Type 0
+IsWordListReport None number p best report = IsListReport number p best report
+IsWordListReport (Some hidden) number p best report = IsNestedListReport number p hidden best report

@@ -17,6 +17,8 @@ pub enum Mode {
     Cert,
     /// What such lines tell of each word, where they are right.
     Verify,
+    /// The first candidates of each word in the order of preference.
+    KBest,
     /// The answer for a word that is made.
     Big,
 }
@@ -38,6 +40,8 @@ pub struct Command<'w> {
     pub seed: u64,
     /// The schedule, which there is for `Replay` alone.
     pub schedule: Option<&'w str>,
+    /// How many first candidates of each word are asked for, at least 1 and at most 64 for `KBest`, or 0 where none are.
+    pub best: u32,
     /// The size of the word that is made, at least 1 for `Big`, or 0 where none is set.
     pub size: u32,
 }
@@ -56,8 +60,8 @@ impl<'w> Model for Command<'w> {
 impl<'w> Command<'w> {
     ghost use Rattle.std.specs.Prelude.{◌≡◌, ◌≤◌, IfSome, IsSome, IsTrue, MatchBool};
     ghost use Rattle.adp_model.specs.WellFormed.{is_name};
-    ghost use Rattle.verdicts.specs.declared.command.Mode.TheVariants.{Big, Cert, Lex, Verify};
-    ghost use Rattle.verdicts.specs.Command.{ReadsJob, greatest_size};
+    ghost use Rattle.verdicts.specs.declared.command.Mode.TheVariants.{Big, Cert, KBest, Lex, Verify};
+    ghost use Rattle.verdicts.specs.Command.{ReadsJob, greatest_size, most_trees};
 
     /// What every command keeps. Does nothing when it runs.
     pub fn in_range(&self)
@@ -66,6 +70,8 @@ impl<'w> Command<'w> {
         ensures name { IfSome self.now.algebra (λ name. IsTrue (is_name name)) }
         ensures second_name { IfSome self.now.second (λ name. IsTrue (is_name name)) }
         ensures paired { self.now.mode ≡ Lex → IsSome self.now.second }
+        ensures few_trees { self.now.best ≤ most_trees }
+        ensures listed { self.now.mode ≡ KBest → 1 ≤ self.now.best }
         ensures size { self.now.size ≤ greatest_size }
     {
         let _ = &self.mode;
@@ -83,7 +89,8 @@ impl<'w> Command<'w> {
             | Mode::Replay
             | Mode::Lex
             | Mode::Cert
-            | Mode::Verify => true,
+            | Mode::Verify
+            | Mode::KBest => true,
         }
     }
 

@@ -10,14 +10,18 @@ ghost use Rattle.std.specs.List.{concat};
 ghost use Rattle.verdicts.specs.declared.command.Mode.{Mode};
 ghost use Rattle.verdicts.specs.WordReport.{HidesAlternatives};
 ghost use Rattle.verdicts.specs.CheckableJobs.{IsCheckableInput};
-ghost use Rattle.verdicts.specs.Command.{Command, IsCommand, ReadsJob, greatest_size};
-ghost use Rattle.verdicts.specs.declared.command.Mode.TheVariants.{Cert, Lex, Verify};
+ghost use Rattle.verdicts.specs.Command.{Command, IsCommand, ReadsJob, greatest_size, most_trees};
+ghost use Rattle.verdicts.specs.declared.command.Mode.TheVariants.{Best, Cert, KBest, Lex, Verify};
+ghost use Rattle.first_trees.specs.ListReport.{TellOneCandidate};
 ghost use Rattle.verdicts.specs.SecondAlgebra.{IsAdmissibleWith, IsSecond};
 ghost use Rattle.adp_model.specs.declared.job.Job.{Job};
 ghost use Rattle.verdicts.specs.Verdict.{AreOfWins, AsksUnder, IsLimit, IsReportIn, IsReportWith, IsReports, IsVerdict, Reports, Verdict, greatest_length};
 
 use adp_model::laws::limits::limits_are_kept_or_passed;
 use adp_model::laws::report;
+use first_trees::laws::{one_first_tree_is_the_answer, words_have_one_list_report};
+use first_trees::limits::list_limits_are_kept_or_passed;
+use first_trees::nested::nested_lists_are_the_plain_ones;
 use lex_product::laws::{pair_limits_are_kept_or_passed, words_have_one_pair_report};
 use nested_jobs::laws::{hidden_rules_are_nested_alternatives, texts_spell_one_job};
 use nested_trees::laws as nested;
@@ -29,7 +33,7 @@ use table_certificate::uniqueness::{
     first_false_line_is_unique, words_have_one_certificate, words_have_one_score_report,
 };
 
-/// Words are one command, whose numbers are in range; a second algebra is asked for in one mode alone.
+/// Words are one command, whose numbers are in range; a second algebra, or first trees, are asked for in one mode alone.
 pub fn command_is_unique()
     ensures command { (words : List (List ℕ)) (a b : Command) → IsCommand words a → IsCommand words b → a ≡ b }
     ensures some_workers { (words : List (List ℕ)) (command : Command) → IsCommand words command
@@ -39,6 +43,10 @@ pub fn command_is_unique()
     ensures seed { (words : List (List ℕ)) (command : Command) → IsCommand words command → command.seed < 2 ^ 64 }
     ensures size { (words : List (List ℕ)) (command : Command) → IsCommand words command
         → command.size ≤ greatest_size }
+    ensures few_trees { (words : List (List ℕ)) (command : Command) → IsCommand words command
+        → command.best ≤ most_trees }
+    ensures no_trees { (words : List (List ℕ)) (command : Command) → IsCommand words command
+        → (command.mode ≡ KBest → ⊥) → command.best ≡ 0 }
     ensures second { (words : List (List ℕ)) (command : Command) → IsCommand words command
         → (command.mode ≡ Lex → ⊥) → IsNone command.second }
 {}
@@ -70,10 +78,25 @@ pub fn texts_hide_alternatives()
 pub fn nested_reports_are_the_plain_ones()
     ensures { (p : PosedProblem) (least : List ℕ) (greatest : List (Option ℕ)) (ranks : List ℕ)
         → IsChecked p.grammar p.algebra least greatest ranks → (hidden : Option ℕ) → HidesAlternatives hidden p.grammar
-        → (mode : Mode) (second : Option (List ℕ)) (number : ℕ) (wins report : List ℕ)
-        → IsReportWith mode second None number p wins report ↔ IsReportWith mode second hidden number p wins report }
+        → (mode : Mode) (command : Command) (number : ℕ) (wins report : List ℕ)
+        → IsReportWith mode command None number p wins report
+        ↔ IsReportWith mode command hidden number p wins report }
 {
     nested::nested_reports_are_the_plain_ones();
+    nested_lists_are_the_plain_ones();
+}
+
+/// What is asked for with one first candidate tells score and tree of the answer, in each format, where the grammar has
+/// sizes and ranks.
+pub fn one_first_candidate_is_the_answer()
+    ensures { (p : PosedProblem) (least : List ℕ) (greatest : List (Option ℕ)) (ranks : List ℕ)
+        → IsChecked p.grammar p.algebra least greatest ranks → (hidden : Option ℕ) → HidesAlternatives hidden p.grammar
+        → (answering listing : Command) → answering.mode ≡ Best → listing.mode ≡ KBest → listing.best ≡ 1
+        → (number : ℕ) (report listed : List ℕ) → IsReportIn answering hidden number p report
+        → IsReportIn listing hidden number p listed → TellOneCandidate number p report listed }
+{
+    one_first_tree_is_the_answer();
+    nested_reports_are_the_plain_ones();
 }
 
 /// A command line and bytes have one verdict, where the grammar of the bytes has sizes and ranks if it has no fault;
@@ -92,9 +115,11 @@ pub fn verdict_is_unique()
     report::report_is_unique();
     limits_are_kept_or_passed();
     pair_limits_are_kept_or_passed();
+    list_limits_are_kept_or_passed();
     words_have_one_pair_report();
     words_have_one_certificate();
     words_have_one_score_report();
+    words_have_one_list_report();
     right_certificates_part_at_job();
     right_certificates_are_not_rejected();
     first_false_line_is_unique();
@@ -114,6 +139,7 @@ pub fn words_have_reports()
     words_have_one_pair_report();
     words_have_one_certificate();
     words_have_one_score_report();
+    words_have_one_list_report();
 }
 
 /// What is written as a certificate is accepted under the same algebra, where it is not too long: the verdict on it are

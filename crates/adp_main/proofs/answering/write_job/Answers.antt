@@ -1,9 +1,17 @@
 use Rattle.std.proofs.Common.{inl, inr, refl}
 use Rattle.std.proofs.lemmas.Result.{err_from_is_err_and}
 use Rattle.verdicts.specs.Posed.{posed_words}
+use Rattle.adp_main.proofs.FirstLimit.{own_admitted}
 use Rattle.adp_main.proofs.Reported.{job_ending}
 use Rattle.adp_main.proofs.Told.{undone}
 use Rattle.adp_main.proofs.answering.write_job.Goals as goal
+
+pub write_pieces-requires-clause-admissible : goal.write_pieces-requires-clause-admissible
+write_pieces-requires-clause-admissible g c =
+    let job = c.args.job.now in
+    λ lifetimes inside.
+    own_admitted c.args.command.now (posed_words job.checked.grammar job.checked.algebra job.words)
+    c.in_ok-judged.ensures.admissible
 
 pub returns-clause-ending : goal.returns-clause-ending
 returns-clause-ending g c =

@@ -16,5 +16,5 @@ returns-in_err-report-clause-ending g c =
 pub returns-clause-ending : goal.returns-clause-ending
 returns-clause-ending g c =
     evaluated_word c.args.command.now Replay c.args.number c.args.problem.now c.in_ok-finished.finished
-    c.in_ok-report.report.items c.deref.result.now c.requires.mode (λ e. cc) (λ e. cc) c.in_ok-report.ensures c.deref.ensures.value
+    c.in_ok-report.report.items c.deref.result.now c.requires.mode (λ e. cc) (λ e. cc) (λ e. cc) c.in_ok-report.ensures c.deref.ensures.value
     c.write_run.result _ _ _ _ c.write_run.ensures.ending

@@ -6,7 +6,7 @@ use Rattle.table_certificate.specs.CertificateLines.{forms_of}
 use Rattle.table_certificate.specs.Verified.{IsRejection}
 use Rattle.verdicts.specs.Certificates.{IsRightFor}
 use Rattle.verdicts.specs.Posed.{posed_words}
-use Rattle.verdicts.specs.SecondAlgebra.{IsAdmissibleWith}
+use Rattle.adp_main.specs.Reporting.{IsAdmissibleIn}
 use Rattle.adp_main.specs.Reporting.{HasWritten}
 use Rattle.adp_main.specs.Verifying.{score_reports}
 use Rattle.adp_main.proofs.Verifying.{is_told, limit_ending, rejected_ending, scores-length, told_ending, words_keep}
@@ -22,9 +22,9 @@ returns-in_err-judge_words-clause-ending g c =
 pub verify_all-requires-clause-limits : goal.verify_all-requires-clause-limits
 verify_all-requires-clause-limits g c =
     let job = c.args.job.now in
-    let second = c.args.command.now.second in
-    words_keep second job.checked.grammar job.checked.algebra c.as_slice-words.result.now
-    (subst (λ (ws : List (List ℕ)). AllByRecursion (IsAdmissibleWith second)
+    let command = c.args.command.now in
+    words_keep command job.checked.grammar job.checked.algebra c.as_slice-words.result.now
+    (subst (λ (ws : List (List ℕ)). AllByRecursion (IsAdmissibleIn command)
     (posed_words job.checked.grammar job.checked.algebra ws)) (sym c.as_slice-words.ensures)
     c.in_ok-judge_words.ensures.admissible)
 

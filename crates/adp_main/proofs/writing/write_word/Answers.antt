@@ -63,3 +63,15 @@ returns-in-Cert-clause-ending g c =
     subst (λ (p : PosedProblem). IsWordEnding (IsRunOf c.args.command.now None c.args.number p) c.report_word-in-Cert.result
     (g.G.Gate.runs c.args.gate.now) (g.G.Gate.runs c.report_word-in-Cert.new.gate) (g.K.Sink.held c.args.out.now)
     (g.K.Sink.held c.report_word-in-Cert.new.out)) c.admitted-problem-in-Cert.ensures c.report_word-in-Cert.ensures.ending
+
+pub returns-in-KBest-clause-ending : goal.returns-in-KBest-clause-ending
+returns-in-KBest-clause-ending g c =
+    subst (λ (p : PosedProblem). IsWordEnding (IsRunOf c.args.command.now None c.args.number p) c.report_word-in-KBest.result
+    (g.G.Gate.runs c.args.gate.now) (g.G.Gate.runs c.args.gate.now) (g.K.Sink.held c.args.out.now)
+    (g.K.Sink.held c.report_word-in-KBest.new.out)) c.admitted-problem-in-KBest.ensures
+    (c.report_word-in-KBest.ensures.ending (g.G.Gate.runs c.args.gate.now))
+
+pub admitted-problem-requires-in-KBest-clause-limits : goal.admitted-problem-requires-in-KBest-clause-limits
+admitted-problem-requires-in-KBest-clause-limits g c =
+    own_limits c.args.command.now.second
+    (posed_word c.args.job.now.checked.grammar c.args.job.now.checked.algebra c.args.word.now) c.requires.admissible

@@ -49,26 +49,28 @@ returns-then-not-suits-clause-taken c = (
 )
 
 -- the values that were read, as they stand in the fields
-abbrev Read : goal.After-unwrap_or-3 → OptionValues → Type 0
+abbrev Read : goal.After-unwrap_or-4 → OptionValues → Type 0
 Read c values = AreRead (drop c.loop-place.place (map string_bytes c.args.words.now)) values × Suits c.in_ok-mode.mode values
 
-read : (c : goal.After-unwrap_or-3) → Read c (values_of c.set.inside)
+read : (c : goal.After-unwrap_or-4) → Read c (values_of c.set.inside)
 read c = subst (Read c) (sym c.set.view_is) (c.loop-place.invariant.read, c.suits.ensures.0 c.if-not-suits.false)
 
-is_command : (c : goal.After-unwrap_or-3) → IsCommand (map string_bytes c.args.words.now) (command_of (record {
+is_command : (c : goal.After-unwrap_or-4) → IsCommand (map string_bytes c.args.words.now) (command_of (record {
   mode = c.in_ok-mode.mode;
   algebra = c.set.inside.algebra;
   second = c.set.inside.second;
   workers = c.unwrap_or.result;
   seed = c.unwrap_or-2.result;
   schedule = c.set.inside.schedule;
-  size = c.unwrap_or-3.result;
+  best = c.unwrap_or-3.result;
+  size = c.unwrap_or-4.result;
 }))
 is_command c =
     finish string_bytes c.args.words.now c.index-words-0.result c.as_str.result.now c.in_ok-mode.mode
     c.loop-place.place (values_of c.set.inside) (omega (arith, c.if-words-eq0.false)) c.index-words-0.is
     c.as_str.ensures.value c.in_ok-mode.ensures.known c.loop-place.invariant.odd c.loop-place-test.false
-    (read c).0 (read c).1 _ _ _ c.unwrap_or.ensures c.unwrap_or-2.ensures c.unwrap_or-3.ensures
+    (read c).0 (read c).1 _ _ _ _ c.unwrap_or.ensures c.unwrap_or-2.ensures c.unwrap_or-3.ensures
+    c.unwrap_or-4.ensures
 
 pub invariant_of-result : goal.invariant_of-result
 invariant_of-result c = record {
@@ -83,6 +85,8 @@ invariant_of-result c = record {
       c.index-words-0.is c.as_str.ensures.value c.in_ok-mode.ensures.known c.loop-place.invariant.odd
       c.loop-place-test.false (read c).0;
   paired = (is_command c).paired;
+  few_trees = c.command_is_unique.ensures.few_trees _ _ (is_command c);
+  listed = (is_command c).listed;
   size = c.command_is_unique.ensures.size _ _ (is_command c);
 }
 

@@ -1,4 +1,4 @@
-use Rattle.std.proofs.Common.{◌≡◌, ◌⊎◌, inl, inr, subst, ⊎_elim}
+use Rattle.std.proofs.Common.{inl, inr, subst, ⊎_elim}
 use Rattle.first_trees.specs.Entries.{IsEntry}
 use Rattle.first_trees.proofs.laws.ranked_splits_are_in_total_order.Goals as goal
 

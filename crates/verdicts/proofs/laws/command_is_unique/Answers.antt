@@ -1,4 +1,4 @@
-use Rattle.verdicts.proofs.OneVerdict.{command_unique, some_workers, few_workers, seed_in_range, size_in_range, no_second}
+use Rattle.verdicts.proofs.OneVerdict.{command_unique, some_workers, few_workers, seed_in_range, size_in_range, trees_in_range, no_second, no_trees}
 use Rattle.verdicts.proofs.laws.command_is_unique.Goals as goal
 
 pub returns-clause-command : goal.returns-clause-command
@@ -18,3 +18,9 @@ returns-clause-size c = size_in_range
 
 pub returns-clause-second : goal.returns-clause-second
 returns-clause-second c = no_second
+
+pub returns-clause-few_trees : goal.returns-clause-few_trees
+returns-clause-few_trees c = trees_in_range
+
+pub returns-clause-no_trees : goal.returns-clause-no_trees
+returns-clause-no_trees c = no_trees

@@ -22,6 +22,10 @@ laws c = record {
       (c.pair_limits_are_kept_or_passed.ensures.admissible p second pair);
   one_block = c.words_have_one_certificate.ensures.one;
   one_score = c.words_have_one_score_report.ensures.one;
+  one_list = c.words_have_one_list_report.ensures.one;
+  lists_kept = c.list_limits_are_kept_or_passed.ensures.kept;
+  one_list_limit = c.list_limits_are_kept_or_passed.ensures.one;
+  some_listed = c.list_limits_are_kept_or_passed.ensures.some;
 }
 
 splits : (c : goal.After-first_false_line_is_unique) → SplitLaws

@@ -11,4 +11,5 @@ returns c =
           (c.pair_limits_are_kept_or_passed.ensures.admissible p second pair);
       block = c.words_have_one_certificate.ensures.there;
       score = c.words_have_one_score_report.ensures.there;
+      listed = c.words_have_one_list_report.ensures.there;
     })

@@ -1,7 +1,7 @@
 use Rattle.std.proofs.Common.{refl}
-use Rattle.verdicts.specs.Command.{Algebra, Then, Workers, Seed, Schedule, Size}
+use Rattle.verdicts.specs.Command.{Algebra, Then, Workers, Seed, Schedule, Trees, Size}
 use Rattle.verdicts.specs.ScheduleText.{machines_of}
-use Rattle.command_words.proofs.Options.{added_if, refused_if, not_workers, not_seed, not_schedule, not_size}
+use Rattle.command_words.proofs.Options.{added_if, refused_if, not_workers, not_seed, not_schedule, not_trees, not_size}
 use Rattle.command_words.proofs.words.Settings.add.Goals as goal
 
 pub returns-in-text-clause-added : goal.returns-in-text-clause-added
@@ -42,8 +42,16 @@ returns-in-text-5-clause-refused c =
 
 pub returns-in-text-6-clause-added : goal.returns-in-text-6-clause-added
 returns-in-text-6-clause-added c =
-    added_if c.add_size.result _ _ (λ after adds. (Size adds.0, (c.in-text-6.is, adds.1))) c.add_size.ensures.added
+    added_if c.add_best.result _ _ (λ after adds. (Trees adds.0, (c.in-text-6.is, adds.1))) c.add_best.ensures.added
 
 pub returns-in-text-6-clause-refused : goal.returns-in-text-6-clause-refused
 returns-in-text-6-clause-refused c =
-    refused_if c.add_size.result _ _ (not_size _ _ _ c.in-text-6.is) c.add_size.ensures.refused
+    refused_if c.add_best.result _ _ (not_trees _ _ _ c.in-text-6.is) c.add_best.ensures.refused
+
+pub returns-in-text-7-clause-added : goal.returns-in-text-7-clause-added
+returns-in-text-7-clause-added c =
+    added_if c.add_size.result _ _ (λ after adds. (Size adds.0, (c.in-text-7.is, adds.1))) c.add_size.ensures.added
+
+pub returns-in-text-7-clause-refused : goal.returns-in-text-7-clause-refused
+returns-in-text-7-clause-refused c =
+    refused_if c.add_size.result _ _ (not_size _ _ _ c.in-text-7.is) c.add_size.ensures.refused

@@ -1,0 +1,17 @@
+use Rattle.std.proofs.Common.{inr}
+use Rattle.std.proofs.lemmas.Result.{err_from_is_err_and}
+use Rattle.verdicts.specs.declared.command.Mode.TheVariants.{KBest}
+use Rattle.adp_main.proofs.Running.{in_mode, not_written, swept_word}
+use Rattle.adp_main.proofs.kbest.report_word.Goals as goal
+
+pub returns-in_err-report-clause-ending : goal.returns-in_err-report-clause-ending
+returns-in_err-report-clause-ending g c =
+    let p = err_from_is_err_and c.from_residual.result c.from_residual.ensures.1 in
+    rw (p.1, p.2) (λ runs. not_written runs _)
+
+pub returns-clause-ending : goal.returns-clause-ending
+returns-clause-ending g c = λ runs.
+    swept_word c.args.command.now c.args.number c.args.problem.now c.in_ok-report.report.items c.deref.result.now
+    (inr c.requires.mode)
+    (in_mode c.args.command.now KBest c.args.number c.args.problem.now c.in_ok-report.report.items c.requires.mode
+    c.in_ok-report.ensures) c.deref.ensures.value c.write_report.result runs _ _ c.write_report.ensures.written
