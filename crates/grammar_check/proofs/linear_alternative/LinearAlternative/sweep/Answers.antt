@@ -6,7 +6,7 @@ use Rattle.grammar_check.specs.Plans.{lows, rooms, spread, part_at}
 use Rattle.grammar_check.specs.Alternatives.{AreSpread}
 use Rattle.grammar_check.proofs.Sweeps.{IsSweeping, low_at, rooms_at, sweep_begun, sweep_step, swept, swept_best, none_spread, low_is}
 use Rattle.grammar_check.proofs.Kept.{kept_too_short, kept_too_long, kept_of_ways}
-use Rattle.grammar_check.proofs.linear_alternative.LinearAlternative.extend.Goals as goal
+use Rattle.grammar_check.proofs.linear_alternative.LinearAlternative.sweep.Goals as goal
 
 pub loop-place-init : goal.loop-place-init
 loop-place-init c =
