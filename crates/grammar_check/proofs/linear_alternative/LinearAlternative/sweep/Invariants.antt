@@ -1,7 +1,7 @@
 use Rattle.std.proofs.Common.{◌≡◌, ◌-◌, ◌^◌, min, drop}
 use Rattle.grammar_check.specs.Plans.{rooms}
 use Rattle.grammar_check.proofs.Sweeps.{IsSweeping}
-use Rattle.grammar_check.proofs.linear_alternative.LinearAlternative.extend.Given as goal
+use Rattle.grammar_check.proofs.linear_alternative.LinearAlternative.sweep.Given as goal
 
 abbrev pub invariant-loop-place : goal.invariant-loop-place
 invariant-loop-place l = record {
