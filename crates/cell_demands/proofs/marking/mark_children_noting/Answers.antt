@@ -6,8 +6,8 @@ use Rattle.cell_tables.specs.Marks.{AreMarkedFrom}
 use Rattle.cell_demands.proofs.Splitting.{child_of_demands}
 use Rattle.cell_demands.proofs.LineDemands.{DemandsByFirst, one_more_alternative, all_alternatives}
 use Rattle.cell_demands.proofs.MarkSteps.{none_marked}
-use Rattle.cell_demands.proofs.marking.mark_children.Goals as goal
-use Rattle.cell_demands.proofs.marking.mark_children.Goals.{After-alternatives-alternatives}
+use Rattle.cell_demands.proofs.marking.mark_children_noting.Goals as goal
+use Rattle.cell_demands.proofs.marking.mark_children_noting.Goals.{After-alternatives-alternatives}
 
 admissible : (c : After-alternatives-alternatives) → IsAdmissible c.args.lines.now
 admissible c = let A : PosedProblem → Type 0 = IsAdmissible in subst A c.problem.ensures c.admissible.ensures
@@ -28,18 +28,22 @@ mark_alternative-requires-clause-counted c = λ child demands.
     c.requires.counted child (child_of_demands c.args.lines.now c.args.cell c.loop-number.number child (omega (arith, c.alternatives-alternatives.ensures.each, c.loop-number-test.true)) (few at c.loop-number.number) demands)
 
 pub loop-number-init : goal.loop-number-init
-loop-number-init c =
-    none_marked c.args.cell.from c.args.marks.now (DemandsByFirst c.args.lines.now c.args.cell 0) (λ child (alternative, l, demands). absurd (omega arith))
+loop-number-init c = record {
+  marked = none_marked c.args.cell.from c.args.marks.now (DemandsByFirst c.args.lines.now c.args.cell 0) (λ child (alternative, l, demands). absurd (omega arith));
+  noted = c.requires.noted;
+}
 
 pub loop-number-preserved : goal.loop-number-preserved
-loop-number-preserved c =
-    one_more_alternative c.args.lines.now c.args.cell c.args.cell.from c.loop-number.number c.args.marks.now c.loop-number.marks c.mark_alternative.new.marks c.loop-number.invariant c.mark_alternative.ensures
+loop-number-preserved c = record {
+  noted = c.mark_alternative.ensures.noted;
+  marked = one_more_alternative c.args.lines.now c.args.cell c.args.cell.from c.loop-number.number c.args.marks.now c.loop-number.marks c.mark_alternative.new.marks c.loop-number.invariant.marked c.mark_alternative.ensures.marked;
+}
 
-pub returns : goal.returns
-returns c =
-    let at = (goal.at.returns c).After-alternatives-alternatives in
+pub returns-clause-marked : goal.returns-clause-marked
+returns-clause-marked c =
+    let at = (goal.at.returns-clause-marked c).After-alternatives-alternatives in
     let p = c.args.lines.now in
     let cell = c.args.cell in
     let whole : c.loop-number.number ≡ length (alternatives_of p.grammar cell.rule) = omega (arith, c.alternatives-alternatives.ensures.each) in
     let M : ℕ → Type 0 = λ count. AreMarkedFrom cell.from c.args.marks.now c.loop-number.marks (DemandsByFirst p cell count) in
-    all_alternatives p cell (few at) cell.from c.args.marks.now c.loop-number.marks (subst M whole c.loop-number.invariant)
+    all_alternatives p cell (few at) cell.from c.args.marks.now c.loop-number.marks (subst M whole c.loop-number.invariant.marked)
