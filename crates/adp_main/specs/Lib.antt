@@ -6,5 +6,6 @@ pub mod CompiledWords
 pub mod RunNotes
 pub mod Ending
 pub mod Writing
+pub mod FirstWords
 pub mod Reporting
 pub mod Verifying
