@@ -10,37 +10,45 @@ use Rattle.adp_model.specs.PosedProblem.{PosedProblem}
 use Rattle.adp_model.specs.declared.grammar.Grammar.{Grammar}
 use Rattle.verdicts.specs.Posed.{posed_word, posed_words}
 use Rattle.verdicts.specs.declared.command.Mode.{Mode}
+use Rattle.verdicts.specs.declared.command.Mode.TheVariants.{Best, Cert}
 use Rattle.verdicts.specs.Command.{Command}
 use Rattle.verdicts.specs.SecondAlgebra.{IsAdmissibleWith}
 use Rattle.evaluators.specs.declared.finished.RunNote.{RunNote}
 use Rattle.report.specs.declared.fault.Fault.{Fault}
 use Rattle.adp_main.specs.declared.status.Status.TheVariants.{Done}
 use Rattle.adp_main.specs.Faults.{status_of}
-use Rattle.adp_main.specs.FirstWords.{AreFirstEnding, AreReported, IsGrouped, IsReportedUpTo}
+use Rattle.adp_main.specs.FirstWords.{AreFirstEnding, AreReported, IsReportedUpTo}
+use Rattle.adp_main.specs.Groups.{IsGrouped}
 use Rattle.adp_main.specs.Reporting.{AreReportsOf, HasWritten}
 use Rattle.adp_main.specs.RunNotes.{AddsNotes, AreNoted, AreRunsOf, IsRunOf}
 use Rattle.adp_main.specs.Writing.{IsWordEnding}
 use Rattle.adp_main.proofs.FirstLimit.{posed_at}
 use Rattle.adp_main.proofs.Running.{adds_more, adds_none, all_noted, failed_noted, failed_written, run_reports, runs_joined}
-use Rattle.adp_main.proofs.Written.{AllReported, grew_more}
+use Rattle.adp_main.proofs.Written.{AllReported}
 
 -- ---- lists
 
 -- some items, and some more behind them
 pub take_further : {A : Type 0} (k count : ℕ) (xs : List A) → take k xs ++ take count (drop k xs) ≡ take (k + count) xs
 take_further zero count xs = let e : count ≡ 0 + count = omega arith in ap (λ n. take n xs) e
-take_further (suc k) count [] = take-nil count
+take_further (suc k) count [] = take-nil count ∙ sym (take-nil (suc k + count))
 take_further (suc k) count (x ∷ xs) =
     let e : suc k + count ≡ suc (k + count) = omega arith in
     ap (λ ys. x ∷ ys) (take_further k count xs) ∙ ap (λ n. take n (x ∷ xs)) (sym e)
 
 -- two lists at one place
-pub zip_at : {A B : Type 0} (R : A → B → Type 0) (xs : List A) (ys : List B) (k : ℕ) (x : A) (y : B) → AllZip R xs ys
+read_both : {A B : Type 0} (R : A → B → Type 0) (xs : List A) (ys : List B) (k : ℕ) (x : A) (y : B) → AllZip R xs ys
     → k < length xs → R (get_or xs k x) (get_or ys k y)
-zip_at R [] ys k x y all inside = absurd (omega (arith, inside))
-zip_at R (a ∷ xs) [] k x y all inside = absurd all
-zip_at R (a ∷ xs) (b ∷ ys) zero x y all inside = all.0
-zip_at R (a ∷ xs) (b ∷ ys) (suc k) x y all inside = zip_at R xs ys k x y all.1 (omega (arith, inside))
+read_both R [] ys k x y all inside = absurd (omega (arith, inside))
+read_both R (a ∷ xs) [] k x y all inside = absurd all
+read_both R (a ∷ xs) (b ∷ ys) zero x y all inside = all.0
+read_both R (a ∷ xs) (b ∷ ys) (suc k) x y all inside = read_both R xs ys k x y all.1 (omega (arith, inside))
+
+pub zip_at : {A B : Type 0} (R : A → B → Type 0) (xs : List A) (ys : List B) (k : ℕ) (x : A) (y : B) → AllZip R xs ys
+    → k < length xs → x ≡ get_or xs k x → y ≡ get_or ys k y → R x y
+zip_at R xs ys k x y all inside first second =
+    subst (λ it. R it y) (sym first)
+    (subst (λ it. R (get_or xs k x) it) (sym second) (read_both R xs ys k x y all inside))
 
 pub zip_length : {A B : Type 0} (R : A → B → Type 0) (xs : List A) (ys : List B) → AllZip R xs ys → length xs ≡ length ys
 zip_length R [] [] all = refl
@@ -74,6 +82,15 @@ first_at grammar algebra words all k word same inside is =
 -- a mode that takes groups follows no schedule, makes no sweep and has one algebra
 pub grouped : (mode other : Mode) → IsGrouped mode → (IsGrouped other → ⊥) → mode ≡ other → ⊥
 grouped mode other is none same = none (subst IsGrouped same is)
+
+-- there are two of them
+pub best_or_cert : (mode : Mode) → IsGrouped mode → (mode ≡ Cert → ⊥) → mode ≡ Best
+best_or_cert Best is other = refl
+best_or_cert Cert is other = absurd (other refl)
+best_or_cert mode is other = absurd is
+
+pub no_other : (mode : Mode) → IsGrouped mode → (mode ≡ Best → ⊥) → (mode ≡ Cert → ⊥) → ⊥
+no_other mode is best cert = best (best_or_cert mode is cert)
 
 -- ---- word by word
 

@@ -3,8 +3,6 @@ use Rattle.std.specs.Prelude.{◌≡◌, ℕ, ◌+◌, ◌<◌, ◌≤◌, List,
 use Rattle.std.specs.List.{concat}
 use Rattle.std.specs.Io.KnownBytes.{Appends}
 use Rattle.adp_model.specs.PosedProblem.{PosedProblem}
-use Rattle.verdicts.specs.declared.command.Mode.{Mode}
-use Rattle.verdicts.specs.declared.command.Mode.TheVariants.{Best, Cert}
 use Rattle.verdicts.specs.Command.{Command}
 use Rattle.evaluators.specs.declared.finished.RunNote.{RunNote}
 use Rattle.report.specs.declared.fault.Fault.{Fault}
@@ -12,12 +10,6 @@ use Rattle.adp_main.specs.declared.status.Status.TheVariants.{WriteFault}
 use Rattle.adp_main.specs.Faults.{status_of}
 use Rattle.adp_main.specs.RunNotes.{AddsNotes, AreRunsOf, IsRunOf}
 use Rattle.adp_main.specs.Writing.{IsWordEnding}
-
--- the mode's words are solved in groups: its reports tell nothing of evaluators
-abbrev pub IsGrouped : Mode → Type 0
-IsGrouped Best = Unit {0}
-IsGrouped Cert = Unit {0}
-IsGrouped mode = ⊥
 
 -- these problems were reported in order, the first of which has this number, each whole, and noted
 pub record AreReported (command : Command) (number : ℕ) (problems : List PosedProblem)

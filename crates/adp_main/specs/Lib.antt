@@ -7,5 +7,6 @@ pub mod RunNotes
 pub mod Ending
 pub mod Writing
 pub mod FirstWords
+pub mod Groups
 pub mod Reporting
 pub mod Verifying

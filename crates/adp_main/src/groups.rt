@@ -1,14 +1,14 @@
 //! Groups of words: solved side by side, each on one thread, and reported in order.
-ghost use Rattle.std.specs.Prelude.{◌≡◌, ◌++◌, ◌+◌, ◌<◌, ◌≤◌, List, ℕ, Option, None, IfOk, IsTrue, drop, length};
+ghost use Rattle.std.specs.Prelude.{◌≡◌, ◌↔◌, ◌++◌, ◌+◌, ◌<◌, ◌≤◌, List, ℕ, None, IfOk, IsTrue, drop, length};
 ghost use Rattle.std.specs.List.{AllByRecursion, AllZip};
 ghost use Rattle.adp_io.specs.Causes.{RisesWhere};
 ghost use Rattle.adp_io.specs.Streams.{SameTold};
 ghost use Rattle.adp_model.specs.PosedProblem.{PosedProblem};
-ghost use Rattle.adp_model.specs.ProblemFields.{most_cells};
 ghost use Rattle.verdicts.specs.Posed.{posed_words};
 ghost use Rattle.verdicts.specs.SecondAlgebra.{IsAdmissibleWith};
 ghost use Rattle.verdicts.specs.Verdict.{IsReportWith};
-ghost use Rattle.adp_main.specs.FirstWords.{AreFirstEnding, IsGrouped, IsWriteFault};
+ghost use Rattle.adp_main.specs.FirstWords.{AreFirstEnding, IsWriteFault};
+ghost use Rattle.adp_main.specs.Groups.{HasRoom, IsGrouped, TakesGroups};
 ghost use Rattle.adp_main.specs.KeptLengths.{HaveKept};
 ghost use Rattle.adp_main.specs.Reporting.{AreShort};
 ghost use Rattle.adp_main.specs.Seconds.{AreJobRows};
@@ -40,7 +40,7 @@ const MOST_CELLS: u64 = 2_097_152;
 
 /// Whether words are solved in groups: where there are workers enough, and reports tell nothing of them.
 fn takes_groups(command: &Command<'_>) -> bool
-    ensures { IsTrue result → IsGrouped command.now.mode }
+    ensures { IsTrue result ↔ TakesGroups command.now }
 {
     match command.mode {
         Mode::Best | Mode::Cert => command.workers > 1,
@@ -129,9 +129,7 @@ fn next_group<'a>(
 
 /// Whether a group of so many words takes one more, with which it has so many counted cells.
 fn has_room(words: usize, cells: u64, workers: usize) -> bool
-    ensures few { IsTrue result → words < 64 }
-    ensures bounded { IsTrue result → cells ≤ most_cells }
-    ensures many { words < workers → words < 64 → cells ≤ most_cells → IsTrue result }
+    ensures { IsTrue result ↔ HasRoom words cells workers }
 {
     words < MOST_WORDS && cells <= MOST_CELLS && (words < workers || cells <= ENOUGH_CELLS)
 }
@@ -219,9 +217,9 @@ fn report_of<'a>(
     ensures { IfOk result (λ report. IsReportWith command.now.mode command.now None number problem.now
         finished.now.wins.items report.items) }
 {
-    match command.mode {
-        Mode::Best => plain_report(alloc, number, problem, finished),
-        Mode::Cert => block_report(alloc, number, problem, finished),
-        _ => unreachable!(),
+    if command.certifies() {
+        block_report(alloc, number, problem, finished)
+    } else {
+        plain_report(alloc, number, problem, finished)
     }
 }

@@ -1,4 +1,4 @@
-use Rattle.std.proofs.Common.{◌≡◌, ◌+◌, ◌<◌, ◌≤◌, ◌∙◌, ℕ, length, take, refl, sym, ap, subst, arith}
+use Rattle.std.proofs.Common.{◌≡◌, ◌+◌, ◌<◌, ◌≤◌, ◌∙◌, ℕ, Ok, Err, length, take, refl, sym, ap, subst, arith}
 use Rattle.std.proofs.lemmas.Result.{err_from_is_err_and}
 use Rattle.verdicts.specs.declared.command.Mode.TheVariants.{Serial, KBest, Lex}
 use Rattle.adp_main.specs.FirstWords.{AreReported}
@@ -14,6 +14,24 @@ loop-place-init g c =
       faults = refl;
       ran = none_reported c.args.command.now c.args.number (g.G.Gate.runs c.args.gate.now) (g.K.Sink.held c.args.out.now);
     }
+
+pub bounds-all-place : goal.bounds-all-place
+bounds-all-place g c =
+    omega (arith, zip_length (IsRunFor c.args.command.now) c.args.problems.now c.args.all.now c.requires.solved,
+    c.loop-place-test.true)
+
+pub report_of-requires-clause-run : goal.report_of-requires-clause-run
+report_of-requires-clause-run g c =
+    zip_at (IsRunFor c.args.command.now) c.args.problems.now c.args.all.now c.loop-place.place
+    c.index-problems-place.result c.index-all-place.result c.requires.solved (omega arith) c.index-problems-place.is
+    c.index-all-place.is
+
+pub write_run-requires-after_bounds : goal.write_run-requires-after_bounds
+write_run-requires-after_bounds g c =
+    λ lifetimes inside.
+    zip_at (IsRunFor c.args.command.now) c.args.problems.now c.args.all.now c.loop-place.place
+    c.index-problems-place.result c.index-all-place.result c.requires.solved (omega arith) c.index-problems-place.is
+    c.index-all-place.is
 
 pub loop-place-preserved : goal.loop-place-preserved
 loop-place-preserved g c =
@@ -31,7 +49,9 @@ loop-place-preserved g c =
           c.index-all-place.result c.in-Ok.report.items c.deref.result.now refl
           (grouped command.mode Serial c.requires.mode (λ none. none))
           (grouped command.mode KBest c.requires.mode (λ none. none)) (grouped command.mode Lex c.requires.mode (λ none. none))
-          c.in-Ok.ensures c.deref.ensures.value _ _ _ _ _ e.ending);
+          c.in-Ok.ensures c.deref.ensures.value (Ok tt) (g.G.Gate.runs c.loop-place.gate)
+          (g.G.Gate.runs c.write_run.new.gate) (g.K.Sink.held c.loop-place.out) (g.K.Sink.held c.write_run.new.out)
+          e.ending);
     }
 
 pub returns-in-Err-clause-ending : goal.returns-in-Err-clause-ending
@@ -58,7 +78,9 @@ returns-in_err-write_run-clause-ending g c =
             (grouped command.mode Serial c.requires.mode (λ none. none))
             (grouped command.mode KBest c.requires.mode (λ none. none))
             (grouped command.mode Lex c.requires.mode (λ none. none))
-            c.in-Ok.ensures c.deref.ensures.value _ _ _ _ _ c.in_err-write_run.ensures.ending;
+            c.in-Ok.ensures c.deref.ensures.value (Err c.in_err-write_run.field-0.0) (g.G.Gate.runs c.loop-place.gate)
+            (g.G.Gate.runs c.write_run.new.gate) (g.K.Sink.held c.loop-place.out) (g.K.Sink.held c.write_run.new.out)
+            c.in_err-write_run.ensures.ending;
       },
     )
 

@@ -19,16 +19,16 @@ returns-in_err-write_word-clause-ending g c =
     let command = c.args.command.now in
     let job = c.args.job.now in
     let all = posed_words job.checked.grammar job.checked.algebra job.words in
-    let word = c.index-words-place-word.result in
+    let word = c.index-words-place.result in
     let asked = posed_word job.checked.grammar job.checked.algebra word in
     let at = first_at job.checked.grammar job.checked.algebra c.as_slice-words.result.now job.words c.args.place word
-    c.as_slice-words.ensures c.requires.inside c.index-words-place-word.is in
-    let none : c.in_ok-count.count ≡ 0 = omega (arith, c.if-count.false) in
+    c.as_slice-words.ensures c.requires.inside c.index-words-place.is in
+    let none : c.in_ok-count.count ≡ 0 = omega (arith, c.if-count-gt0.false) in
     rw (p.1, p.2) (first_failed command (c.args.place + 1) (drop c.args.place all) asked at.0 at.1
     c.in_err-write_word.field-0.0 _ _ _ _ _ _
     (subst (λ (n : ℕ). AreReported command (c.args.place + 1) (take n (drop c.args.place all))
-    (g.G.Gate.runs c.args.gate.now) (g.G.Gate.runs c.write_side_by_side-count.new.gate)
-    (g.K.Sink.held c.args.out.now) (g.K.Sink.held c.write_side_by_side-count.new.out)) none c.in_ok-count.ensures.ending.1)
+    (g.G.Gate.runs c.args.gate.now) (g.G.Gate.runs c.write_side_by_side.new.gate)
+    (g.K.Sink.held c.args.out.now) (g.K.Sink.held c.write_side_by_side.new.out)) none c.in_ok-count.ensures.ending.1)
     c.in_err-write_word.ensures.ending)
 
 pub returns-clause-ending : goal.returns-clause-ending
@@ -36,13 +36,13 @@ returns-clause-ending g c =
     let command = c.args.command.now in
     let job = c.args.job.now in
     let all = posed_words job.checked.grammar job.checked.algebra job.words in
-    let word = c.index-words-place-word.result in
+    let word = c.index-words-place.result in
     let asked = posed_word job.checked.grammar job.checked.algebra word in
     let at = first_at job.checked.grammar job.checked.algebra c.as_slice-words.result.now job.words c.args.place word
-    c.as_slice-words.ensures c.requires.inside c.index-words-place-word.is in
-    let none : c.in_ok-count.count ≡ 0 = omega (arith, c.if-count.false) in
+    c.as_slice-words.ensures c.requires.inside c.index-words-place.is in
+    let none : c.in_ok-count.count ≡ 0 = omega (arith, c.if-count-gt0.false) in
     first_done command (c.args.place + 1) (drop c.args.place all) asked at.0 at.1 tt _ _ _ _ _ _
     (subst (λ (n : ℕ). AreReported command (c.args.place + 1) (take n (drop c.args.place all))
-    (g.G.Gate.runs c.args.gate.now) (g.G.Gate.runs c.write_side_by_side-count.new.gate)
-    (g.K.Sink.held c.args.out.now) (g.K.Sink.held c.write_side_by_side-count.new.out)) none c.in_ok-count.ensures.ending.1)
+    (g.G.Gate.runs c.args.gate.now) (g.G.Gate.runs c.write_side_by_side.new.gate)
+    (g.K.Sink.held c.args.out.now) (g.K.Sink.held c.write_side_by_side.new.out)) none c.in_ok-count.ensures.ending.1)
     c.in_ok-write_word.ensures.ending

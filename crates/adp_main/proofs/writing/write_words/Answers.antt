@@ -15,34 +15,34 @@ loop-place-init g c =
       ran = none_reported c.args.command.now 1 (g.G.Gate.runs c.args.gate.now) (g.K.Sink.held c.args.out.now);
     }
 
-pub returns-in_err-write_next-clause-written : goal.returns-in_err-write_next-clause-written
-returns-in_err-write_next-clause-written g c =
+pub returns-in_err-place-clause-written : goal.returns-in_err-place-clause-written
+returns-in_err-place-clause-written g c =
     let p = err_from_is_err_and c.from_residual.result c.from_residual.ensures.1 in
     let command = c.args.command.now in
     let job = c.args.job.now in
     let all = posed_words job.checked.grammar job.checked.algebra job.words in
     let number : length all ≡ length job.words = length-map job.words _ in
-    let up = c.in_err-write_next.ensures.ending in
+    let up = c.in_err-place.ensures.ending in
     rw (p.1, p.2) (up_to_written command
     (λ number q admissible. c.words_have_reports.ensures command None number q c.requires.reads
     c.in_range.ensures.paired c.in_range.ensures.some_workers admissible tt)
-    all c.requires.admissible _ _ _ _ (c.loop-place.place + up.0) c.in_err-write_next.field-0.0
-    (next_failed command all c.loop-place.place up.0 c.in_err-write_next.field-0.0 _ _ _ _ _ _
+    all c.requires.admissible _ _ _ _ (c.loop-place.place + up.0) c.in_err-place.field-0.0
+    (next_failed command all c.loop-place.place up.0 c.in_err-place.field-0.0 _ _ _ _ _ _
     (omega (arith, number, c.loop-place.invariant.inside)) c.loop-place.invariant.ran up.1))
 
-pub returns-in_err-write_next-clause-noted : goal.returns-in_err-write_next-clause-noted
-returns-in_err-write_next-clause-noted g c =
+pub returns-in_err-place-clause-noted : goal.returns-in_err-place-clause-noted
+returns-in_err-place-clause-noted g c =
     let p = err_from_is_err_and c.from_residual.result c.from_residual.ensures.1 in
     let command = c.args.command.now in
     let job = c.args.job.now in
     let all = posed_words job.checked.grammar job.checked.algebra job.words in
     let number : length all ≡ length job.words = length-map job.words _ in
-    let up = c.in_err-write_next.ensures.ending in
+    let up = c.in_err-place.ensures.ending in
     rw (p.1, p.2) (up_to_noted command
     (λ number q admissible. c.words_have_reports.ensures command None number q c.requires.reads
     c.in_range.ensures.paired c.in_range.ensures.some_workers admissible tt)
-    all c.requires.admissible _ _ _ _ (c.loop-place.place + up.0) c.in_err-write_next.field-0.0
-    (next_failed command all c.loop-place.place up.0 c.in_err-write_next.field-0.0 _ _ _ _ _ _
+    all c.requires.admissible _ _ _ _ (c.loop-place.place + up.0) c.in_err-place.field-0.0
+    (next_failed command all c.loop-place.place up.0 c.in_err-place.field-0.0 _ _ _ _ _ _
     (omega (arith, number, c.loop-place.invariant.inside)) c.loop-place.invariant.ran up.1))
 
 pub loop-place-preserved : goal.loop-place-preserved
@@ -51,8 +51,8 @@ loop-place-preserved g c =
     let job = c.args.job.now in
     let all = posed_words job.checked.grammar job.checked.algebra job.words in
     let number : length all ≡ length job.words = length-map job.words _ in
-    let e = c.in_ok-write_next.ensures in
-    let count = c.in_ok-write_next.field-0 in
+    let e = c.in_ok-place.ensures in
+    let count = c.in_ok-place.field-0 in
     record {
       inside = omega (arith, number, e.ending.0, length-drop c.loop-place.place all, c.loop-place.invariant.inside);
       kept = e.kept;
@@ -68,7 +68,7 @@ returns-clause-written g c =
     let job = c.args.job.now in
     let all = posed_words job.checked.grammar job.checked.algebra job.words in
     let number : length all ≡ length job.words = length-map job.words _ in
-    let past : length all ≤ c.loop-place.place = omega (arith, number, c.loop-place-test.false, ap length c.as_slice.ensures) in
+    let past : length all ≤ c.loop-place.place = omega (arith, number, c.loop-place-test.false, ap length c.as_slice-words.ensures) in
     whole_written command
     (λ number q admissible. c.words_have_reports.ensures command None number q c.requires.reads
     c.in_range.ensures.paired c.in_range.ensures.some_workers admissible tt)
@@ -81,7 +81,7 @@ returns-clause-noted g c =
     let job = c.args.job.now in
     let all = posed_words job.checked.grammar job.checked.algebra job.words in
     let number : length all ≡ length job.words = length-map job.words _ in
-    let past : length all ≤ c.loop-place.place = omega (arith, number, c.loop-place-test.false, ap length c.as_slice.ensures) in
+    let past : length all ≤ c.loop-place.place = omega (arith, number, c.loop-place-test.false, ap length c.as_slice-words.ensures) in
     whole_noted command
     (λ number q admissible. c.words_have_reports.ensures command None number q c.requires.reads
     c.in_range.ensures.paired c.in_range.ensures.some_workers admissible tt)
