@@ -6,6 +6,8 @@ use Rattle.std.proofs.KnownBytes.{Appends-nil, Appends-trans}
 use Rattle.std.proofs.Math.Seq.{take-nil}
 use Rattle.std.proofs.lemmas.List.{append-nil, take_more, length-take-le, take-append-le, get_or_append_left, get_or-drop}
 use Rattle.std.proofs.lemmas.List.Folds.{concat-append}
+use Rattle.std.proofs.lemmas.List.Sums.{sum_by_push}
+use Rattle.adp_model.specs.Cells.{IsCellBound}
 use Rattle.adp_model.specs.PosedProblem.{PosedProblem}
 use Rattle.adp_model.specs.declared.grammar.Grammar.{Grammar}
 use Rattle.verdicts.specs.Posed.{posed_word, posed_words}
@@ -18,7 +20,7 @@ use Rattle.report.specs.declared.fault.Fault.{Fault}
 use Rattle.adp_main.specs.declared.status.Status.TheVariants.{Done}
 use Rattle.adp_main.specs.Faults.{status_of}
 use Rattle.adp_main.specs.FirstWords.{AreFirstEnding, AreReported, IsReportedUpTo}
-use Rattle.adp_main.specs.Groups.{IsGrouped}
+use Rattle.adp_main.specs.Groups.{HaveCells, IsGrouped}
 use Rattle.adp_main.specs.Reporting.{AreReportsOf, HasWritten}
 use Rattle.adp_main.specs.RunNotes.{AddsNotes, AreNoted, AreRunsOf, IsRunOf}
 use Rattle.adp_main.specs.Writing.{IsWordEnding}
@@ -56,6 +58,13 @@ zip_length R [] (b ∷ ys) all = absurd all
 zip_length R (a ∷ xs) [] all = absurd all
 zip_length R (a ∷ xs) (b ∷ ys) all = ap suc (zip_length R xs ys all.1)
 
+zip_more : {A B : Type 0} (R : A → B → Type 0) (xs : List A) (ys : List B) (x : A) (y : B) → AllZip R xs ys → R x y
+    → AllZip R (xs ++ x ∷ []) (ys ++ y ∷ [])
+zip_more R [] [] x y all one = (one, tt)
+zip_more R [] (b ∷ ys) x y all one = absurd all
+zip_more R (a ∷ xs) [] x y all one = absurd all
+zip_more R (a ∷ xs) (b ∷ ys) x y all one = (all.0, zip_more R xs ys x y all.1 one)
+
 pub zip_weaker : {A B : Type 0} (R S : A → B → Type 0) → ((x : A) (y : B) → R x y → S x y) → (xs : List A) (ys : List B)
     → AllZip R xs ys → AllZip S xs ys
 zip_weaker R S more [] [] all = tt
@@ -76,6 +85,17 @@ first_at grammar algebra words all k word same inside is =
       at.1 ∙ ap (λ n. get_or (posed_words grammar algebra all) n p) here
           ∙ sym (get_or-drop k (posed_words grammar algebra all) 0 p),
     )
+
+-- ---- cells
+
+-- one more problem, and its counted cells with those of the others
+pub cells_more : (ps : List PosedProblem) (p : PosedProblem) (cells count : ℕ) → HaveCells ps cells
+    → IsCellBound p.grammar (length p.word) count → HaveCells (ps ++ p ∷ []) (cells + count)
+cells_more ps p cells count (counts, each, is) bound = (
+  counts ++ count ∷ [],
+  zip_more (λ (it : PosedProblem) (number : ℕ). IsCellBound it.grammar (length it.word) number) ps counts p count each bound,
+  ap (λ n. n + count) is ∙ sym (sum_by_push (λ n. n) counts count),
+)
 
 -- ---- modes
 

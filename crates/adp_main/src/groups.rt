@@ -4,11 +4,12 @@ ghost use Rattle.std.specs.List.{AllByRecursion, AllZip};
 ghost use Rattle.adp_io.specs.Causes.{RisesWhere};
 ghost use Rattle.adp_io.specs.Streams.{SameTold};
 ghost use Rattle.adp_model.specs.PosedProblem.{PosedProblem};
+ghost use Rattle.adp_model.specs.ProblemFields.{most_cells};
 ghost use Rattle.verdicts.specs.Posed.{posed_words};
 ghost use Rattle.verdicts.specs.SecondAlgebra.{IsAdmissibleWith};
 ghost use Rattle.verdicts.specs.Verdict.{IsReportWith};
 ghost use Rattle.adp_main.specs.FirstWords.{AreFirstEnding, IsWriteFault};
-ghost use Rattle.adp_main.specs.Groups.{HasRoom, IsGrouped, TakesGroups};
+ghost use Rattle.adp_main.specs.Groups.{HasRoom, HaveCells, IsGrouped, TakesGroups};
 ghost use Rattle.adp_main.specs.KeptLengths.{HaveKept};
 ghost use Rattle.adp_main.specs.Reporting.{AreShort};
 ghost use Rattle.adp_main.specs.Seconds.{AreJobRows};
@@ -105,6 +106,7 @@ fn next_group<'a>(
     requires admissible { AllByRecursion (IsAdmissibleWith command.now.second)
         (posed_words job.now.checked.grammar job.now.checked.algebra job.now.words) }
     ensures few { length result.items ≤ 64 }
+    ensures small { (cells : ℕ) × HaveCells result.items cells × (cells ≤ most_cells) }
     ensures first { (rest : List PosedProblem) × (result.items ++ rest
         ≡ drop place (posed_words job.now.checked.grammar job.now.checked.algebra job.now.words)) }
 {

@@ -14,8 +14,14 @@ write_group-requires-clause-few g c =
     let problems = c.next_group-problems.result in
     let rest = c.next_group-problems.ensures.first in
     let number : length all ≡ length job.words = length-map job.words _ in
-    omega (arith, number, length-drop c.args.place all, length-append problems.items rest.0,
-    ap length {y = drop c.args.place all} rest.1, c.deref.ensures.len)
+    omega (
+      arith,
+      number,
+      length-drop c.args.place all,
+      length-append problems.items rest.0,
+      ap length {y = drop c.args.place all} rest.1,
+      c.deref.ensures.len,
+    )
 
 pub returns-in_err-written-clause-ending : goal.returns-in_err-written-clause-ending
 returns-in_err-written-clause-ending g c =

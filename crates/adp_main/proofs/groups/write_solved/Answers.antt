@@ -17,8 +17,11 @@ loop-place-init g c =
 
 pub bounds-all-place : goal.bounds-all-place
 bounds-all-place g c =
-    omega (arith, zip_length (IsRunFor c.args.command.now) c.args.problems.now c.args.all.now c.requires.solved,
-    c.loop-place-test.true)
+    omega (
+      arith,
+      zip_length (IsRunFor c.args.command.now) c.args.problems.now c.args.all.now c.requires.solved,
+      c.loop-place-test.true,
+    )
 
 pub report_of-requires-clause-run : goal.report_of-requires-clause-run
 report_of-requires-clause-run g c =
