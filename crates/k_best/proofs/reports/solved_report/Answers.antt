@@ -1,5 +1,5 @@
 use Rattle.k_best.proofs.Reporting.{preferred_whole}
-use Rattle.k_best.proofs.reports.preferred_report.Goals as goal
+use Rattle.k_best.proofs.reports.solved_report.Goals as goal
 
 pub returns : goal.returns
 returns c =
