@@ -52,9 +52,11 @@ fn word_score(problem: &Problem<'_>, solved: &Solved<'_>) -> Option<i64>
 fn written_outcome<'p, 't>(
     alloc: Global,
     problem: &'p Problem<'p>,
+    solved: &Solved<'p>,
     number: u32,
     text: &'t [u8],
 ) -> Result<Option<Outcome<'t>>, AllocError>
+    requires { solved.now ≡ problem.now }
     ensures outcome { IfOk result (λ found. IfSome found (IsOutcome problem.now number text.now)) }
     ensures within { IfOk result (λ found. IfSome found (IsWithin text.now)) }
 {
@@ -65,13 +67,12 @@ fn written_outcome<'p, 't>(
     demanded_cells_are_within_the_cell_bound();
     words_keep_their_score_bound();
     parts_have_names();
-    let solved = solve(alloc, problem)?;
-    let block = certificate(alloc, number, problem, &solved)?;
+    let block = certificate(alloc, number, problem, solved)?;
     let Some(behind) = behind_block(problem.grammar, &block, text) else {
         return Ok(None);
     };
     Ok(Some(Outcome::Right {
-        value: word_score(problem, &solved),
+        value: word_score(problem, solved),
         lines: solved.cells() as u32 + 1,
         behind,
     }))
@@ -90,8 +91,9 @@ pub(crate) fn verify_block<'p, 't>(
     ensures outcome { IfOk result (IsOutcome problem.now number text.now) }
     ensures within { IfOk result (IsWithin text.now) }
 {
-    match written_outcome(alloc, problem, number, text)? {
+    let solved = solve(alloc, problem)?;
+    match written_outcome(alloc, problem, &solved, number, text)? {
         Some(outcome) => Ok(outcome),
-        None => judge_block(alloc, problem, number, text),
+        None => judge_block(alloc, problem, &solved, number, text),
     }
 }
