@@ -37,6 +37,51 @@ fn note_slot(basis: &Basis<'_, '_>, grown: &mut Grown, cell: Cell, slot: usize)
     }
 }
 
+/// The list of a demanded cell as it begins, where it has not begun.
+fn begun(
+    alloc: Global,
+    basis: &Basis<'_, '_>,
+    grown: &Grown,
+    cell: Cell,
+) -> Result<Option<Growing>, AllocError>
+    requires basis { IsBasis basis.now }
+    requires growing { AreGrowing basis.now.lines.now basis.now.k grown.now.lists.items }
+    ensures { IfOk result (λ list. IfSome list (IsGrowingList basis.now.lines.now basis.now.k)) }
+{
+    if slot_of(basis, grown, cell).is_none() || list_of(basis, grown, cell).is_some() {
+        return Ok(None);
+    }
+    let mut found = Vec::new(alloc);
+    if !meet_all_heads(basis, grown, cell, &mut found)? {
+        return Ok(None);
+    }
+    Ok(Some(Growing {
+        cell,
+        found,
+        opened: 0,
+    }))
+}
+
+/// How many lists have begun.
+fn count(grown: &Grown) -> usize
+    ensures { result ≡ length grown.now.lists.items }
+{
+    grown.lists.len()
+}
+
+/// Adds a list to the others.
+fn add(basis: &Basis<'_, '_>, grown: &mut Grown, list: Growing) -> Result<(), AllocError>
+    requires basis { IsBasis basis.now }
+    requires growing { AreGrowing basis.now.lines.now basis.now.k grown.old.lists.items }
+    requires list { IsGrowingList basis.now.lines.now basis.now.k list }
+    ensures { OnOk result (AreGrowing basis.now.lines.now basis.now.k grown.new.lists.items) }
+{
+    let slot = count(grown);
+    note_slot(basis, grown, list.cell, slot);
+    grown.lists.push(Some(list))?;
+    Ok(())
+}
+
 /// Begins the list of a demanded cell, where it has not begun.
 pub fn begin(
     alloc: Global,
@@ -48,22 +93,10 @@ pub fn begin(
     requires growing { AreGrowing basis.now.lines.now basis.now.k grown.old.lists.items }
     ensures { OnOk result (AreGrowing basis.now.lines.now basis.now.k grown.new.lists.items) }
 {
-    if slot_of(basis, grown, cell).is_none() || list_of(basis, grown, cell).is_some() {
+    let Some(list) = begun(alloc, basis, grown, cell)? else {
         return Ok(());
-    }
-    let mut found = Vec::new(alloc);
-    if !meet_all_heads(basis, grown, cell, &mut found)? {
-        return Ok(());
-    }
-    let slot = grown.lists.len();
-    let list = Growing {
-        cell,
-        found,
-        opened: 0,
     };
-    grown.lists.push(Some(list))?;
-    note_slot(basis, grown, cell, slot);
-    Ok(())
+    add(basis, grown, list)
 }
 
 /// Takes the list that stands here from the others.

@@ -11,13 +11,11 @@ ghost use Rattle.first_trees.specs.ListReport.{IsListReport, lines_of};
 ghost use Rattle.first_trees.specs.ListLimits.{most_first_trees};
 ghost use Rattle.k_best.specs.GrowingLists.{AreGrowing, IsBasis};
 
-use crate::grown_lists::begin;
 use crate::grown_trees::{grow_along, grown_nodes};
-use crate::growing::{Basis, Grown, Told, told_at};
+use crate::growing::{Basis, Grown, Told, slot_of, told_at};
 use crate::listed_trees::Listed;
 use crate::reports::push_lines;
 use adp_model::Problem;
-use adp_model::laws::sizes::derived_lengths_are_within_sizes;
 use cell_layouts::{Layout, Places};
 use first_trees::laws::{cells_have_first_trees, first_trees_are_unique};
 use report::push_number_line;
@@ -75,12 +73,12 @@ fn push_grown_list(
     problem.admissible();
     cells_have_first_trees();
     first_trees_are_unique();
-    let axiom = problem.axiom_cell();
-    if basis.solved.score(axiom).is_none() {
+    let whole = problem.axiom_cell();
+    let Some(_slot) = slot_of(basis, grown, whole) else {
         return Ok(None);
-    }
+    };
     for rank in 0..basis.k {
-        let score = match told_at(basis, grown, axiom, rank) {
+        let score = match told_at(basis, grown, whole, rank) {
             Told::Score(score) => score,
             Told::Nothing => return Ok(Some(rank as u64)),
             Told::NotYet => return Ok(None),
@@ -92,7 +90,29 @@ fn push_grown_list(
     Ok(Some(basis.k as u64))
 }
 
-/// The report of a word with its first `k` trees, where the lists grow as far as they are asked for.
+/// The report of a word with its first trees, where all of them are known.
+fn report_of(
+    alloc: Global,
+    number: u32,
+    basis: &Basis<'_, '_>,
+    grown: &mut Grown,
+) -> Result<Option<Vec<u8>>, AllocError>
+    requires basis { IsBasis basis.now }
+    requires growing { AreGrowing basis.now.lines.now basis.now.k grown.old.lists.items }
+    ensures { IfOk result (λ report. IfSome report (λ report.
+        IsListReport number basis.now.lines.now basis.now.k report.items)) }
+{
+    let mut out = Vec::new(alloc);
+    push_number_line(&mut out, b"word ", u64::from(number))?;
+    let Some(count) = push_grown_list(alloc, &mut out, basis, grown)? else {
+        return Ok(None);
+    };
+    push_number_line(&mut out, b"listed ", count)?;
+    Ok(Some(out))
+}
+
+/// The report of a word with its first `k` trees, by lists that grow as far as they are asked for, where they grow as
+/// far.
 pub fn grown_report(
     alloc: Global,
     number: u32,
@@ -113,11 +133,5 @@ pub fn grown_report(
         k: k as usize,
     };
     let mut grown = Grown::new(alloc, problem)?;
-    let mut out = Vec::new(alloc);
-    push_number_line(&mut out, b"word ", u64::from(number))?;
-    let Some(count) = push_grown_list(alloc, &mut out, &basis, &mut grown)? else {
-        return Ok(None);
-    };
-    push_number_line(&mut out, b"listed ", count)?;
-    Ok(Some(out))
+    report_of(alloc, number, &basis, &mut grown)
 }

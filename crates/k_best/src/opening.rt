@@ -1,10 +1,11 @@
 //! How a cell's list begins, with the first ranked split of each viable split, and how it grows.
 
-ghost use Rattle.std.specs.Prelude.{◌≡◌, ◌<◌, IfOk, [], true, length};
+ghost use Rattle.std.specs.Prelude.{◌≡◌, ◌<◌, IfOk, IfSome, [], true, length};
 ghost use Rattle.adp_model.specs.Demand.{IsDemanded};
 ghost use Rattle.adp_model.specs.PosedProblem.{IsSpan};
 ghost use Rattle.adp_model.specs.Parts.{alternatives_of};
 ghost use Rattle.first_trees.specs.Entries.{Entry as EntryValue};
+ghost use Rattle.first_trees.specs.FirstTrees.{IsAt};
 ghost use Rattle.first_trees.specs.RankedSplits.{IsRankedSplit};
 ghost use Rattle.k_best.specs.Growing.{IsGrowing, IsHeaded, IsOpened};
 ghost use Rattle.k_best.specs.GrowingLists.{AreGrowing, IsBasis, IsGrowingList, no_ranks};
@@ -131,6 +132,16 @@ fn meet_next(
     Ok(true)
 }
 
+/// The first entry of a list that isn't opened yet, where there is one.
+fn first_unopened(list: &Growing) -> Option<Entry>
+    ensures { IfSome result (λ first. IsAt list.now.found.items list.now.opened first) }
+{
+    match list.found.get(list.opened) {
+        Some(first) => Some(first.same()),
+        None => None,
+    }
+}
+
 /// Opens the first entry of a list that isn't opened yet, where there is one. Tells whether all is known that comes
 /// next to it.
 pub fn open(
@@ -148,10 +159,9 @@ pub fn open(
     demanded_cells_are_counted();
     entries_are_in_strict_order();
     lower_ranks_come_first();
-    let Some(next) = list.found.get(list.opened) else {
+    let Some(first) = first_unopened(list) else {
         return Ok(true);
     };
-    let first = next.same();
     if !meet_next(basis, grown, list.cell, &first, &mut list.found)? {
         return Ok(false);
     }
