@@ -8,22 +8,32 @@ use std::io;
 use std::process::ExitCode;
 
 fn main(rt: HostRuntime) -> ExitCode {
-    let alloc = rt.alloc();
-    let mut input = StdSource::new(rt.stdin());
-    let mut out = StdSink::new(rt.stdout());
-    let mut err = StdSink::new(rt.stderr());
-    let mut gate = OpenGate;
-    let status = match words_behind_name(&rt) {
-        Ok(words) => run(
-            &rt, alloc, &words, &mut input, &mut out, &mut err, &mut gate,
-        ),
+    ExitCode::from(answer(&rt).number())
+}
+
+/// Answers the words of the command line.
+fn answer(rt: &HostRuntime) -> Status {
+    match words_behind_name(rt) {
+        Ok(words) => answer_words(rt, &words),
         Err(error) if error.kind() == io::ErrorKind::OutOfMemory => {
             // The status tells it too.
-            let _ = write_whole(&mut err, b"fault memory\n");
+            let _ = write_whole(&mut StdSink::new(rt.stderr()), b"fault memory\n");
             Status::Memory
         }
         // Words that are no text are no command.
-        Err(_) => run(&rt, alloc, &[], &mut input, &mut out, &mut err, &mut gate),
-    };
-    ExitCode::from(status.number())
+        Err(_) => answer_words(rt, &[]),
+    }
+}
+
+/// Answers these words over the standard streams.
+fn answer_words(rt: &HostRuntime, words: &[String]) -> Status {
+    run(
+        rt,
+        rt.alloc(),
+        words,
+        &mut StdSource::new(rt.stdin()),
+        &mut StdSink::new(rt.stdout()),
+        &mut StdSink::new(rt.stderr()),
+        &mut OpenGate,
+    )
 }

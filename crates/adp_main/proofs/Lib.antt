@@ -16,3 +16,4 @@ pub mod CompiledWords
 pub mod Behind
 pub mod Verifying
 pub mod Blocks
+pub mod FirstWords

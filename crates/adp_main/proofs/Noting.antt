@@ -12,6 +12,7 @@ use Rattle.verdicts.specs.Command.{Command}
 use Rattle.evaluators.specs.declared.finished.Finished.{Finished}
 use Rattle.evaluators.specs.declared.finished.RunNote.{RunNote}
 use Rattle.evaluators.specs.Runs.{IsFinished, IsNoteOf, GrowsByNote, HaveAllEnded, wins_of, moves_of, ended_of}
+use Rattle.evaluators.specs.Ends.{IsRunToEnd}
 use Rattle.evaluators.specs.Schedules.{HasKeptSchedule}
 use Rattle.report.specs.declared.fault.Fault.{Fault}
 use Rattle.report.specs.declared.fault.Fault.TheVariants as faults
@@ -68,6 +69,14 @@ ran_freely command p seed workers free seeded each (Ok finished) done machines a
       all;
 }
 ran_freely command p seed workers free seeded each (Err error) done machines all = tt
+
+-- the same of one of several problems
+pub ran_to_end : (command : Command) (seed workers : ℕ) → (command.mode ≡ Replay → ⊥) → seed ≡ command.seed
+    → workers ≡ command.workers → (p : PosedProblem) (finished : Finished) → IsRunToEnd workers seed p finished
+    → IsRunFor command p finished
+ran_to_end command seed workers free seeded each p finished run =
+    ran_freely {E = Unit {0}} command p seed workers free seeded each (Ok finished) run.is_finished run.machines
+    run.have_ended
 
 pub followed : {E : Type 0} (command : Command) (p : PosedProblem) (seed workers : ℕ) (schedule : List ℕ)
     → command.mode ≡ Replay → seed ≡ command.seed → workers ≡ command.workers → schedule ≡ command.schedule

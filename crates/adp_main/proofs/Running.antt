@@ -72,7 +72,7 @@ run_report command number p report noted (inr (other, note, one, for, is)) =
 -- ---- word by word
 
 module _ (command : Command) where
-  runs_joined : (number : ℕ) (ps qs : List PosedProblem) (rs ss : List (List ℕ)) (notes others : List RunNote)
+  pub runs_joined : (number : ℕ) (ps qs : List PosedProblem) (rs ss : List (List ℕ)) (notes others : List RunNote)
       → AreRunsOf command None number ps rs notes → AreRunsOf command None (number + length ps) qs ss others
       → AreRunsOf command None number (ps ++ qs) (rs ++ ss) (notes ++ others)
   runs_joined number [] qs [] ss notes others h k =

@@ -6,5 +6,7 @@ pub mod CompiledWords
 pub mod RunNotes
 pub mod Ending
 pub mod Writing
+pub mod FirstWords
+pub mod Groups
 pub mod Reporting
 pub mod Verifying

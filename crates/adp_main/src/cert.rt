@@ -45,7 +45,7 @@ pub(crate) fn report_word<R: Threads + Sync, K: Sink, G: Gate>(
 }
 
 /// The block of a word that evaluators solved; before that of the first word stands the line `cert`.
-fn block_report<'a>(
+pub(crate) fn block_report<'a>(
     alloc: Global,
     number: u32,
     problem: &'a Problem<'a>,

@@ -10,6 +10,7 @@ mod cert;
 mod checking;
 mod evaluating;
 mod fault;
+mod groups;
 mod kbest;
 mod lex;
 mod limits;

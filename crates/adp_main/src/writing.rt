@@ -1,5 +1,5 @@
 //! The reports of words that keep the limits, found and written one by one.
-ghost use Rattle.std.specs.Prelude.{◌≡◌, ◌++◌, ◌<◌, ◌≤◌, [], List, ℕ, IfSome, get_or, length, None};
+ghost use Rattle.std.specs.Prelude.{◌≡◌, ◌++◌, ◌+◌, ◌<◌, ◌≤◌, [], List, ℕ, IfOk, IfSome, drop, get_or, length, None};
 ghost use Rattle.std.specs.List.{AllByRecursion};
 ghost use Rattle.adp_io.specs.Causes.{RisesWhere};
 ghost use Rattle.adp_io.specs.Streams.{SameTold};
@@ -9,6 +9,7 @@ ghost use Rattle.verdicts.specs.Certificates.{behind_reports};
 ghost use Rattle.verdicts.specs.SecondAlgebra.{IsAdmissibleWith};
 ghost use Rattle.adp_main.specs.CompiledWords.{ServesItsLength};
 ghost use Rattle.adp_main.specs.Faults.{status_after};
+ghost use Rattle.adp_main.specs.FirstWords.{AreFirstEnding, IsWriteFault};
 ghost use Rattle.adp_main.specs.KeptLengths.{HasKept, HaveKept};
 ghost use Rattle.verdicts.specs.Posed.{posed_word, posed_words};
 ghost use Rattle.adp_main.specs.Reporting.{AreReportsOf, AreShort, HasWritten};
@@ -19,6 +20,7 @@ ghost use Rattle.adp_main.specs.declared.status.Status.TheVariants.{WriteFault};
 
 use crate::admitting::admitted;
 use crate::checking::CheckedJob;
+use crate::groups::write_side_by_side;
 use crate::lex::Compiled;
 use crate::limits::Judged;
 use crate::{best, cert, kbest, lex, replay, serial, wins};
@@ -89,7 +91,7 @@ fn write_behind<K: Sink>(
 }
 
 /// Writes the reports of the words in order, the first of which has number 1, each in the command's mode. Each word
-/// keeps the limits, and is admitted when its turn comes, so that there is one problem at a time.
+/// keeps the limits, and is admitted when its turn comes, so that there is one problem at a time, or those of a group.
 pub(crate) fn write_words<R: Threads + Sync, K: Sink, G: Gate>(
     rt: &R,
     alloc: Global,
@@ -121,20 +123,86 @@ pub(crate) fn write_words<R: Threads + Sync, K: Sink, G: Gate>(
 {
     command.in_range();
     words_have_reports();
-    let words = job.words.as_slice();
+    let words = job.words.as_slice().len();
     let mut kept = None;
-    for (place, word) in words.iter().enumerate() {
-        is_admitted(command, job, judged, words, place, word);
-        let number = place as u32 + 1;
-        write_word(
-            rt, alloc, command, number, job, judged, word, &mut kept, out, gate,
+    let mut side_by_side = true;
+    let mut place = 0;
+    while place < words {
+        place += write_next(
+            rt,
+            alloc,
+            command,
+            place,
+            job,
+            judged,
+            &mut side_by_side,
+            &mut kept,
+            out,
+            gate,
         )?;
     }
     Ok(())
 }
 
+/// Reports the word at this place, or a group of words from it on, and says how many.
+fn write_next<R: Threads + Sync, K: Sink, G: Gate>(
+    rt: &R,
+    alloc: Global,
+    command: &Command<'_>,
+    place: usize,
+    job: &CheckedJob,
+    judged: &Judged,
+    side_by_side: &mut bool,
+    kept: &mut Option<Compiled>,
+    out: &mut K,
+    gate: &mut G,
+) -> Result<usize, Fault>
+    requires reads { ReadsJob command.now.mode }
+    requires finds { command.now.mode ≡ Verify → ⊥ }
+    requires few { length job.now.words ≤ 65536 }
+    requires inside { place < length job.now.words }
+    requires second { IsSecondOf command.now.second job.now.checked job.now.second }
+    requires rows { AreJobRows job.now.checked job.now.second judged.now.rows }
+    requires known { AreShort judged.now.rows.first.longest job.now.words }
+    requires bounds { HaveKept command.now.second job.now.checked.grammar job.now.checked.algebra
+        judged.now.compiled.items job.now.words }
+    requires admissible { AllByRecursion (IsAdmissibleWith command.now.second)
+        (posed_words job.now.checked.grammar job.now.checked.algebra job.now.words) }
+    requires kept { IfSome kept.old (ServesItsLength command.now.second job.now.checked) }
+    ensures kept { IfSome kept.new (ServesItsLength command.now.second job.now.checked) }
+    ensures told { SameTold (K.held out.old) (K.held out.new) }
+    ensures faults { RisesWhere (K.faults out.old) (K.faults out.new) (IsWriteFault result) }
+    ensures some { IfOk result (λ count. 0 < count) }
+    ensures ending { AreFirstEnding command.now (place + 1)
+        (drop place (posed_words job.now.checked.grammar job.now.checked.algebra job.now.words)) result
+        (G.runs gate.old) (G.runs gate.new) (K.held out.old) (K.held out.new) }
+{
+    let count = write_side_by_side(
+        rt,
+        alloc,
+        command,
+        place,
+        job,
+        judged,
+        side_by_side,
+        out,
+        gate,
+    )?;
+    if count > 0 {
+        return Ok(count);
+    }
+    let words = job.words.as_slice();
+    let word = &words[place];
+    is_admitted(command, job, judged, words, place, word);
+    let number = place as u32 + 1;
+    write_word(
+        rt, alloc, command, number, job, judged, word, kept, out, gate,
+    )?;
+    Ok(1)
+}
+
 /// The word at this place is admitted, as all are. Does nothing when it runs.
-fn is_admitted(
+pub(crate) fn is_admitted(
     command: &Command<'_>,
     job: &CheckedJob,
     judged: &Judged,

@@ -128,19 +128,40 @@ impl Case {
     ) -> Result<(), AllocError> {
         let reads = self.failing_reads.clone()?;
         let mut source = MemSource::new(self.input.clone()?, self.read_piece.max(1), reads);
+        self.compare_on(rt, alloc, words, &mut source, difference)
+    }
+
+    fn compare_on<R: Threads + Sync>(
+        &self,
+        rt: &R,
+        alloc: Global,
+        words: &[String],
+        source: &mut MemSource,
+        difference: &mut String,
+    ) -> Result<(), AllocError> {
         let mut out = self.writes.sink(alloc)?;
         let mut err = self.error_writes.sink(alloc)?;
-        let mut gate = OpenGate;
-        let status = run(rt, alloc, words, &mut source, &mut out, &mut err, &mut gate);
+        let status = run(rt, alloc, words, source, &mut out, &mut err, &mut OpenGate);
         let came = Came {
             status: status.number(),
             output: out.bytes(),
             error: err.bytes(),
         };
-        if !self.is_right(alloc, &came)? {
-            self.tell(alloc, words, &came, difference)?;
+        self.tell_difference(alloc, words, &came, difference)
+    }
+
+    fn tell_difference(
+        &self,
+        alloc: Global,
+        words: &[String],
+        came: &Came<'_>,
+        difference: &mut String,
+    ) -> Result<(), AllocError> {
+        if self.is_right(alloc, came)? {
+            Ok(())
+        } else {
+            self.tell(alloc, words, came, difference)
         }
-        Ok(())
     }
 
     fn is_right(&self, alloc: Global, came: &Came<'_>) -> Result<bool, AllocError> {

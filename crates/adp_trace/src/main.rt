@@ -14,8 +14,9 @@ use crate::lines::push_trace;
 use crate::words::words;
 use adp_io::{Sink, Source, StdSink, StdSource, read_job, write_whole};
 use adp_main::{CheckedJob, Status, checked_job, reading_fault, status_of};
+use adp_model::{Problem, Text};
 use command_words::{Usage, read_words, schedule_entries};
-use grammar_check::{AdmitError, admit};
+use grammar_check::{AdmitError, Checked, admit};
 use report::{Fault, fault_line};
 use std::alloc::Global;
 use std::io;
@@ -24,10 +25,7 @@ use step_traces::trace_schedule;
 use verdicts::Command;
 
 fn main(rt: HostRuntime) -> ExitCode {
-    let alloc = rt.alloc();
-    let mut input = StdSource::new(rt.stdin());
-    let mut out = StdSink::new(rt.stdout());
-    let status = match answer(&rt, alloc, &mut input, &mut out) {
+    let status = match answer_streams(&rt) {
         Ok(()) => Status::Done,
         Err(fault) => {
             // A line that cannot be written changes nothing else.
@@ -36,6 +34,15 @@ fn main(rt: HostRuntime) -> ExitCode {
         }
     };
     ExitCode::from(status.number())
+}
+
+/// Reads the job on the standard input and writes the trace to the standard output.
+fn answer_streams(rt: &HostRuntime) -> Result<(), Fault>
+    ensures { IfErr result HasShortName }
+{
+    let mut input = StdSource::new(rt.stdin());
+    let mut out = StdSink::new(rt.stdout());
+    answer(rt, rt.alloc(), &mut input, &mut out)
 }
 
 /// Reads the job and writes the trace of its first word.
@@ -62,30 +69,59 @@ fn answer<S: Source, K: Sink>(
         Ok(bytes) => bytes,
         Err(fault) => return Err(reading_fault(fault)),
     };
-    let job = checked_job(alloc, &command, &bytes)?;
-    let text = trace_text(alloc, &command, &job)?;
+    let text = job_trace(alloc, &command, &bytes)?;
     match write_whole(out, &text) {
         Ok(()) => Ok(()),
         Err(_) => Err(Fault::Write),
     }
 }
 
+/// The trace of the first word of a job.
+fn job_trace(alloc: Global, command: &Command<'_>, bytes: &[u8]) -> Result<Vec<u8>, Fault>
+    ensures { IfErr result HasShortName }
+{
+    let job = checked_job(alloc, command, bytes)?;
+    trace_text(alloc, command, &job)
+}
+
 /// The trace of the first word; nothing where there is no word.
 fn trace_text(alloc: Global, command: &Command<'_>, job: &CheckedJob) -> Result<Vec<u8>, Fault>
     ensures { IfErr result HasShortName }
 {
+    match job.words.as_slice().first() {
+        Some(word) => word_trace(alloc, command, &job.checked, word),
+        None => Ok(Vec::new(alloc)),
+    }
+}
+
+/// The trace of a word, where it keeps the limits.
+fn word_trace(
+    alloc: Global,
+    command: &Command<'_>,
+    checked: &Checked,
+    word: &Text,
+) -> Result<Vec<u8>, Fault>
+    ensures { IfErr result HasShortName }
+{
+    match admit(alloc, checked, word) {
+        Ok(problem) => problem_trace(alloc, command, &problem),
+        Err(error) => Err(admit_fault(error)),
+    }
+}
+
+/// The trace of a problem.
+fn problem_trace(
+    alloc: Global,
+    command: &Command<'_>,
+    problem: &Problem<'_>,
+) -> Result<Vec<u8>, Fault>
+    ensures { IfErr result HasShortName }
+{
     command.in_range();
-    let mut text = Vec::new(alloc);
-    let Some(word) = job.words.as_slice().first() else {
-        return Ok(text);
-    };
-    let problem = match admit(alloc, &job.checked, word) {
-        Ok(problem) => problem,
-        Err(error) => return Err(admit_fault(error)),
-    };
     let schedule = schedule_entries(alloc, command)?;
-    let traced = trace_schedule(alloc, &problem, command.workers, command.seed, &schedule)?;
-    push_trace(&mut text, command.seed, &problem, &traced)?;
+    let traced = trace_schedule(alloc, problem, command.workers, command.seed, &schedule)?;
+    let mut text = Vec::new(alloc);
+    push_trace(&mut text, command.seed, problem, &traced)?;
     Ok(text)
 }
 

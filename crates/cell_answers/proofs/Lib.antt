@@ -26,6 +26,8 @@ pub mod Scoring
 pub mod Sides
 pub mod Soundness
 pub mod Spaced
+pub mod TailFactors
+pub mod TailNotes
 pub mod Splitting
 pub mod Tokens
 pub mod TermAlternatives

@@ -1,14 +1,10 @@
 -- Numbers on both sides of a boundary, what they tell of the values of a line's two arguments of open length, and the
 -- totals of lines whose tokens between the two add nothing, or are one letter.
-use Rattle.std.proofs.Common.{◌≡◌, ℕ, ◌+◌, ◌-◌, ◌<◌, ◌≤◌, ◌^◌, ℤ, pos, ◌+ℤ◌, ◌*ℤ◌, nat_abs, Option, Some, None, Bor, List, [], ◌∷◌, ◌++◌, length, slice_get, refl, sym, ap, subst, inl, inr, ◌∙◌, arith}
+use Rattle.std.proofs.Common.{◌≡◌, ℕ, ◌+◌, ◌-◌, ◌<◌, ◌≤◌, ◌^◌, ℤ, pos, ◌+ℤ◌, ◌*ℤ◌, nat_abs, Option, Some, None, Bor, List, [], ◌∷◌, ◌++◌, length, slice_get, refl, sym, ap, subst, ◌∙◌, arith}
 use Rattle.std.specs.List.{Contains}
-use Rattle.std.specs.Ordering.{int_eq}
-use Rattle.std.proofs.lemmas.Bool.{cases_Bool}
-use Rattle.std.proofs.lemmas.Bool.Decides.{Decides-int_eq}
 use Rattle.std.proofs.lemmas.Int.{ints}
 use Rattle.adp_model.specs.declared.grammar.Arg.{Arg}
 use Rattle.adp_model.specs.declared.grammar.Arg.TheVariants.{Rule, Letter}
-use Rattle.adp_model.specs.declared.grammar.Goal.{Goal}
 use Rattle.adp_model.specs.PosedProblem.{PosedProblem}
 use Rattle.adp_model.specs.Parts.{letters_of}
 use Rattle.adp_model.specs.ProblemFields.{greatest_score}
@@ -18,7 +14,6 @@ use Rattle.adp_model.specs.Splits.{AtRule, FitsSpan}
 use Rattle.adp_model.specs.FirstSplit.{IsValue}
 use Rattle.adp_model.specs.Bellman.{HasBestScore}
 use Rattle.viable_splits.specs.Placing.{on_span, Cover}
-use Rattle.score_numbers.specs.declared.sums.Positions.{Positions}
 use Rattle.score_numbers.specs.declared.sums.Scales.{Scales}
 use Rattle.score_numbers.specs.declared.weighed_sums.Weights.{Weights}
 use Rattle.score_numbers.specs.Entries.{no_candidate}
@@ -32,7 +27,7 @@ use Rattle.score_numbers.specs.Worthless.{AreWorthless}
 use Rattle.cell_answers.specs.declared.argument_values.Numbers.TheVariants.{Short, Medium, Long, Whole}
 use Rattle.cell_answers.specs.declared.letters_between.WeighedLine.{WeighedLine}
 use Rattle.cell_answers.specs.declared.opened.OpenedLine.{OpenedLine}
-use Rattle.cell_answers.specs.ArgumentEntries.{AreProperNumbers, IsScaled, entries_of, told_numbers}
+use Rattle.cell_answers.specs.ArgumentEntries.{AreProperNumbers, entries_of, told_numbers}
 use Rattle.cell_answers.specs.LettersBetween.{IsWeighedLine}
 use Rattle.cell_answers.specs.Opened.{IsOpened}
 use Rattle.cell_answers.specs.PlainLines.{positions_of}

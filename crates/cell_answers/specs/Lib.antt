@@ -9,6 +9,9 @@ pub mod PlainLines
 pub mod Rows
 pub mod ScaledLines
 pub mod ScoresFields
+pub mod TailRows
+pub mod Tails
+pub mod TailsFields
 pub mod TermScores
 pub mod Through
 pub mod Totals

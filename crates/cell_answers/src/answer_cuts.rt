@@ -25,7 +25,7 @@ ghost use Rattle.cell_answers.specs.Totals.{AreLow, AreWeighted, HasTotal};
 use crate::along::{factors_of, fixed_total, scales_of, total_through};
 use crate::argument_values::{Numbers, argument_value};
 use crate::by_term::cuts_by_term;
-use crate::filling::{Best, Known, cell_best, greatest_total};
+use crate::filling::{Best, Known, cell_best, plain_total};
 use crate::letters_between::weighed_line;
 use crate::only_ends::only_end;
 use crate::opened::{OpenedLine, open_line};
@@ -243,7 +243,7 @@ fn end_among(
         let Some(value) = argument_value(lines, scores, argument, from, end) else {
             continue;
         };
-        let Some(rest) = greatest_total(behind, ahead, others, more, end, to) else {
+        let Some(rest) = plain_total(behind, ahead, others, more, end, to) else {
             continue;
         };
         if factor * value + rest == total {
@@ -305,6 +305,7 @@ fn first_end(
         lines,
         scores,
         line,
+        owner: None,
     };
     end_among(&behind, later, arguments, factors, from, to, total)
 }
@@ -348,6 +349,7 @@ fn first_ends(
         lines,
         scores,
         line,
+        owner: None,
     };
     let Some(value) = argument_value(lines, scores, argument, from, end) else {
         unreachable!()
@@ -395,6 +397,7 @@ fn cuts_by_sum<'s>(
         lines,
         scores,
         line,
+        owner: None,
     };
     let [first, second, third, _] = first_ends(
         &known,

@@ -116,6 +116,7 @@ fn greatest_by_term(
         lines,
         scores,
         line,
+        owner: None,
     };
     let positions = lines.ends_of_first(arguments, from, to);
     let mut greatest = None;
@@ -177,6 +178,7 @@ pub fn score_by_term(
         lines,
         scores,
         line,
+        owner: None,
     };
     greatest_by_term(&known, ahead, term, none, arguments, cell.from, cell.to)
 }
@@ -267,6 +269,7 @@ pub fn cuts_by_term<'s>(
         lines,
         scores,
         line: None,
+        owner: None,
     };
     let [first, second, third, _] = ends_by_term(
         &known, term, none, arguments, cell.from, cell.to, score,

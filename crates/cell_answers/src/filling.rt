@@ -1,6 +1,6 @@
 //! The best score of a cell, and the alternative that gives it, from the scores of its demanded children.
 
-ghost use Rattle.std.specs.Prelude.{◌≡◌, ◌+◌, ◌<◌, ◌≤◌, IfSome, MatchOption, [], ◌∷◌, length, drop};
+ghost use Rattle.std.specs.Prelude.{◌≡◌, ◌+◌, ◌<◌, ◌≤◌, IfSome, MatchOption, [], ◌∷◌, length, drop, option_map};
 ghost use Rattle.adp_model.specs.declared.cell.Answer.TheVariants.{NoCandidate};
 ghost use Rattle.adp_model.specs.declared.cell.Cell.{Cell};
 ghost use Rattle.adp_model.specs.PosedProblem.{PosedProblem, IsSpan};
@@ -14,6 +14,7 @@ ghost use Rattle.split_lines.specs.Lines.{IsLine};
 ghost use Rattle.split_lines.specs.Ways.{IsOpening};
 ghost use Rattle.cell_answers.specs.CellBest.{IsBestOfFirst, IsCellBest};
 ghost use Rattle.cell_answers.specs.Entries.{HasEntry};
+ghost use Rattle.cell_answers.specs.Tails.{IsOwner, IsTail, tail_with};
 ghost use Rattle.cell_answers.specs.Totals.{AreLow, AreWeighted, HasLaidScore, HasTotal, HasTurnedScore};
 ghost use Rattle.score_numbers.specs.Greatest.{IsGreatestOf};
 
@@ -21,6 +22,7 @@ use crate::along::{between_total, greatest_along};
 use crate::argument_values::{argument_value, token_value};
 use crate::by_term::score_by_term;
 use crate::scores::Scores;
+use crate::tails::{Tail, Tails};
 use adp_model::laws::bellman::bellman;
 use adp_model::laws::bounds::{bounds_are_sound, words_keep_their_score_bound};
 use adp_model::laws::order::answer_is_unique;
@@ -40,12 +42,21 @@ pub struct Best {
     pub alt: u8,
 }
 
+/// An alternative of a rule.
+#[derive(Clone, Copy)]
+pub(crate) struct Owner {
+    pub rule: u32,
+    pub alt: u8,
+}
+
 /// What the totals of an alternative's arguments are found from.
 #[derive(Clone, Copy)]
 pub(crate) struct Known<'s, 'a> {
     pub lines: &'s Lines<'a>,
     pub scores: &'s Scores<'a>,
     pub line: Option<Line<'s>>,
+    /// Whose arguments they are, where the totals of tails are noted.
+    pub owner: Option<Owner>,
 }
 
 /// The total of one argument that has the letters from `from` to `to`; `None` where it can't have them, or has no
@@ -76,10 +87,26 @@ fn last_total(
     Some(factor * argument_value(lines, scores, argument, from, to)?)
 }
 
-/// The greatest total of arguments that are laid from `from` to `to`. If they have a line, `ahead` of them come before
-/// it.
-pub(crate) fn greatest_total(
+/// The tail that these arguments are, where its totals are noted.
+#[inline(always)]
+fn tail_of(owner: Option<Owner>, arguments: &[Arg]) -> Option<Tail>
+    requires { length arguments.now ≤ 4 }
+    ensures { result ≡ option_map (λ it. tail_with it (length arguments.now)) owner }
+{
+    let Owner { rule, alt } = owner?;
+    Some(Tail {
+        rule,
+        alt,
+        count: arguments.len() as u8,
+    })
+}
+
+/// The greatest total of the arguments behind another one, noted where it was not noted before.
+#[cycle(totals)]
+#[inline(always)]
+fn tail_total(
     known: &Known<'_, '_>,
+    tails: &mut Tails<'_>,
     ahead: u8,
     arguments: &[Arg],
     factors: &[i64],
@@ -87,13 +114,52 @@ pub(crate) fn greatest_total(
     to: u16,
 ) -> Option<i64>
     requires same_problem { known.now.scores.now.problem ≡ known.now.lines.now }
+    requires same_tails { tails.old ≡ known.now.lines.now }
+    requires owner { IsOwner known.now.lines.now known.now.owner arguments.now factors.now }
     requires line { IfSome known.now.line (λ line. IsLine known.now.lines.now (drop ahead arguments.now) line) }
     requires weighted { AreWeighted known.now.lines.now arguments.now factors.now }
     requires span { IsSpan known.now.lines.now.word from to }
     requires scored { (cell : Cell) → Demands known.now.lines.now arguments.now from to cell
         → HasEntry known.now.scores.now cell }
     requires low { AreLow known.now.lines.now arguments.now factors.now from to }
-    ensures { IsGreatestOf (HasTotal known.now.lines.now (HasBestScore known.now.lines.now)
+    ensures same { tails.new ≡ tails.old }
+    ensures greatest { IsGreatestOf (HasTotal known.now.lines.now (HasBestScore known.now.lines.now)
+        arguments.now factors.now from to) result }
+{
+    let Some(tail) = tail_of(known.owner, arguments) else {
+        return greatest_total(known, tails, ahead, arguments, factors, from, to);
+    };
+    if let Some(total) = tails.total(tail, from, to) {
+        return total;
+    }
+    let total = greatest_total(known, tails, ahead, arguments, factors, from, to);
+    tails.note(tail, from, to, total);
+    total
+}
+
+/// The greatest total of arguments that are laid from `from` to `to`. If they have a line, `ahead` of them come before
+/// it.
+#[cycle(totals)]
+pub(crate) fn greatest_total(
+    known: &Known<'_, '_>,
+    tails: &mut Tails<'_>,
+    ahead: u8,
+    arguments: &[Arg],
+    factors: &[i64],
+    from: u16,
+    to: u16,
+) -> Option<i64>
+    requires same_problem { known.now.scores.now.problem ≡ known.now.lines.now }
+    requires same_tails { tails.old ≡ known.now.lines.now }
+    requires owner { IsOwner known.now.lines.now known.now.owner arguments.now factors.now }
+    requires line { IfSome known.now.line (λ line. IsLine known.now.lines.now (drop ahead arguments.now) line) }
+    requires weighted { AreWeighted known.now.lines.now arguments.now factors.now }
+    requires span { IsSpan known.now.lines.now.word from to }
+    requires scored { (cell : Cell) → Demands known.now.lines.now arguments.now from to cell
+        → HasEntry known.now.scores.now cell }
+    requires low { AreLow known.now.lines.now arguments.now factors.now from to }
+    ensures same { tails.new ≡ tails.old }
+    ensures greatest { IsGreatestOf (HasTotal known.now.lines.now (HasBestScore known.now.lines.now)
         arguments.now factors.now from to) result }
 {
     let Known { lines, scores, .. } = *known;
@@ -114,7 +180,7 @@ pub(crate) fn greatest_total(
     let ahead = ahead.saturating_sub(1);
     if is_fixed(argument) {
         let end = lines.token_end(argument, from, to)?;
-        let rest = greatest_total(known, ahead, others, factors, end, to)?;
+        let rest = greatest_total(known, tails, ahead, others, factors, end, to)?;
         return Some(factor * token_value(lines, argument, from, end) + rest);
     }
     if others.is_empty() {
@@ -126,7 +192,7 @@ pub(crate) fn greatest_total(
         let Some(value) = argument_value(lines, scores, argument, from, end) else {
             continue;
         };
-        let Some(rest) = greatest_total(known, ahead, others, factors, end, to) else {
+        let Some(rest) = tail_total(known, tails, ahead, others, factors, end, to) else {
             continue;
         };
         greatest = greater(greatest, Some(factor * value + rest));
@@ -134,11 +200,40 @@ pub(crate) fn greatest_total(
     greatest
 }
 
+/// The same, where no totals of tails are noted.
+pub(crate) fn plain_total(
+    known: &Known<'_, '_>,
+    ahead: u8,
+    arguments: &[Arg],
+    factors: &[i64],
+    from: u16,
+    to: u16,
+) -> Option<i64>
+    requires same_problem { known.now.scores.now.problem ≡ known.now.lines.now }
+    requires line { IfSome known.now.line (λ line. IsLine known.now.lines.now (drop ahead arguments.now) line) }
+    requires weighted { AreWeighted known.now.lines.now arguments.now factors.now }
+    requires span { IsSpan known.now.lines.now.word from to }
+    requires scored { (cell : Cell) → Demands known.now.lines.now arguments.now from to cell
+        → HasEntry known.now.scores.now cell }
+    requires low { AreLow known.now.lines.now arguments.now factors.now from to }
+    ensures { IsGreatestOf (HasTotal known.now.lines.now (HasBestScore known.now.lines.now)
+        arguments.now factors.now from to) result }
+{
+    let known = Known {
+        owner: None,
+        ..*known
+    };
+    let mut tails = Tails::none(known.lines.problem());
+    greatest_total(&known, &mut tails, ahead, arguments, factors, from, to)
+}
+
 /// The greatest total of several arguments that are laid from `from` to `to`, along their line if they have one.
 #[inline(always)]
 fn total_of_several(
     lines: &Lines<'_>,
     scores: &Scores<'_>,
+    tails: &mut Tails<'_>,
+    owner: Owner,
     line: Option<Line<'_>>,
     arguments: &[Arg],
     factors: &[i64],
@@ -146,20 +241,25 @@ fn total_of_several(
     to: u16,
 ) -> Option<i64>
     requires same_problem { scores.now.problem ≡ lines.now }
+    requires same_tails { tails.old ≡ lines.now }
+    requires owner { IsTail lines.now (tail_with owner (length arguments.now)) arguments.now factors.now }
     requires line { IfSome line (λ line. IsLine lines.now (drop line.first arguments.now) line) }
     requires weighted { AreWeighted lines.now arguments.now factors.now }
     requires span { IsSpan lines.now.word from to }
     requires scored { (cell : Cell) → Demands lines.now arguments.now from to cell → HasEntry scores.now cell }
     requires low { AreLow lines.now arguments.now factors.now from to }
-    ensures { IsGreatestOf (HasTotal lines.now (HasBestScore lines.now) arguments.now factors.now from to) result }
+    ensures same { tails.new ≡ tails.old }
+    ensures greatest { IsGreatestOf (HasTotal lines.now (HasBestScore lines.now) arguments.now factors.now from to)
+        result }
 {
     let ahead = line.map_or(0, |line| line.first);
     let known = Known {
         lines,
         scores,
         line,
+        owner: Some(owner),
     };
-    greatest_total(&known, ahead, arguments, factors, from, to)
+    greatest_total(&known, tails, ahead, arguments, factors, from, to)
 }
 
 /// The best score that an alternative gives a cell whose first letters its tokens in front have up to `from`, turned;
@@ -168,6 +268,7 @@ fn total_of_several(
 fn score_by_sum<'s>(
     lines: &'s Lines<'_>,
     scores: &Scores<'_>,
+    tails: &mut Tails<'_>,
     cell: Cell,
     alternative: &KeptAlternative<'s>,
     sum: &WeightedSum,
@@ -175,6 +276,7 @@ fn score_by_sum<'s>(
     from: u16,
 ) -> Option<i64>
     requires same_problem { scores.now.problem ≡ lines.now }
+    requires same_tails { tails.old ≡ lines.now }
     requires rule { cell.rule < length lines.now.grammar.rules }
     requires in_word { IsSpan lines.now.word cell.from cell.to }
     requires in_range { alt < length (alternatives_of lines.now.grammar cell.rule) }
@@ -182,7 +284,8 @@ fn score_by_sum<'s>(
     requires sum { IsSummed lines.now cell.rule alt alternative.now sum.now }
     requires scored { (child : Cell) → IsDemandedChild lines.now cell child → HasEntry scores.now child }
     requires opening { IsOpening lines.now alternative.now cell from }
-    ensures { IsGreatestOf (HasLaidScore lines.now cell alt) result }
+    ensures same { tails.new ≡ tails.old }
+    ensures greatest { IsGreatestOf (HasLaidScore lines.now cell alt) result }
 {
     lines.problem().admissible();
     bounds_are_sound();
@@ -196,7 +299,13 @@ fn score_by_sum<'s>(
         Way::Front => Some(0),
         Way::Last(argument) => last_total(lines, scores, argument, factors[0], from, cell.to),
         Way::Several(line) => {
-            total_of_several(lines, scores, line, others, factors, from, cell.to)
+            let owner = Owner {
+                rule: cell.rule,
+                alt,
+            };
+            total_of_several(
+                lines, scores, tails, owner, line, others, factors, from, cell.to,
+            )
         }
     };
     let Some(rest) = rest else {
@@ -219,22 +328,25 @@ fn score_by_sum<'s>(
 fn score_behind<'s>(
     lines: &'s Lines<'_>,
     scores: &Scores<'_>,
+    tails: &mut Tails<'_>,
     cell: Cell,
     alternative: &KeptAlternative<'s>,
     alt: u8,
     from: u16,
 ) -> Option<i64>
     requires same_problem { scores.now.problem ≡ lines.now }
+    requires same_tails { tails.old ≡ lines.now }
     requires rule { cell.rule < length lines.now.grammar.rules }
     requires in_word { IsSpan lines.now.word cell.from cell.to }
     requires in_range { alt < length (alternatives_of lines.now.grammar cell.rule) }
     requires alternative { IsAlternative lines.now cell.rule alt alternative.now }
     requires scored { (child : Cell) → IsDemandedChild lines.now cell child → HasEntry scores.now child }
     requires opening { IsOpening lines.now alternative.now cell from }
-    ensures { IsGreatestOf (HasTurnedScore lines.now cell alt) result }
+    ensures same { tails.new ≡ tails.old }
+    ensures greatest { IsGreatestOf (HasTurnedScore lines.now cell alt) result }
 {
     match &alternative.scoring {
-        Scoring::Sum(sum) => score_by_sum(lines, scores, cell, alternative, sum, alt, from),
+        Scoring::Sum(sum) => score_by_sum(lines, scores, tails, cell, alternative, sum, alt, from),
         Scoring::Term(term) => score_by_term(lines, scores, cell, term, alt),
     }
 }
@@ -244,22 +356,25 @@ fn score_behind<'s>(
 fn alternative_score(
     lines: &Lines<'_>,
     scores: &Scores<'_>,
+    tails: &mut Tails<'_>,
     cell: Cell,
     alternative: &KeptAlternative<'_>,
     alt: u8,
 ) -> Option<i64>
     requires same_problem { scores.now.problem ≡ lines.now }
+    requires same_tails { tails.old ≡ lines.now }
     requires rule { cell.rule < length lines.now.grammar.rules }
     requires in_word { IsSpan lines.now.word cell.from cell.to }
     requires in_range { alt < length (alternatives_of lines.now.grammar cell.rule) }
     requires alternative { IsAlternative lines.now cell.rule alt alternative.now }
     requires scored { (child : Cell) → IsDemandedChild lines.now cell child → HasEntry scores.now child }
-    ensures { IsGreatestOf (HasTurnedScore lines.now cell alt) result }
+    ensures same { tails.new ≡ tails.old }
+    ensures greatest { IsGreatestOf (HasTurnedScore lines.now cell alt) result }
 {
     lines.problem().admissible();
     alternatives_fit();
     match lines.opening(alternative, cell) {
-        Some(end) => score_behind(lines, scores, cell, alternative, alt, end),
+        Some(end) => score_behind(lines, scores, tails, cell, alternative, alt, end),
         None => None,
     }
 }
@@ -283,13 +398,20 @@ fn better(best: Option<Best>, score: Option<i64>, alt: u8) -> Option<Best>
 }
 
 /// The best score of a cell and the first alternative that gives it, by the scores of its demanded children; `None`
-/// where it has no candidate. Takes no memory.
-pub fn cell_best(lines: &Lines<'_>, scores: &Scores<'_>, cell: Cell) -> Option<Best>
+/// where it has no candidate.
+fn best_noting(
+    lines: &Lines<'_>,
+    scores: &Scores<'_>,
+    tails: &mut Tails<'_>,
+    cell: Cell,
+) -> Option<Best>
     requires same_problem { scores.now.problem ≡ lines.now }
+    requires same_tails { tails.old ≡ lines.now }
     requires rule { cell.rule < length lines.now.grammar.rules }
     requires in_word { IsSpan lines.now.word cell.from cell.to }
     requires scored { (child : Cell) → IsDemandedChild lines.now cell child → HasEntry scores.now child }
-    ensures { MatchOption result (IsAnswer lines.now cell NoCandidate)
+    ensures same { tails.new ≡ tails.old }
+    ensures best { MatchOption result (IsAnswer lines.now cell NoCandidate)
         (λ best. IsCellBest lines.now cell best.score best.alt) }
 {
     let problem = lines.problem();
@@ -305,7 +427,7 @@ pub fn cell_best(lines: &Lines<'_>, scores: &Scores<'_>, cell: Cell) -> Option<B
     let mut best = None;
     for number in 0..alternatives.len() {
         let alt = number as u8;
-        let score = alternative_score(lines, scores, cell, &alternatives[number], alt);
+        let score = alternative_score(lines, scores, tails, cell, &alternatives[number], alt);
         best = better(best, score, alt);
     }
     let Some(Best { score, alt }) = best else {
@@ -315,6 +437,20 @@ pub fn cell_best(lines: &Lines<'_>, scores: &Scores<'_>, cell: Cell) -> Option<B
         score: turned(goal, score),
         alt,
     })
+}
+
+/// The best score of a cell and the first alternative that gives it, by the scores of its demanded children; `None`
+/// where it has no candidate. Takes no memory.
+pub fn cell_best(lines: &Lines<'_>, scores: &Scores<'_>, cell: Cell) -> Option<Best>
+    requires same_problem { scores.now.problem ≡ lines.now }
+    requires rule { cell.rule < length lines.now.grammar.rules }
+    requires in_word { IsSpan lines.now.word cell.from cell.to }
+    requires scored { (child : Cell) → IsDemandedChild lines.now cell child → HasEntry scores.now child }
+    ensures { MatchOption result (IsAnswer lines.now cell NoCandidate)
+        (λ best. IsCellBest lines.now cell best.score best.alt) }
+{
+    let mut tails = Tails::none(lines.problem());
+    best_noting(lines, scores, &mut tails, cell)
 }
 
 /// The best score of a cell, by the scores of its demanded children; `None` where it has no candidate. Takes no memory.
@@ -327,6 +463,29 @@ pub fn cell_score(lines: &Lines<'_>, scores: &Scores<'_>, cell: Cell) -> Option<
     ensures { MatchOption result (IsAnswer lines.now cell NoCandidate) (HasBestScore lines.now cell) }
 {
     match cell_best(lines, scores, cell) {
+        Some(best) => Some(best.score),
+        None => None,
+    }
+}
+
+/// The same, with the totals of tails looked up where they are noted, and noted where they are not. It takes memory for
+/// notes alone, and where there is none it notes nothing.
+#[inline]
+pub fn cell_score_noting(
+    lines: &Lines<'_>,
+    scores: &Scores<'_>,
+    tails: &mut Tails<'_>,
+    cell: Cell,
+) -> Option<i64>
+    requires same_problem { scores.now.problem ≡ lines.now }
+    requires same_tails { tails.old ≡ lines.now }
+    requires rule { cell.rule < length lines.now.grammar.rules }
+    requires in_word { IsSpan lines.now.word cell.from cell.to }
+    requires scored { (child : Cell) → IsDemandedChild lines.now cell child → HasEntry scores.now child }
+    ensures same { tails.new ≡ tails.old }
+    ensures best { MatchOption result (IsAnswer lines.now cell NoCandidate) (HasBestScore lines.now cell) }
+{
+    match best_noting(lines, scores, tails, cell) {
         Some(best) => Some(best.score),
         None => None,
     }

@@ -11,9 +11,11 @@ mod letters_between;
 mod only_ends;
 mod opened;
 mod scores;
+mod tails;
 mod term_along;
 
 pub use answer_cuts::{cell_answer, first_cuts};
 pub use argument_values::argument_value;
-pub use filling::{Best, cell_best, cell_score};
+pub use filling::{Best, cell_best, cell_score, cell_score_noting};
 pub use scores::Scores;
+pub use tails::Tails;

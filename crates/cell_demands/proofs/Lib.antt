@@ -6,3 +6,5 @@ pub mod MarkSteps
 pub mod OneEnds
 pub mod RisingPositions
 pub mod Splitting
+pub mod TailNotes
+pub mod TailSteps

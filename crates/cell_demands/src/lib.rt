@@ -1,6 +1,10 @@
 //! What a cell demands: the cells of the rules among the arguments of its viable splits, found line by line and marked.
 #![tactic(auto)]
 
+mod laws;
 mod marking;
+mod tails;
 
-pub use marking::mark_children;
+pub use laws::notes_stay_true;
+pub use marking::{mark_children, mark_children_noting};
+pub use tails::Tails;

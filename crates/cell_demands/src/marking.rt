@@ -14,8 +14,11 @@ ghost use Rattle.split_lines.specs.Flags.{AreBitsAmong};
 ghost use Rattle.split_lines.specs.Kept.{IsAlternative};
 ghost use Rattle.split_lines.specs.Laid.{Demands, DemandsBy, IsCellOf};
 ghost use Rattle.split_lines.specs.Lines.{IsLine};
+ghost use Rattle.cell_demands.specs.Tails.{IsOwner};
+ghost use Rattle.cell_demands.specs.TailNotes.{AreTrue};
 ghost use Rattle.cell_tables.specs.Marks.{AreInRows, AreMarkedFrom, AreMarkedToo};
 
+use crate::tails::{Note, Owner, Tails, laid_note, tail_of};
 use adp_model::laws::well_formed::{alternatives_fit, arguments_are_few_and_known};
 use adp_model::{Arg, Cell};
 use cell_tables::Marks;
@@ -161,29 +164,90 @@ fn mark_line(
     true
 }
 
-/// Whether the arguments may have the letters from `from` to `to`. Where they may, the cells that they demand there are
-/// marked, and else nothing is; those that begin at `begin`, which is no later, are marked in their rows. If they have
-/// a line, `ahead` of them come before it.
-fn mark_arguments(
+/// The same as `mark_arguments`, of the arguments behind another one, noted where it was not noted before. What is noted
+/// says nothing of rows, so it is looked up behind `begin` alone.
+#[cycle(arguments)]
+#[inline(always)]
+fn mark_tail(
     lines: &Lines<'_>,
+    owner: Option<Owner>,
     line: Option<&Line<'_>>,
     ahead: u8,
     arguments: &[Arg],
     begin: u16,
     from: u16,
     to: u16,
+    tails: &mut Tails,
     marks: &mut Marks<'_>,
 ) -> bool
+    requires owner { IsOwner lines.now owner arguments.now }
     requires line { IfSome (option_copied line) (λ line. IsLine lines.now (drop ahead arguments.now) line) }
     requires known { AllByRecursion (IsKnown lines.now.grammar) arguments.now }
     requires few { length arguments.now ≤ 4 }
     requires begin { begin ≤ from }
     requires span { IsSpan lines.now.word from to }
     requires same_problem { marks.old.problem ≡ lines.now }
+    requires noted { AreTrue lines.now marks.old tails.old }
     requires counted { (cell : Cell) → Demands lines.now arguments.now from to cell
         → IsCounted lines.now.grammar (length lines.now.word) cell }
     ensures laid { IsTrue result ↔ Cover lines.now arguments.now from to }
     ensures marked { AreMarkedFrom begin marks.old marks.new (Demands lines.now arguments.now from to) }
+    ensures noted { AreTrue lines.now marks.new tails.new }
+{
+    let Some(tail) = tail_of(owner, arguments) else {
+        return mark_arguments(
+            lines, owner, line, ahead, arguments, begin, from, to, tails, marks,
+        );
+    };
+    if begin < from {
+        match tails.noted(tail, from, to) {
+            Note::Misses => return false,
+            Note::Marked => return true,
+            Note::Open => {}
+        }
+    }
+    let is_laid = mark_arguments(
+        lines, owner, line, ahead, arguments, begin, from, to, tails, marks,
+    );
+    tails.note(
+        lines.problem().letters().len(),
+        tail,
+        from,
+        to,
+        laid_note(is_laid),
+    );
+    is_laid
+}
+
+/// Whether the arguments may have the letters from `from` to `to`. Where they may, the cells that they demand there are
+/// marked, and else nothing is; those that begin at `begin`, which is no later, are marked in their rows. If they have
+/// a line, `ahead` of them come before it.
+#[cycle(arguments)]
+fn mark_arguments(
+    lines: &Lines<'_>,
+    owner: Option<Owner>,
+    line: Option<&Line<'_>>,
+    ahead: u8,
+    arguments: &[Arg],
+    begin: u16,
+    from: u16,
+    to: u16,
+    tails: &mut Tails,
+    marks: &mut Marks<'_>,
+) -> bool
+    requires owner { IsOwner lines.now owner arguments.now }
+    requires line { IfSome (option_copied line) (λ line. IsLine lines.now (drop ahead arguments.now) line) }
+    requires known { AllByRecursion (IsKnown lines.now.grammar) arguments.now }
+    requires few { length arguments.now ≤ 4 }
+    requires begin { begin ≤ from }
+    requires span { IsSpan lines.now.word from to }
+    requires same_problem { marks.old.problem ≡ lines.now }
+    requires noted { AreTrue lines.now marks.old tails.old }
+    requires counted { (cell : Cell) → Demands lines.now arguments.now from to cell
+        → IsCounted lines.now.grammar (length lines.now.word) cell }
+    ensures laid { IsTrue result ↔ Cover lines.now arguments.now from to }
+    ensures marked { AreMarkedFrom begin marks.old marks.new (Demands lines.now arguments.now from to) }
+    ensures noted { AreTrue lines.now marks.new tails.new }
 {
     let Some((argument, others)) = arguments.split_first() else {
         return from == to;
@@ -196,7 +260,9 @@ fn mark_arguments(
     let ahead = ahead.saturating_sub(1);
     if is_fixed(argument) {
         return match lines.token_end(argument, from, to) {
-            Some(end) => mark_arguments(lines, line, ahead, others, begin, end, to, marks),
+            Some(end) => mark_arguments(
+                lines, owner, line, ahead, others, begin, end, to, tails, marks,
+            ),
             None => false,
         };
     }
@@ -206,7 +272,9 @@ fn mark_arguments(
     let mut is_laid = false;
     let ends = lines.ends_of_first(arguments, from, to);
     for end in ends.start..ends.end {
-        if mark_arguments(lines, line, ahead, others, begin, end, to, marks) {
+        if mark_tail(
+            lines, owner, line, ahead, others, begin, end, to, tails, marks,
+        ) {
             mark_argument(argument, from, end, marks);
             is_laid = true;
         }
@@ -223,6 +291,7 @@ fn mark_others(
     alternative: &KeptAlternative<'_>,
     alt: u8,
     from: u16,
+    tails: &mut Tails,
     marks: &mut Marks<'_>,
 )
     requires in_range { alt < length (alternatives_of lines.now.grammar cell.rule) }
@@ -230,9 +299,12 @@ fn mark_others(
     requires behind { cell.from ≤ from }
     requires span { IsSpan lines.now.word from cell.to }
     requires same_problem { marks.old.problem ≡ lines.now }
+    requires noted { AreTrue lines.now marks.old tails.old }
     requires counted { (child : Cell) → Demands lines.now alternative.now.others.now from cell.to child
         → IsCounted lines.now.grammar (length lines.now.word) child }
-    ensures { AreMarkedFrom cell.from marks.old marks.new (Demands lines.now alternative.now.others.now from cell.to) }
+    ensures marked { AreMarkedFrom cell.from marks.old marks.new
+        (Demands lines.now alternative.now.others.now from cell.to) }
+    ensures noted { AreTrue lines.now marks.new tails.new }
 {
     match lines.way(alternative, cell.rule, alt) {
         Way::Front => {}
@@ -241,14 +313,20 @@ fn mark_others(
         }
         Way::Several(line) => {
             let ahead = line.map_or(0, |line| line.first);
+            let owner = Owner {
+                rule: cell.rule,
+                alt,
+            };
             mark_arguments(
                 lines,
+                Some(owner),
                 line.as_ref(),
                 ahead,
                 alternative.others,
                 cell.from,
                 from,
                 cell.to,
+                tails,
                 marks,
             );
         }
@@ -262,18 +340,21 @@ fn mark_alternative(
     cell: Cell,
     alternative: &KeptAlternative<'_>,
     alt: u8,
+    tails: &mut Tails,
     marks: &mut Marks<'_>,
 )
     requires in_range { alt < length (alternatives_of lines.now.grammar cell.rule) }
     requires alternative { IsAlternative lines.now cell.rule alt alternative.now }
     requires span { IsSpan lines.now.word cell.from cell.to }
     requires same_problem { marks.old.problem ≡ lines.now }
+    requires noted { AreTrue lines.now marks.old tails.old }
     requires counted { (child : Cell) → DemandsBy lines.now cell alt child
         → IsCounted lines.now.grammar (length lines.now.word) child }
-    ensures { AreMarkedFrom cell.from marks.old marks.new (DemandsBy lines.now cell alt) }
+    ensures marked { AreMarkedFrom cell.from marks.old marks.new (DemandsBy lines.now cell alt) }
+    ensures noted { AreTrue lines.now marks.new tails.new }
 {
     if let Some(end) = lines.opening(alternative, cell) {
-        mark_others(lines, cell, alternative, alt, end, marks);
+        mark_others(lines, cell, alternative, alt, end, tails, marks);
     }
 }
 
@@ -286,11 +367,34 @@ pub fn mark_children(lines: &Lines<'_>, cell: Cell, marks: &mut Marks<'_>)
         → IsCounted lines.now.grammar (length lines.now.word) child }
     ensures { AreMarkedFrom cell.from marks.old marks.new (IsDemandedChild lines.now cell) }
 {
+    let mut tails = Tails::none();
+    mark_children_noting(lines, cell, &mut tails, marks);
+}
+
+/// The same, where tails of alternatives are looked up if they are noted, and noted if they are not. It takes memory for
+/// notes alone, and where there is none it notes nothing.
+pub fn mark_children_noting(lines: &Lines<'_>, cell: Cell, tails: &mut Tails, marks: &mut Marks<'_>)
+    requires rule { cell.rule < length lines.now.grammar.rules }
+    requires span { IsSpan lines.now.word cell.from cell.to }
+    requires same_problem { marks.old.problem ≡ lines.now }
+    requires noted { AreTrue lines.now marks.old tails.old }
+    requires counted { (child : Cell) → IsDemandedChild lines.now cell child
+        → IsCounted lines.now.grammar (length lines.now.word) child }
+    ensures marked { AreMarkedFrom cell.from marks.old marks.new (IsDemandedChild lines.now cell) }
+    ensures noted { AreTrue lines.now marks.new tails.new }
+{
     lines.problem().admissible();
     arguments_are_few_and_known();
     alternatives_fit();
     let alternatives = lines.alternatives(cell.rule);
     for number in 0..alternatives.len() {
-        mark_alternative(lines, cell, &alternatives[number], number as u8, marks);
+        mark_alternative(
+            lines,
+            cell,
+            &alternatives[number],
+            number as u8,
+            tails,
+            marks,
+        );
     }
 }

@@ -179,6 +179,55 @@ impl LinearAlternative {
             → AreSpread bound self.old (len - (self.old.fixed + lows self.old.parts.items))
             → AreSpread bound self.new (len + 1 - (self.old.fixed + lows self.old.parts.items)) }
     {
+        if self.parts.len() == 1 {
+            self.value_of_one(bounds, len)
+        } else {
+            self.sweep(bounds, len)
+        }
+    }
+
+    /// The same, where there is but one part, which no row is kept for.
+    #[inline(always)]
+    fn value_of_one(&self, bounds: &Table, len: usize) -> u64
+        requires one { vec_len self.now.parts ≡ 1 }
+        requires readable { All (λ part. IsReadable bounds.now.rows part.worth) self.now.parts.items }
+        requires within { len < bounds.now.width }
+        requires short { len < 2 ^ 32 }
+        ensures { (bound : ℕ → ℕ → ℕ)
+            → (self.now.fixed ≤ len → AreRead bound bounds.now self.now.parts.items (len - self.now.fixed))
+            → result ≡ told (linear_value bound self.now.constant self.now.fixed self.now.parts.items len) }
+    {
+        if len < self.low {
+            return 0;
+        }
+        let part = self.parts[0];
+        let spare = len - self.low;
+        if spare > part.room {
+            return 0;
+        }
+        cut_sum(self.constant, last_spread(part, spare, bounds))
+    }
+
+    /// The same for any number of parts, from the last one on.
+    fn sweep(&mut self, bounds: &Table, len: usize) -> u64
+        requires readable { All (λ part. IsReadable bounds.now.rows part.worth) self.old.parts.items }
+        requires within { len < bounds.now.width }
+        requires columns { bounds.now.width ≤ self.old.spreads.width }
+        requires short { len < 2 ^ 32 }
+        ensures constant { self.new.constant ≡ self.old.constant }
+        ensures fixed { self.new.fixed ≡ self.old.fixed }
+        ensures low { self.new.low ≡ self.old.low }
+        ensures parts { self.new.parts.items ≡ self.old.parts.items }
+        ensures width { self.new.spreads.width ≡ self.old.spreads.width }
+        ensures value { (bound : ℕ → ℕ → ℕ)
+            → (self.old.fixed ≤ len → AreRead bound bounds.now self.old.parts.items (len - self.old.fixed))
+            → AreSpread bound self.old (len - (self.old.fixed + lows self.old.parts.items))
+            → result ≡ told (linear_value bound self.old.constant self.old.fixed self.old.parts.items len) }
+        ensures spread { (bound : ℕ → ℕ → ℕ)
+            → (self.old.fixed ≤ len → AreRead bound bounds.now self.old.parts.items (len - self.old.fixed))
+            → AreSpread bound self.old (len - (self.old.fixed + lows self.old.parts.items))
+            → AreSpread bound self.new (len + 1 - (self.old.fixed + lows self.old.parts.items)) }
+    {
         if len < self.low {
             return 0;
         }

@@ -136,6 +136,25 @@ fn push_preferred(
     }
 }
 
+/// The report of a word with its preferred tree alone, where the word is solved.
+fn solved_report(
+    alloc: Global,
+    number: u32,
+    problem: &Problem<'_>,
+    solved: &Solved<'_>,
+) -> Result<Vec<u8>, AllocError>
+    requires { solved.now ≡ problem.now }
+    ensures { IfOk result (λ report. IsListReport number problem.now 1 report.items) }
+{
+    problem.admissible();
+    words_have_one_list_report();
+    let mut out = Vec::new(alloc);
+    push_number_line(&mut out, b"word ", u64::from(number))?;
+    let count = push_preferred(alloc, &mut out, problem, solved)?;
+    push_number_line(&mut out, b"listed ", count)?;
+    Ok(out)
+}
+
 /// The report of a word with its preferred tree alone.
 fn preferred_report(
     alloc: Global,
@@ -144,14 +163,8 @@ fn preferred_report(
 ) -> Result<Vec<u8>, AllocError>
     ensures { IfOk result (λ report. IsListReport number problem.now 1 report.items) }
 {
-    problem.admissible();
-    words_have_one_list_report();
     let solved = solve(alloc, problem)?;
-    let mut out = Vec::new(alloc);
-    push_number_line(&mut out, b"word ", u64::from(number))?;
-    let count = push_preferred(alloc, &mut out, problem, &solved)?;
-    push_number_line(&mut out, b"listed ", count)?;
-    Ok(out)
+    solved_report(alloc, number, problem, &solved)
 }
 
 /// The report of a word with its first `k` trees. Makes lists only where more than one tree is asked for.

@@ -4,16 +4,16 @@ ghost use Rattle.adp_model.specs.Demand.{IsDemanded};
 ghost use Rattle.cell_tables.specs.Marks.{IsMarkedInRow};
 ghost use Rattle.seq_reference.specs.Sweeping.{AreGathered, AreRanked, AreSwept, IsBeforeEnd, IsBeforeStart};
 
+use crate::marking::Marking;
 use crate::rank_order::rules_by_rank;
 use adp_model::Cell;
 use adp_model::laws::demand::{demanded_cells_are_counted, demanded_children_are_below};
-use cell_demands::mark_children;
 use cell_tables::{Layout, Marks};
 use split_lines::Lines;
 use std::alloc::{AllocError, Global};
 
 /// Settles the marked cells of a span, by falling ranks.
-fn settle_span(lines: &Lines<'_>, rules: &[u32], from: u16, to: u16, marks: &mut Marks<'_>)
+fn settle_span(lines: &Lines<'_>, rules: &[u32], from: u16, to: u16, marks: &mut Marking<'_>)
     requires ranked { AreRanked lines.now rules.now }
     requires gathered { AreGathered marks.old from }
     requires swept { AreSwept lines.now marks.old (IsBeforeEnd from (to + 1)) }
@@ -30,13 +30,13 @@ fn settle_span(lines: &Lines<'_>, rules: &[u32], from: u16, to: u16, marks: &mut
             to,
         };
         if marks.is_marked_in_row(cell) {
-            mark_children(lines, cell, marks);
+            marks.mark_children(lines, cell);
         }
     }
 }
 
 /// Settles the marked cells that begin at `from`, by falling ends.
-fn settle_start(lines: &Lines<'_>, rules: &[u32], from: u16, marks: &mut Marks<'_>)
+fn settle_start(lines: &Lines<'_>, rules: &[u32], from: u16, marks: &mut Marking<'_>)
     requires ranked { AreRanked lines.now rules.now }
     requires swept { AreSwept lines.now marks.old (IsBeforeStart from) }
     ensures { AreSwept lines.now marks.new (IsBeforeStart (from + 1)) }
@@ -89,9 +89,10 @@ pub fn demanded_marks<'a>(
     problem.admissible();
     demanded_cells_are_counted();
     let rules = rules_by_rank(alloc, problem)?;
-    let mut marks = first_marks(alloc, lines, layout)?;
+    let first = first_marks(alloc, lines, layout)?;
+    let mut marks = Marking::new(alloc, lines, first)?;
     for from in 0..problem.word.bytes().len() as u16 + 1 {
         settle_start(lines, &rules, from, &mut marks);
     }
-    Ok(marks)
+    Ok(marks.into_marks())
 }

@@ -1,6 +1,8 @@
-ghost use Rattle.std.specs.Prelude.{◌≡◌, ◌↔◌, ◌+◌, IfOk};
+ghost use Rattle.std.specs.Prelude.{◌≡◌, ◌↔◌, ◌+◌, ◌<◌, IfOk, length};
 ghost use Rattle.adp_model.specs.declared.cell.Cell.{Cell};
-ghost use Rattle.adp_model.specs.Demand.{IsDemanded};
+ghost use Rattle.adp_model.specs.PosedProblem.{IsSpan};
+ghost use Rattle.adp_model.specs.Cells.{IsCounted};
+ghost use Rattle.adp_model.specs.Demand.{IsDemanded, IsDemandedChild};
 ghost use Rattle.cell_answers.specs.Entries.{HasEntry};
 ghost use Rattle.cell_tables.specs.Marks.{IsMarkedInRow};
 ghost use Rattle.seq_reference.specs.Sweeping.{AreRanked};
@@ -9,14 +11,85 @@ ghost use Rattle.seq_reference.specs.Filling.{AreFilled, AreKept, IsFilledBefore
 use crate::rank_order::rules_by_rank;
 use adp_model::Cell;
 use adp_model::laws::demand::{demanded_cells_are_counted, demanded_children_are_below};
-use cell_answers::{Scores, cell_score};
+use cell_answers::{Scores, Tails, cell_score_noting};
 use cell_tables::{Layout, Marks};
 use split_lines::Lines;
 use std::alloc::{AllocError, Global};
+use std::marker::Model;
 
 /// How many starts are filled together. Each end touches the columns of its rules once for all of them: with one start
 /// at a time the columns of a long word would pass through the caches once for each start.
 const BLOCK: u16 = 16;
+
+/// Scores that are filled in, with notes of what the tails of alternatives are worth. Contracts see the scores.
+#[derive(Drop)]
+pub(crate) struct Filling<'a> {
+    scores: Scores<'a>,
+    tails: Tails<'a>,
+}
+
+impl<'a> Model for Filling<'a> {
+    ghost use Rattle.std.specs.Prelude.{ℤ};
+    ghost use Rattle.cell_tables.specs.Tables.{Table as EntryTable};
+
+    ghost Value = { EntryTable ℤ };
+
+    ghost use Rattle.adp_model.specs.WideForm.{form_code};
+    ghost use Rattle.std.specs.Coded.{codes};
+
+    ghost coded = { Prim.hlevel (codes, form_code) };
+
+    ghost use Rattle.std.specs.Prelude.{◌≡◌};
+
+    ghost view = { λ filling. filling.scores };
+
+    ghost invariant = { λ filling. filling.tails ≡ filling.scores.problem };
+}
+
+impl<'a> Filling<'a> {
+    /// No score is kept yet, and nothing is noted; in a word that is filled at once nothing ever is. Fails for want of
+    /// memory alone.
+    fn new(alloc: Global, lines: &Lines<'a>, layout: &Layout<'a>) -> Result<Filling<'a>, AllocError>
+        requires { layout.now ≡ lines.now }
+        ensures { IfOk result (λ filling. filling.problem ≡ layout.now) }
+    {
+        let scores = Scores::new(alloc, layout)?;
+        let problem = lines.problem();
+        let tails = if problem.word.bytes().len() < BLOCK as usize {
+            Tails::none(problem)
+        } else {
+            Tails::new(alloc, lines)?
+        };
+        Ok(Filling { scores, tails })
+    }
+
+    /// Whether tails may be noted: these serve all starts that are filled end by end.
+    fn may_note(&self) -> bool {
+        self.tails.are_kept()
+    }
+
+    /// Fills in the score of a counted cell.
+    fn fill(&mut self, lines: &Lines<'_>, cell: Cell)
+        requires same_problem { self.old.problem ≡ lines.now }
+        requires rule { cell.rule < length lines.now.grammar.rules }
+        requires in_word { IsSpan lines.now.word cell.from cell.to }
+        requires counted { IsCounted lines.now.grammar (length lines.now.word) cell }
+        requires scored { (child : Cell) → IsDemandedChild lines.now cell child → HasEntry self.old child }
+        ensures problem { self.new.problem ≡ self.old.problem }
+        ensures kept { HasEntry self.new cell }
+        ensures others { AreKept self.old self.new }
+    {
+        let score = cell_score_noting(lines, &self.scores, &mut self.tails, cell);
+        self.scores.keep(cell, score);
+    }
+
+    /// The scores.
+    fn into_scores(self) -> Scores<'a>
+        ensures { result ≡ self.entry }
+    {
+        self.scores
+    }
+}
 
 /// Fills in the scores of the demanded cells of a span, by rising ranks.
 fn fill_span(
@@ -25,7 +98,7 @@ fn fill_span(
     marks: &Marks<'_>,
     from: u16,
     to: u16,
-    scores: &mut Scores<'_>,
+    scores: &mut Filling<'_>,
 )
     requires ranked { AreRanked lines.now rules.now }
     requires marked { (cell : Cell) → IsMarkedInRow marks.now cell ↔ IsDemanded lines.now cell }
@@ -43,8 +116,7 @@ fn fill_span(
             to,
         };
         if marks.is_marked_in_row(cell) {
-            let score = cell_score(lines, scores, cell);
-            scores.keep(cell, score);
+            scores.fill(lines, cell);
         }
     }
 }
@@ -58,7 +130,7 @@ fn fill_end(
     first: u16,
     past: u16,
     to: u16,
-    scores: &mut Scores<'_>,
+    scores: &mut Filling<'_>,
 )
     requires ranked { AreRanked lines.now rules.now }
     requires marked { (cell : Cell) → IsMarkedInRow marks.now cell ↔ IsDemanded lines.now cell }
@@ -80,7 +152,7 @@ fn fill_block(
     marks: &Marks<'_>,
     first: u16,
     past: u16,
-    scores: &mut Scores<'_>,
+    scores: &mut Filling<'_>,
 )
     requires ranked { AreRanked lines.now rules.now }
     requires marked { (cell : Cell) → IsMarkedInRow marks.now cell ↔ IsDemanded lines.now cell }
@@ -114,10 +186,15 @@ pub fn filled_scores<'a>(
     problem.admissible();
     demanded_cells_are_counted();
     let rules = rules_by_rank(alloc, problem)?;
-    let mut scores = Scores::new(alloc, layout)?;
-    for block in (0..problem.word.bytes().len() as u16 / BLOCK + 1).rev() {
+    let mut scores = Filling::new(alloc, lines, layout)?;
+    let letters = problem.word.bytes().len() as u16;
+    if scores.may_note() {
+        fill_block(lines, &rules, marks, 0, letters + 1, &mut scores);
+        return Ok(scores.into_scores());
+    }
+    for block in (0..letters / BLOCK + 1).rev() {
         let first = block * BLOCK;
         fill_block(lines, &rules, marks, first, first + BLOCK, &mut scores);
     }
-    Ok(scores)
+    Ok(scores.into_scores())
 }

@@ -5,6 +5,7 @@
 
 mod demand;
 mod filling;
+mod marking;
 mod rank_order;
 mod solved;
 mod solving;

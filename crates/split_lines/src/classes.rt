@@ -3,7 +3,7 @@
 ghost use Rattle.std.specs.Prelude.{◌≡◌, ◌<◌, ◌≤◌, IfOk, length};
 ghost use Rattle.adp_model.specs.Parts.{letters_of};
 ghost use Rattle.adp_model.specs.Tokens.{weight_of};
-ghost use Rattle.split_lines.specs.Classes.{IsAhead, IsBehind, AreSums, IsTable};
+ghost use Rattle.split_lines.specs.Classes.{AreLetterWeights, AreSums, IsAhead, IsBehind, IsTable};
 
 use adp_model::Problem;
 use std::alloc::{AllocError, Global};
@@ -22,28 +22,48 @@ pub struct ClassTable {
     pub sums: Vec<i128>,
 }
 
-/// The weight of a letter, where the class has it.
-fn weight_of(class: &[(u8, i64)], letter: u8) -> Option<i64>
-    ensures { result ≡ weight_of class.now letter }
+/// For each letter its weight, where the class has it.
+fn letter_weights(class: &[(u8, i64)]) -> [Option<i64>; 256]
+    ensures { AreLetterWeights class.now result }
 {
-    for (other, weight) in class {
-        if *other == letter {
-            return Some(*weight);
-        }
+    let mut weights = [None; 256];
+    // from the last entry on, since of two for one letter the first one counts
+    for number in (0..class.len()).rev() {
+        let (letter, weight) = class[number];
+        weights[letter as usize] = Some(weight);
     }
-    None
+    weights
+}
+
+/// A class, and for each letter its weight in it.
+#[derive(Clone, Copy)]
+pub struct Weighed<'l> {
+    pub class: &'l [(u8, i64)],
+    pub weights: &'l [Option<i64>; 256],
+}
+
+impl Weighed<'_> {
+    /// The weight of a letter, where the class has it.
+    #[inline(always)]
+    fn weight_of(self, letter: u8) -> Option<i64>
+        requires { AreLetterWeights self.class.now self.weights.now }
+        ensures { result ≡ weight_of self.entry.class.now letter }
+    {
+        self.weights[letter as usize]
+    }
 }
 
 /// For each position the first one from which on all letters up to there are in the class.
-fn behind(alloc: Global, class: &[(u8, i64)], word: &[u8]) -> Result<Vec<u16>, AllocError>
-    requires { length word.now ≤ 4000 }
-    ensures { IfOk result (λ behind. IsBehind class.now word.now behind.items) }
+fn behind(alloc: Global, class: Weighed<'_>, word: &[u8]) -> Result<Vec<u16>, AllocError>
+    requires short { length word.now ≤ 4000 }
+    requires class { AreLetterWeights class.class.now class.weights.now }
+    ensures { IfOk result (λ behind. IsBehind class.entry.class.now word.now behind.items) }
 {
     let mut behind = Vec::with_capacity(alloc, word.len() + 1)?;
     let mut first = 0;
     behind.push(first)?;
     for (position, letter) in word.iter().enumerate() {
-        if weight_of(class, *letter).is_none() {
+        if class.weight_of(*letter).is_none() {
             first = position as u16 + 1;
         }
         behind.push(first)?;
@@ -52,14 +72,15 @@ fn behind(alloc: Global, class: &[(u8, i64)], word: &[u8]) -> Result<Vec<u16>, A
 }
 
 /// For each position the last one up to which all letters are in the class.
-fn ahead(alloc: Global, class: &[(u8, i64)], word: &[u8]) -> Result<Vec<u16>, AllocError>
-    requires { length word.now ≤ 4000 }
-    ensures { IfOk result (λ ahead. IsAhead class.now word.now ahead.items) }
+fn ahead(alloc: Global, class: Weighed<'_>, word: &[u8]) -> Result<Vec<u16>, AllocError>
+    requires short { length word.now ≤ 4000 }
+    requires class { AreLetterWeights class.class.now class.weights.now }
+    ensures { IfOk result (λ ahead. IsAhead class.entry.class.now word.now ahead.items) }
 {
     let len = word.len();
     let mut ahead = vec![in alloc; len as u16; len + 1]?;
     for position in (0..len).rev() {
-        let last = match weight_of(class, word[position]) {
+        let last = match class.weight_of(word[position]) {
             Some(_) => ahead[position + 1],
             None => position as u16,
         };
@@ -69,15 +90,16 @@ fn ahead(alloc: Global, class: &[(u8, i64)], word: &[u8]) -> Result<Vec<u16>, Al
 }
 
 /// For each position the weights of the letters before it, added up.
-fn sums(alloc: Global, class: &[(u8, i64)], word: &[u8]) -> Result<Vec<i128>, AllocError>
-    requires { length word.now ≤ 4000 }
-    ensures { IfOk result (λ sums. AreSums class.now word.now sums.items) }
+fn sums(alloc: Global, class: Weighed<'_>, word: &[u8]) -> Result<Vec<i128>, AllocError>
+    requires short { length word.now ≤ 4000 }
+    requires class { AreLetterWeights class.class.now class.weights.now }
+    ensures { IfOk result (λ sums. AreSums class.entry.class.now word.now sums.items) }
 {
     let mut sums = Vec::with_capacity(alloc, word.len() + 1)?;
     let mut sum = 0;
     sums.push(sum)?;
     for letter in word {
-        if let Some(weight) = weight_of(class, *letter) {
+        if let Some(weight) = class.weight_of(*letter) {
             sum += i128::from(weight);
         }
         sums.push(sum)?;
@@ -118,6 +140,11 @@ impl<'a> ClassTables<'a> {
         let mut tables = Vec::with_capacity(alloc, classes.len())?;
         for class in classes {
             let class = class.letters.as_slice();
+            let weights = letter_weights(class);
+            let class = Weighed {
+                class,
+                weights: &weights,
+            };
             tables.push(ClassTable {
                 ahead: ahead(alloc, class, word)?,
                 behind: behind(alloc, class, word)?,

@@ -1,6 +1,6 @@
 //! Alternatives, made ready for the cells of their rules.
 
-ghost use Rattle.std.specs.Prelude.{◌≡◌, ◌↔◌, ℕ, ◌+◌, ◌<◌, ◌≤◌, false, IfSome, IsTrue, MatchOption, Some, pos, nat_abs, [], ◌∷◌, drop, length, map, slice_get, slice_index_or, take};
+ghost use Rattle.std.specs.Prelude.{◌≡◌, ◌↔◌, ℕ, ◌+◌, ◌<◌, ◌≤◌, false, IfSome, IsTrue, MatchOption, Some, pos, nat_abs, [], ◌∷◌, drop, length, map, slice_index_or, take};
 ghost use Rattle.std.specs.Bool.{OnTrue};
 ghost use Rattle.std.specs.List.{AllByRecursion};
 ghost use Rattle.adp_model.specs.declared.grammar.Arg.TheVariants.{Letter};
@@ -11,13 +11,13 @@ ghost use Rattle.viable_splits.specs.Placing.{Cover};
 ghost use Rattle.score_numbers.specs.Turned.{turned};
 ghost use Rattle.score_numbers.specs.Worthless.{AreWorthless};
 ghost use Rattle.split_lines.specs.Laid.{IsFixed};
-ghost use Rattle.split_lines.specs.Kept.{AreInFront, AreOneLetter, AreOneOfClass, BeginWith, HasLengths, IsAlternative, IsAmong, factors_behind, factors_in_front};
+ghost use Rattle.split_lines.specs.Kept.{AreInFront, AreOneLetter, AreOneOfClass, HasLengths, IsAlternative, IsAmong, factors_behind, factors_in_front};
 ghost use Rattle.split_lines.specs.Ways.{MayFill, MaySpan, IsClosed, IsOpening};
 
 use crate::classes::ClassTables;
 use crate::lines::KeptLine;
 use crate::matches::{covers, fixed_letters};
-use crate::tokens::is_fixed;
+use crate::tokens::{first_letter, is_fixed, stands};
 use adp_model::laws::well_formed::alternatives_fit;
 use adp_model::{Alt, Arg, Cell, Goal, MOST_LETTERS, Problem, Term};
 use score_numbers::{are_worthless, turned, turned_factors};
@@ -139,19 +139,6 @@ fn front_length(arguments: &[Arg]) -> usize
     arguments.len()
 }
 
-/// The letter with which tokens begin wherever they match, where the first one is a literal that is not empty.
-fn first_letter(tokens: &[Arg]) -> Option<u8>
-    ensures { IfSome result (BeginWith tokens.now) }
-{
-    let Some((Arg::Literal(text), _)) = tokens.split_first() else {
-        return None;
-    };
-    match text.bytes().split_first() {
-        Some((letter, _)) => Some(*letter),
-        None => None,
-    }
-}
-
 /// Whether tokens are a literal of one letter, and nothing more.
 fn are_one_letter(tokens: &[Arg]) -> bool
     ensures { OnTrue result (AreOneLetter tokens.now) }
@@ -247,17 +234,6 @@ pub fn kept_alternative<'a>(
         scoring,
         lengths: lengths_of(problem.alternative(rule, alt)),
         line,
-    }
-}
-
-/// Whether the letter stands at the position.
-#[inline(always)]
-fn stands(word: &[u8], position: usize, letter: u8) -> bool
-    ensures { IsTrue result ↔ (slice_get word.now position ≡ Some letter) }
-{
-    match word.get(position) {
-        Some(found) => *found == letter,
-        None => false,
     }
 }
 

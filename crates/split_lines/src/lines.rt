@@ -27,7 +27,7 @@ use crate::extents::{Extent, extent_of};
 use crate::kept::{KeptAlternative, kept_alternative, opening};
 use crate::matches::{Matches, covers, fixed_letters};
 use crate::spans;
-use crate::tokens::is_fixed;
+use crate::tokens::{first_letter, is_fixed};
 use crate::ways::Way;
 use adp_model::laws::well_formed::arguments_are_few_and_known;
 use adp_model::{Arg, Cell, Problem};
@@ -70,10 +70,11 @@ pub struct Boundary<'l> {
     pub last: u16,
 }
 
-/// Tokens of fixed length, and where they match.
+/// Tokens of fixed length, the letter with which they begin, if one is known, and where they match.
 #[derive(Drop)]
 pub struct Middle<'a> {
     pub tokens: &'a [Arg],
+    pub first: Option<u8>,
     pub matches: Matches,
 }
 
@@ -145,14 +146,20 @@ fn number_of<'a>(
     ensures kept { IfOk result (λ _. HasAllOf middles.old.items middles.new.items) }
     ensures number { IfOk result (IsNumberOf middles.new.items tokens.now) }
 {
+    let first = first_letter(tokens);
     for number in 0..middles.len().min(MOST_COMPARED) {
-        if are_same(middles[number].tokens, tokens) {
+        let middle = &middles[number];
+        if middle.first == first && are_same(middle.tokens, tokens) {
             return Ok(number);
         }
     }
     let matches = Matches::new(alloc, tables, tokens)?;
     let number = middles.len();
-    middles.push(Middle { tokens, matches })?;
+    middles.push(Middle {
+        tokens,
+        first,
+        matches,
+    })?;
     Ok(number)
 }
 
@@ -262,9 +269,9 @@ impl<'a> Model for Lines<'a> {
 }
 
 impl<'a> Lines<'a> {
-    /// Works it out, in time for each alternative, and for each letter of the word once for each class and once for
-    /// each list of tokens. Memory is 20 bytes for each class and letter, four to six for each list and letter, and
-    /// about a hundred for each alternative.
+    /// Works it out, in time for each alternative and each letter of a class, and for each letter of the word once for
+    /// each class and once for each list of tokens that may match. Memory is 20 bytes for each class and letter, four to
+    /// six for each list and letter, and about a hundred for each alternative.
     pub fn new(alloc: Global, problem: &'a Problem<'a>) -> Result<Lines<'a>, AllocError>
         ensures { IfOk result (λ lines. lines ≡ problem.now) }
     {

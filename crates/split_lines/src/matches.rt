@@ -1,10 +1,12 @@
 //! Where tokens of fixed length match.
 
-ghost use Rattle.std.specs.Prelude.{◌≡◌, ◌↔◌, ℕ, ◌+◌, ◌^◌, ◌<◌, ◌≤◌, IfOk, IsTrue, length};
+ghost use Rattle.std.specs.Prelude.{◌≡◌, ◌↔◌, ℕ, ◌+◌, ◌^◌, ◌<◌, ◌≤◌, IfOk, IfSome, IsTrue, List, length};
 ghost use Rattle.std.specs.List.{AllAdjacentBelow, AllByRecursion, Contains};
+ghost use Rattle.adp_model.specs.declared.grammar.Arg.{Arg as Argument};
 ghost use Rattle.adp_model.specs.PosedProblem.{IsSpan};
 ghost use Rattle.adp_model.specs.WellFormed.{IsKnown};
 ghost use Rattle.viable_splits.specs.Placing.{Cover};
+ghost use Rattle.split_lines.specs.Kept.{BeginWith};
 ghost use Rattle.split_lines.specs.Laid.{IsFixed};
 ghost use Rattle.split_lines.specs.Flags.{AreBits};
 ghost use Rattle.score_numbers.specs.Limits.{AreLimited};
@@ -12,7 +14,7 @@ ghost use Rattle.split_lines.specs.Matching.{fixed_length, HaveLetters, AreCount
 
 use crate::classes::ClassTables;
 use crate::spans::token_end;
-use crate::tokens::fixed_length;
+use crate::tokens::{first_letter, fixed_length, occurs, stands};
 use adp_model::{Arg, Problem};
 use cell_tables::{WORD, set_each, set_places};
 use score_numbers::{NO_LIMIT, SHORT_MARK};
@@ -66,6 +68,30 @@ pub fn covers(tables: &ClassTables<'_>, tokens: &[Arg], from: usize, to: usize) 
     }
 }
 
+/// The same, where the tokens begin with this letter, if one is known: in most cases it tells that they don't match.
+#[inline(always)]
+fn cover_there(
+    tables: &ClassTables<'_>,
+    tokens: &[Arg],
+    first: Option<u8>,
+    from: usize,
+    to: usize,
+) -> bool
+    requires known { AllByRecursion (IsKnown tables.now.grammar) tokens.now }
+    requires fixed { AllByRecursion IsFixed tokens.now }
+    requires first { IfSome first (BeginWith tokens.now) }
+    requires span { IsSpan tables.now.word from to }
+    requires short { to ≤ 4000 }
+    ensures { IsTrue result ↔ Cover tables.now tokens.now from to }
+{
+    if let Some(letter) = first {
+        if !stands(tables.problem().letters(), from, letter) {
+            return false;
+        }
+    }
+    covers(tables, tokens, from, to)
+}
+
 /// The limit of a sum at each of so many positions: none where it is one of these, else the mark. Fails for want of
 /// memory alone.
 fn limits_of(alloc: Global, count: usize, positions: &[u16]) -> Result<Vec<i16>, AllocError>
@@ -95,6 +121,23 @@ fn bits_of(
 }
 
 impl Matches {
+    /// Where tokens of so many letters match that match nowhere.
+    fn nowhere(alloc: Global, problem: &Problem<'_>, letters: u16) -> Result<Matches, AllocError>
+        ensures { IfOk result (λ matches. (tokens : List Argument) → HaveLetters problem.now tokens letters
+            → ((from to : ℕ) → Cover problem.now tokens from to → ⊥) → AreMatches problem.now tokens matches) }
+    {
+        problem.admissible();
+        let count = problem.letters().len() + 1;
+        Ok(Matches {
+            letters,
+            positions: Vec::new(alloc),
+            before: vec![in alloc; 0; count + 1]?,
+            limits: limits_of(alloc, count, &[])?,
+            here: bits_of(alloc, count, &[], 0)?,
+            behind: bits_of(alloc, count, &[], letters)?,
+        })
+    }
+
     /// Where the tokens match. Memory is four bytes and two bits for each position of the word, and two bytes more
     /// where they match.
     pub fn new(
@@ -109,12 +152,18 @@ impl Matches {
         let problem = tables.problem();
         let len = problem.letters().len();
         let width = fixed_letters(problem, tokens);
+        let first = first_letter(tokens);
+        if let Some(letter) = first {
+            if !occurs(problem.letters(), letter) {
+                return Matches::nowhere(alloc, problem, width as u16);
+            }
+        }
         let mut positions = Vec::new(alloc);
         let mut before = Vec::with_capacity(alloc, len + 2)?;
         for position in 0..len + 1 {
             before.push(positions.len() as u16)?;
             let end = position + width;
-            if end <= len && covers(tables, tokens, position, end) {
+            if end <= len && cover_there(tables, tokens, first, position, end) {
                 positions.push(position as u16)?;
             }
         }

@@ -1,6 +1,7 @@
 //! Tokens of fixed length: literals and letters.
 
-ghost use Rattle.std.specs.Prelude.{◌≡◌, ◌↔◌, IsTrue};
+ghost use Rattle.std.specs.Prelude.{◌≡◌, ◌↔◌, ℕ, IfSome, IsTrue, Some, false, slice_get};
+ghost use Rattle.split_lines.specs.Kept.{BeginWith};
 ghost use Rattle.split_lines.specs.Laid.{IsFixed};
 ghost use Rattle.split_lines.specs.Matching.{fixed_length};
 
@@ -26,4 +27,35 @@ pub fn fixed_length(token: &Arg) -> usize
         Arg::Letter(_) => 1,
         Arg::Rule(_) | Arg::Run { .. } => 0,
     }
+}
+
+/// The letter with which tokens begin wherever they match, where the first one is a literal that is not empty.
+pub fn first_letter(tokens: &[Arg]) -> Option<u8>
+    ensures { IfSome result (BeginWith tokens.now) }
+{
+    let Some((Arg::Literal(text), _)) = tokens.split_first() else {
+        return None;
+    };
+    match text.bytes().split_first() {
+        Some((letter, _)) => Some(*letter),
+        None => None,
+    }
+}
+
+/// Whether the letter stands at the position.
+#[inline(always)]
+pub fn stands(word: &[u8], position: usize, letter: u8) -> bool
+    ensures { IsTrue result ↔ (slice_get word.now position ≡ Some letter) }
+{
+    match word.get(position) {
+        Some(found) => *found == letter,
+        None => false,
+    }
+}
+
+/// Whether the letter stands anywhere.
+pub fn occurs(word: &[u8], letter: u8) -> bool
+    ensures { result ≡ false → (position : ℕ) → slice_get word.now position ≡ Some letter → ⊥ }
+{
+    word.contains(&letter)
 }

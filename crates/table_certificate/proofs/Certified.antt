@@ -11,32 +11,33 @@ use Rattle.table_certificate.specs.JobSplit.{IsSplitAtJob}
 use Rattle.table_certificate.specs.LocalCertificate.{IsFirstFalse, IsLocallyRight, IsRight, IsWhole}
 use Rattle.table_certificate.specs.declared.verifying.VerifyError.{VerifyError}
 use Rattle.table_certificate.specs.declared.verifying.VerifyError.TheVariants as errors
-use Rattle.table_certificate.specs.Verified.{AreAccepted, IsRejection, posed_problems}
+use Rattle.table_certificate.specs.Posed.{posed_words}
+use Rattle.table_certificate.specs.Verified.{AreAccepted, IsRejection}
 use Rattle.table_certificate.specs.WrittenCertificate.{AreBlockForms, IsCertifiedJob, IsWritten}
 use Rattle.table_certificate.proofs.ReadBlocks.{AreLaws, written_forms}
 
 -- ---- a written certificate is right
 
 length-posed : (grammar : Grammar) (algebra : ℕ) (words : List (List ℕ))
-    → length (posed_problems grammar algebra words) ≡ length words
+    → length (posed_words grammar algebra words) ≡ length words
 length-posed grammar algebra [] = refl
 length-posed grammar algebra (word ∷ words) = ap suc (length-posed grammar algebra words)
 
 one_grammar : (grammar : Grammar) (algebra : ℕ) (words : List (List ℕ))
-    → All (λ p. p.grammar ≡ grammar) (posed_problems grammar algebra words)
+    → All (λ p. p.grammar ≡ grammar) (posed_words grammar algebra words)
 one_grammar grammar algebra [] = All-nil (λ p. p.grammar ≡ grammar)
 one_grammar grammar algebra (word ∷ words) =
     All-cons (λ p. p.grammar ≡ grammar) (record { grammar = grammar; algebra = algebra; word = word })
-    (posed_problems grammar algebra words) refl (one_grammar grammar algebra words)
+    (posed_words grammar algebra words) refl (one_grammar grammar algebra words)
 
 pub right_written : AreLaws
     → ((problems : List PosedProblem) (forms : List LineForm) → All IsAdmissible problems → AreBlockForms 1 problems forms → IsLocallyRight problems (CertLine ∷ forms))
     → (grammar : Grammar) (algebra : ℕ) (words : List (List ℕ)) (text : List ℕ)
-    → All IsAdmissible (posed_problems grammar algebra words) → length words < 2 ^ 64
-    → IsWritten (posed_problems grammar algebra words) text
-    → IsLocallyRight (posed_problems grammar algebra words) (forms_of grammar text)
+    → All IsAdmissible (posed_words grammar algebra words) → length words < 2 ^ 64
+    → IsWritten (posed_words grammar algebra words) text
+    → IsLocallyRight (posed_words grammar algebra words) (forms_of grammar text)
 right_written laws right grammar algebra words text all few are =
-    let problems : List PosedProblem = posed_problems grammar algebra words in
+    let problems : List PosedProblem = posed_words grammar algebra words in
     let many : length problems ≡ length words = length-posed grammar algebra words in
     let read = written_forms laws grammar problems text all (one_grammar grammar algebra words) (omega arith) are in
     subst (IsLocallyRight problems) (sym read.2) (right problems read.0 all read.1)
@@ -56,9 +57,9 @@ not_rejected problems forms place local first = by first.wrong
 -- the laws about single certificates
 pub record AreSplitLaws : Type 0 where
   pub right : (grammar : Grammar) (algebra : ℕ) (words : List (List ℕ)) (text : List ℕ)
-      → All IsAdmissible (posed_problems grammar algebra words) → length words < 2 ^ 64
-      → IsWritten (posed_problems grammar algebra words) text
-      → IsLocallyRight (posed_problems grammar algebra words) (forms_of grammar text)
+      → All IsAdmissible (posed_words grammar algebra words) → length words < 2 ^ 64
+      → IsWritten (posed_words grammar algebra words) text
+      → IsLocallyRight (posed_words grammar algebra words) (forms_of grammar text)
   pub split : (problems : List PosedProblem) (grammar : Grammar) (text job : List ℕ)
       → IsLocallyRight problems (forms_of grammar text) → IsSplitAtJob (text ++ line (codes "job") ++ job) text job
   pub once : (bytes before behind other_before other_behind : List ℕ) → IsSplitAtJob bytes before behind
@@ -68,8 +69,8 @@ pub record AreSplitLaws : Type 0 where
       → IsFirstFalse problems forms place → ⊥
 
 pub all_accepted : AreSplitLaws → (grammar : Grammar) (algebra : ℕ) (words : List (List ℕ)) (job bytes : List ℕ)
-    → All IsAdmissible (posed_problems grammar algebra words) → length words < 2 ^ 64
-    → IsCertifiedJob (posed_problems grammar algebra words) job bytes → AreAccepted grammar algebra words job bytes
+    → All IsAdmissible (posed_words grammar algebra words) → length words < 2 ^ 64
+    → IsCertifiedJob (posed_words grammar algebra words) job bytes → AreAccepted grammar algebra words job bytes
 all_accepted laws grammar algebra words job bytes all few (text, are, is) = record {
   line = laws.line bytes text job here;
   behind = λ before behind split. sym (laws.once bytes text job before behind here split).1;
@@ -78,7 +79,7 @@ all_accepted laws grammar algebra words job bytes all few (text, are, is) = reco
 }
   where
     problems : List PosedProblem
-    problems = posed_problems grammar algebra words
+    problems = posed_words grammar algebra words
 
     local : IsLocallyRight problems (forms_of grammar text)
     local = laws.right grammar algebra words text all few are

@@ -220,7 +220,7 @@ module _ (p : PosedProblem) (lines : List LineForm) (cell : Cell) (fitting : Are
     λ other choice split. judged.1 (Scored other) (has_score p (said_of lines) cell fitting (Some best) judged other choice split),
   )
 
-  best_unique : (a b : Option ℤ) → IsBestSaid p lines cell a → IsBestSaid p lines cell b → a ≡ b
+  pub best_unique : (a b : Option ℤ) → IsBestSaid p lines cell a → IsBestSaid p lines cell b → a ≡ b
   best_unique None None a b = refl
   best_unique None (Some score) a b = absurd (a score b.0.0 b.0.1)
   best_unique (Some score) None a b = absurd (b score a.0.0 a.0.1)

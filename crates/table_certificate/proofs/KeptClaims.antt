@@ -1,22 +1,13 @@
 -- What is kept of what lines say of cells, with one line more.
-use Rattle.std.proofs.Common.{◌≡◌, ℕ, ◌≤◌, ◌⊎◌, inl, inr, ℤ, Bool, true, false, cond, Option, Some, None, IsSome, List, [], ◌∷◌, ◌++◌, refl, sym, ap, subst, ◌∙◌, arith}
+use Rattle.std.proofs.Common.{◌≡◌, ◌≤◌, ◌⊎◌, inl, inr, ℤ, Bool, true, false, cond, Option, Some, None, IsSome, List, [], ◌∷◌, ◌++◌, refl, sym, ap, subst, ◌∙◌, arith}
 use Rattle.std.proofs.lemmas.Bool.Decides.{nat_tests}
 use Rattle.std.specs.Option.{is_some}
-use Rattle.std.specs.Ordering.{is_eq, nat_cmp}
 use Rattle.adp_model.specs.declared.cell.Cell.{Cell}
 use Rattle.table_certificate.specs.CertificateLines.{LineForm, CertLine, WordLine, CellLine, Formless}
 use Rattle.table_certificate.specs.LocalCertificate.{same_cell, said_of}
-use Rattle.table_certificate.specs.Claims.{IsShort, Tell, claimed, key_of}
+use Rattle.table_certificate.specs.Claims.{IsKeptToo, IsShort, Tell, claimed}
 use Rattle.table_certificate.specs.declared.claims.Claims.{Claims}
 use Rattle.table_certificate.proofs.BlockForms.{same_cell-is}
-
--- one number stands for one cell
-pub key_injective : (a b : Cell) → IsShort a → IsShort b → key_of a ≡ key_of b → a ≡ b
-key_injective a b short short' e =
-    let rules : a.rule ≡ b.rule = omega (arith, e, short.begins, short.ends, short'.begins, short'.ends) in
-    let starts : a.from ≡ b.from = omega (arith, e, rules, short.begins, short.ends, short'.begins, short'.ends) in
-    let ends : a.to ≡ b.to = omega (arith, e, rules, starts, short.ends, short'.ends) in
-    λ i. record { rule = rules i; from = starts i; to = ends i }
 
 pub same_cell-self : (a : Cell) → same_cell a a ≡ true
 same_cell-self a = grind (arith, nat_tests)
@@ -111,23 +102,18 @@ pub note_long : (claims : Claims) (lines : List LineForm) (cell : Cell) (score :
 note_long claims lines cell score told far = λ other near.
     told other near ∙ sym (said_kept lines (CellLine cell score) other (other_cell cell other score (long_apart cell other far near)))
 
-pub keys_apart : (x y : ℕ) → (x ≡ y → ⊥) → is_eq (nat_cmp x y) ≡ false
-keys_apart x y ne = grind (arith, nat_tests)
-
--- of another cell it is kept now
+-- of a cell of which nothing was kept it is kept now
 pub note_new : (claims after : Claims) (lines : List LineForm) (cell : Cell) (score : Option ℤ) → Tell claims lines → IsShort cell
-    → claimed claims cell ≡ None → claimed after cell ≡ Some score
-    → ((key : ℕ) → is_eq (nat_cmp (key_of cell) key) ≡ false → (other : Cell) → key ≡ key_of other → claimed after other ≡ claimed claims other)
-    → Tell after (lines ++ CellLine cell score ∷ [])
-note_new claims after lines cell score told short none is others = λ other near. by other near (same_or_not cell other)
+    → claimed claims cell ≡ None → IsKeptToo claims after cell score → Tell after (lines ++ CellLine cell score ∷ [])
+note_new claims after lines cell score told short none kept = λ other near. by other near (same_or_not cell other)
   where
     by : (other : Cell) → IsShort other → (cell ≡ other) ⊎ (same_cell cell other ≡ false)
         → claimed after other ≡ said_of (lines ++ CellLine cell score ∷ []) other
     by other near (inl same) =
         subst (λ x. claimed after x ≡ said_of (lines ++ CellLine cell score ∷ []) x) same
-        (is ∙ sym (said_first lines cell score (sym (told cell short) ∙ none)))
+        (kept.there ∙ sym (said_first lines cell score (sym (told cell short) ∙ none)))
     by other near (inr apart) =
-        others (key_of other) (keys_apart (key_of cell) (key_of other) (λ e. differ (key_injective cell other short near e))) other refl
+        kept.others other near (λ same. differ (sym same))
         ∙ told other near ∙ sym (said_kept lines (CellLine cell score) other (other_cell cell other score apart))
       where
         differ : cell ≡ other → ⊥

@@ -41,3 +41,5 @@ pub mod RightText
 pub mod Certified
 pub mod LongTexts
 pub mod WrittenBlocks
+pub mod SettledLines
+pub mod NotedChildren

@@ -1,5 +1,5 @@
 -- One line of a certificate is the first that is false.
-use Rattle.std.proofs.Common.{◌≡◌, ℕ, zero, suc, ◌<◌, ◌≤◌, ◌⊎◌, inl, inr, Some, List, length, sym, subst, arith}
+use Rattle.std.proofs.Common.{◌≡◌, ℕ, zero, suc, ◌<◌, ◌⊎◌, inl, inr, List, length, arith}
 use Rattle.adp_model.specs.PosedProblem.{PosedProblem}
 use Rattle.table_certificate.specs.CertificateLines.{LineForm, CertLine}
 use Rattle.table_certificate.specs.LocalCertificate.{IsFirstFalse, IsRight, IsWhole}

@@ -118,22 +118,21 @@ module _ (p : PosedProblem) (bellman : Bellman p)
   told cell None score none best = absurd (unlike score best.0 (unique cell NoCandidate (Best score best.0) none best.1))
   told cell (Some said) score mine best = ap (λ x. Some x) (answer_score said score mine.0 best.0 (unique cell (Best said mine.0) (Best score best.0) mine.1 best.1))
 
-  -- ---- what lines say that say best scores
+  -- ---- what lines say that say best scores of the cell's demanded children
 
-  module _ (lines : List LineForm)
-      (saids : (cell : Cell) (score : Option ℤ) → said_of lines cell ≡ Some score → IsBestScore p cell score)
-      (cell : Cell) (span : IsSpan p.word cell.from cell.to)
+  module _ (lines : List LineForm) (cell : Cell) (span : IsSpan p.word cell.from cell.to)
       (spans : (child : Cell) → IsDemandedChild p cell child → IsSpan p.word child.from child.to)
+      (saids : (child : Cell) → IsDemandedChild p cell child → (score : Option ℤ) → said_of lines child ≡ Some score → IsBestScore p child score)
       (children : (child : Cell) → IsDemandedChild p cell child → HasLine lines child) where
     down : (child : Cell) → IsDemandedChild p cell child → (value : ℤ) → SaysScore lines child value
         → HasBestScore p child value
-    down child demanded value says = answered_best child (Some value) (spans child demanded) (saids child (Some value) says)
+    down child demanded value says = answered_best child (Some value) (spans child demanded) (saids child demanded (Some value) says)
 
     up : (child : Cell) → IsDemandedChild p cell child → (value : ℤ) → HasBestScore p child value
         → SaysScore lines child value
     up child demanded value best =
         let found = some_is (said_of lines child) (children child demanded) in
-        found.1 ∙ ap (λ x. Some x) (told child found.0 value (answered_best child found.0 (spans child demanded) (saids child found.0 found.1)) best)
+        found.1 ∙ ap (λ x. Some x) (told child found.0 value (answered_best child found.0 (spans child demanded) (saids child demanded found.0 found.1)) best)
 
     pub best_said : (score : Option ℤ) → IsBestScore p cell score → IsBestSaid p lines cell score
     best_said None none = λ score choice split.

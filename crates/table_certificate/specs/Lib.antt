@@ -9,6 +9,8 @@ pub mod KeptForms
 pub mod NextForms
 pub mod Claims
 pub mod SplitVerdicts
+pub mod KnownScores
 pub mod BlockLines
+pub mod Posed
 pub mod Verified
 pub mod ScoreReports

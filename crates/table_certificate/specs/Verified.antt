@@ -1,24 +1,20 @@
 -- What the verification of a certificate answers.
-use Rattle.std.specs.Prelude.{◌≡◌, ℕ, ◌+◌, ◌<◌, ◌⊎◌, false, Some, List, ◌∷◌, Contains, codes, length, map, slice_get}
+use Rattle.std.specs.Prelude.{◌≡◌, ℕ, ◌+◌, ◌<◌, ◌⊎◌, false, Some, List, ◌∷◌, Contains, codes, length, slice_get}
 use Rattle.std.specs.Str.Lines.{lines}
 use Rattle.adp_model.specs.declared.grammar.Grammar.{Grammar}
 use Rattle.adp_model.specs.PosedProblem.{PosedProblem}
 use Rattle.grammar_check.specs.CheckedGrammar.{CheckedGrammar}
 use Rattle.table_certificate.specs.declared.verifying.VerifyError.{VerifyError}
 use Rattle.table_certificate.specs.declared.verifying.VerifyError.TheVariants as errors
+use Rattle.table_certificate.specs.Posed.{posed_words}
 use Rattle.table_certificate.specs.BlockLines.{IsAtHead}
 use Rattle.table_certificate.specs.CertificateLines.{LineForm, CertLine, forms_of}
 use Rattle.table_certificate.specs.JobSplit.{IsSplitAtJob}
 use Rattle.table_certificate.specs.LocalCertificate.{IsFirstFalse, IsLocallyRight, is_word_line}
 
--- the problems of words, under this algebra of a grammar
-abbrev pub posed_problems : Grammar → ℕ → List (List ℕ) → List PosedProblem
-posed_problems grammar algebra words =
-    map (λ (word : List ℕ). record { grammar = grammar; algebra = algebra; word = word }) words
-
--- those of a checked grammar and words
+-- what is asked about words under a checked grammar
 abbrev pub problems_of : CheckedGrammar → List (List ℕ) → List PosedProblem
-problems_of checked words = posed_problems checked.grammar checked.algebra words
+problems_of checked words = posed_words checked.grammar checked.algebra words
 
 -- the line behind so many others is told as the first that is false; lines count from 1
 abbrev pub IsFalseLine : ℕ → VerifyError → Type 0
@@ -37,9 +33,9 @@ pub record AreAccepted (grammar : Grammar) (algebra : ℕ) (words : List (List �
   pub line : Contains (lines bytes) (codes "job")
   pub behind : (before behind : List ℕ) → IsSplitAtJob bytes before behind → behind ≡ job
   pub right : (before behind : List ℕ) → IsSplitAtJob bytes before behind
-      → IsLocallyRight (posed_problems grammar algebra words) (forms_of grammar before)
+      → IsLocallyRight (posed_words grammar algebra words) (forms_of grammar before)
   pub accepted : (before behind : List ℕ) (error : VerifyError) → IsSplitAtJob bytes before behind
-      → IsRejection (posed_problems grammar algebra words) (forms_of grammar before) error → error ≡ errors.Memory
+      → IsRejection (posed_words grammar algebra words) (forms_of grammar before) error → error ≡ errors.Memory
 
 -- the text begins with a line `cert`, and behind it stands nothing, or the head of a block
 pub record IsBehindCert (grammar : Grammar) (text behind : List ℕ) : Type 0 where

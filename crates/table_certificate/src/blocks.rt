@@ -10,15 +10,22 @@ ghost use Rattle.table_certificate.specs.CertificateLines.{LineForm};
 ghost use Rattle.table_certificate.specs.LocalCertificate.{HasLine, IsRightCellLine, IsRightInBlock, IsTold, is_word_line, last_cell};
 ghost use Rattle.table_certificate.specs.KeptForms.{kept, kept_form};
 ghost use Rattle.table_certificate.specs.Claims.{Tell, claimed};
+ghost use Rattle.table_certificate.specs.KnownScores.{AreSaidBest};
 ghost use Rattle.table_certificate.specs.BlockLines.{AreRightFurther, IsAtHead, IsBestOrNot, IsBlock, IsFirstWrong, IsInWord, IsKnownForm, IsOutcome, IsWithin, LiesInWord, lines_ahead};
 
 use crate::claims::Claims;
 use crate::forms::{Form, next_form, next_line};
+use crate::known_scores::{is_same, noted_said_best, settled_score};
+use crate::laws::settled_lines_say_best_scores;
 use crate::splits::judge_cell;
+use adp_model::laws::demand::demanded_cells_are_counted;
 use adp_model::laws::well_formed::{
     alternatives_fit, arguments_are_few_and_known, numbers_fit_together,
 };
 use adp_model::{Cell, Grammar, Problem};
+use cell_layouts::Layout;
+use cell_tables::Noted;
+use seq_reference::Solved;
 use split_lines::Lines;
 use std::alloc::{AllocError, Global};
 
@@ -115,16 +122,6 @@ fn is_in_order(earlier: Option<Cell>, cell: Cell) -> bool
     }
 }
 
-fn is_same(one: Option<i64>, other: Option<i64>) -> bool
-    ensures { IsTrue result ↔ (one ≡ other) }
-{
-    match (one, other) {
-        (None, None) => true,
-        (Some(one), Some(other)) => one == other,
-        _ => false,
-    }
-}
-
 /// Whether no split of the cell is wrong, and this is the best of their scores.
 fn is_best(lines: &Lines<'_>, claims: &Claims, cell: Cell, score: Option<i64>) -> bool
     requires span { IsSpan lines.now.word cell.from cell.to }
@@ -137,14 +134,19 @@ fn is_best(lines: &Lines<'_>, claims: &Claims, cell: Cell, score: Option<i64>) -
     }
 }
 
-/// Whether the line of a cell in the word is right, where its length is within its rule's sizes.
+/// Whether the line of a cell in the word is right, where its length is within its rule's sizes. The splits of the cell
+/// are judged where its score isn't settled.
 fn is_right_cell(
     lines: &Lines<'_>,
     claims: &Claims,
+    solved: &Solved<'_>,
+    said_best: &Noted<'_>,
     earlier: Option<Cell>,
     cell: Cell,
     score: Option<i64>,
 ) -> bool
+    requires solved { solved.now ≡ lines.now }
+    requires noted { AreSaidBest lines.now (claimed claims.now) said_best.now }
     requires inside { IsInWord lines.now cell }
     requires rule { cell.rule < length lines.now.grammar.rules }
     ensures { (block : List LineForm) → Tell claims.now block
@@ -153,10 +155,14 @@ fn is_right_cell(
     lines.problem().admissible();
     alternatives_fit();
     arguments_are_few_and_known();
-    if is_in_order(earlier, cell) {
-        is_best(lines, claims, cell, score)
-    } else {
-        false
+    demanded_cells_are_counted();
+    settled_lines_say_best_scores();
+    if !is_in_order(earlier, cell) {
+        return false;
+    }
+    match settled_score(lines, solved, said_best, cell) {
+        Some(best) => is_same(score, best),
+        None => is_best(lines, claims, cell, score),
     }
 }
 
@@ -164,13 +170,17 @@ fn is_right_cell(
 fn right_cell(
     lines: &Lines<'_>,
     claims: &Claims,
+    solved: &Solved<'_>,
+    said_best: &Noted<'_>,
     earlier: Option<Cell>,
     rule: u32,
     from: u64,
     to: u64,
     score: Option<i64>,
 ) -> Option<Cell>
-    requires { rule < length lines.now.grammar.rules }
+    requires solved { solved.now ≡ lines.now }
+    requires noted { AreSaidBest lines.now (claimed claims.now) said_best.now }
+    requires rule { rule < length lines.now.grammar.rules }
     ensures { (block : List LineForm) (exact : AnyCell) → Tell claims.now block → rule ≡ exact.rule
         → from ≡ kept exact.from → to ≡ kept exact.to
         → MatchOption result (IsRightCellLine lines.now block earlier exact score → ⊥)
@@ -180,7 +190,7 @@ fn right_cell(
     match cell_in_word(problem, rule, from, to) {
         None => None,
         Some(cell) => {
-            if is_right_cell(lines, claims, earlier, cell, score) {
+            if is_right_cell(lines, claims, solved, said_best, earlier, cell, score) {
                 Some(cell)
             } else {
                 None
@@ -190,8 +200,17 @@ fn right_cell(
 }
 
 /// The cell of a line that is right.
-fn right_line(lines: &Lines<'_>, claims: &Claims, earlier: Option<Cell>, form: Form) -> Option<Cell>
-    requires { IsKnownForm lines.now.grammar form }
+fn right_line(
+    lines: &Lines<'_>,
+    claims: &Claims,
+    solved: &Solved<'_>,
+    said_best: &Noted<'_>,
+    earlier: Option<Cell>,
+    form: Form,
+) -> Option<Cell>
+    requires solved { solved.now ≡ lines.now }
+    requires noted { AreSaidBest lines.now (claimed claims.now) said_best.now }
+    requires form { IsKnownForm lines.now.grammar form }
     ensures { (block : List LineForm) (exact : LineForm) → Tell claims.now block → form ≡ kept_form exact
         → is_word_line exact ≡ false
         → MatchOption result ((number : ℕ) → IsRightInBlock lines.now block number earlier exact → ⊥)
@@ -204,7 +223,9 @@ fn right_line(lines: &Lines<'_>, claims: &Claims, earlier: Option<Cell>, form: F
             from,
             to,
             score,
-        } => right_cell(lines, claims, earlier, rule, from, to, score),
+        } => right_cell(
+            lines, claims, solved, said_best, earlier, rule, from, to, score,
+        ),
         Form::Word { .. } => None,
         Form::Cert => None,
         Form::Formless => None,
@@ -230,12 +251,17 @@ fn note_line(claims: &mut Claims, form: Form) -> Result<(), AllocError>
 }
 
 /// What is kept of the lines of a text before the next head of a block.
-fn read_block<'t>(alloc: Global, grammar: &Grammar, text: &'t [u8]) -> Result<Block<'t>, AllocError>
+fn read_block<'t>(
+    alloc: Global,
+    layout: &Layout<'_>,
+    grammar: &Grammar,
+    text: &'t [u8],
+) -> Result<Block<'t>, AllocError>
     requires well_formed { IsTrue (is_well_formed grammar.now) }
     requires few { length text.now ≤ 2 ^ 31 }
     ensures { IfOk result (IsBlock grammar.now text.now) }
 {
-    let mut claims = Claims::new(alloc);
+    let mut claims = Claims::new(alloc, layout)?;
     let mut rest = text;
     let mut count: u32 = 0;
     'lines: while let Some((form, behind)) = next_line(grammar, rest) {
@@ -251,7 +277,16 @@ fn read_block<'t>(alloc: Global, grammar: &Grammar, text: &'t [u8]) -> Result<Bl
 }
 
 /// The number of lines before the first wrong one, of those before the next head of a block.
-fn first_wrong(lines: &Lines<'_>, claims: &Claims, grammar: &Grammar, text: &[u8]) -> Option<u32>
+fn first_wrong(
+    lines: &Lines<'_>,
+    claims: &Claims,
+    solved: &Solved<'_>,
+    said_best: &Noted<'_>,
+    grammar: &Grammar,
+    text: &[u8],
+) -> Option<u32>
+    requires solved { solved.now ≡ lines.now }
+    requires noted { AreSaidBest lines.now (claimed claims.now) said_best.now }
     requires same { grammar.now ≡ lines.now.grammar }
     requires well_formed { IsTrue (is_well_formed grammar.now) }
     requires few { length text.now ≤ 2 ^ 31 }
@@ -263,7 +298,7 @@ fn first_wrong(lines: &Lines<'_>, claims: &Claims, grammar: &Grammar, text: &[u8
     let mut count: u32 = 0;
     let mut earlier = None;
     'lines: while let Some((form, behind)) = next_line(grammar, rest) {
-        match right_line(lines, claims, earlier, form) {
+        match right_line(lines, claims, solved, said_best, earlier, form) {
             Some(cell) => earlier = Some(cell),
             None => return Some(count),
         }
@@ -303,9 +338,11 @@ fn is_right_head(number: u32, count: u32, told: u64, cells: u64) -> bool
 pub(crate) fn judge_block<'p, 't>(
     alloc: Global,
     problem: &'p Problem<'p>,
+    solved: &Solved<'p>,
     number: u32,
     text: &'t [u8],
 ) -> Result<Outcome<'t>, AllocError>
+    requires solved { solved.now ≡ problem.now }
     requires few { length text.now ≤ 2 ^ 31 }
     requires begins { IsAtHead problem.now.grammar text.now }
     ensures outcome { IfOk result (IsOutcome problem.now number text.now) }
@@ -322,7 +359,8 @@ pub(crate) fn judge_block<'p, 't>(
     else {
         return Ok(Outcome::FirstFalse(0));
     };
-    let block = read_block(alloc, problem.grammar, rest)?;
+    let layout = Layout::new(alloc, problem)?;
+    let block = read_block(alloc, &layout, problem.grammar, rest)?;
     if !is_right_head(number, block.count, told, cells) {
         return Ok(Outcome::FirstFalse(0));
     }
@@ -330,7 +368,15 @@ pub(crate) fn judge_block<'p, 't>(
         return Ok(Outcome::FirstFalse(0));
     };
     let lines = Lines::new(alloc, problem)?;
-    match first_wrong(&lines, &block.claims, problem.grammar, rest) {
+    let said_best = noted_said_best(alloc, &layout, solved, &block.claims)?;
+    match first_wrong(
+        &lines,
+        &block.claims,
+        solved,
+        &said_best,
+        problem.grammar,
+        rest,
+    ) {
         Some(place) => Ok(Outcome::FirstFalse(place + 1)),
         None => Ok(Outcome::Right {
             value,

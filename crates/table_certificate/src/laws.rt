@@ -1,20 +1,22 @@
 //! What follows from the definitions. Each law is the contract of a function with an empty body.
 
-ghost use Rattle.std.specs.Prelude.{◌≡◌, ℕ, ◌^◌, ◌<◌, ℤ, Option, IfSome, List, ◌∷◌, ◌++◌, All, Contains, codes, length};
+ghost use Rattle.std.specs.Prelude.{◌≡◌, ◌↔◌, ℕ, ◌^◌, ◌<◌, ℤ, Option, IfSome, List, ◌∷◌, ◌++◌, All, Contains, codes, length};
 ghost use Rattle.std.specs.Str.Lines.{lines};
 ghost use Rattle.adp_model.specs.declared.cell.Cell.{Cell};
 ghost use Rattle.adp_model.specs.declared.grammar.Grammar.{Grammar};
 ghost use Rattle.adp_model.specs.PosedProblem.{PosedProblem};
 ghost use Rattle.adp_model.specs.ProblemFields.{IsAdmissible};
 ghost use Rattle.adp_model.specs.Cells.{CellPrecedes};
-ghost use Rattle.adp_model.specs.Demand.{AreDemanded};
+ghost use Rattle.adp_model.specs.Demand.{AreDemanded, IsDemanded};
 ghost use Rattle.adp_model.specs.Report.{line};
 ghost use Rattle.table_certificate.specs.CertificateLines.{LineForm, CertLine, forms_of};
 ghost use Rattle.table_certificate.specs.JobSplit.{IsSplitAtJob};
-ghost use Rattle.table_certificate.specs.LocalCertificate.{IsFirstFalse, IsLocallyRight, IsRightCellLine, IsRightWordLine, AreTold, blocks_of};
+ghost use Rattle.table_certificate.specs.LocalCertificate.{IsFirstFalse, IsLocallyRight, IsRightCellLine, IsRightWordLine, AreTold, blocks_of, said_of};
+ghost use Rattle.table_certificate.specs.KnownScores.{AreChildrenSaidBest};
 ghost use Rattle.table_certificate.specs.BestScores.{IsBestScore, AreBestScores};
 ghost use Rattle.table_certificate.specs.WrittenCertificate.{cell_forms, AreBest, AreBlockForms, IsCertifiedJob, IsWritten};
-ghost use Rattle.table_certificate.specs.Verified.{AreAccepted, posed_problems};
+ghost use Rattle.table_certificate.specs.Posed.{posed_words};
+ghost use Rattle.table_certificate.specs.Verified.{AreAccepted};
 
 use adp_model::laws::bellman::bellman;
 use adp_model::laws::bounds::words_keep_their_score_bound;
@@ -70,13 +72,31 @@ pub fn written_lines_are_right()
     alternatives_fit();
 }
 
+/// The line of a demanded cell, behind that of a cell that comes before it, is right exactly where it says the cell's best
+/// score, if each child that the cell demands is said to have its best score.
+pub fn settled_lines_say_best_scores()
+    ensures { (p : PosedProblem) → IsAdmissible p → (lines : List LineForm) (cell : Cell) (best score : Option ℤ)
+        (earlier : Option Cell) → IsDemanded p cell → IsBestScore p cell best
+        → AreChildrenSaidBest p (said_of lines) cell → IfSome earlier (λ before. CellPrecedes before cell)
+        → (score ≡ best) ↔ IsRightCellLine p lines earlier cell score }
+{
+    bellman();
+    answer_is_unique();
+    preferred_tree_has_the_best_score();
+    demanded_cells_are_counted();
+    derived_trees_span_their_cell();
+    words_keep_their_score_bound();
+    arguments_are_few_and_known();
+    alternatives_fit();
+}
+
 /// What is written as a certificate of words under one algebra is locally right: its bytes have the forms of the blocks of
 /// these words. It has more bytes than there are words.
 pub fn written_certificates_are_right()
     ensures right { (grammar : Grammar) (algebra : ℕ) (words : List (List ℕ)) (text : List ℕ)
-        → All IsAdmissible (posed_problems grammar algebra words) → length words < 2 ^ 64
-        → IsWritten (posed_problems grammar algebra words) text
-        → IsLocallyRight (posed_problems grammar algebra words) (forms_of grammar text) }
+        → All IsAdmissible (posed_words grammar algebra words) → length words < 2 ^ 64
+        → IsWritten (posed_words grammar algebra words) text
+        → IsLocallyRight (posed_words grammar algebra words) (forms_of grammar text) }
     ensures long { (problems : List PosedProblem) (text : List ℕ) → IsWritten problems text
         → length problems < length text }
 {
@@ -108,8 +128,8 @@ pub fn right_certificates_are_not_rejected()
 /// A job that is written behind the certificate of its words is accepted.
 pub fn certified_jobs_are_accepted()
     ensures { (grammar : Grammar) (algebra : ℕ) (words : List (List ℕ)) (job bytes : List ℕ)
-        → All IsAdmissible (posed_problems grammar algebra words) → length words < 2 ^ 64
-        → IsCertifiedJob (posed_problems grammar algebra words) job bytes
+        → All IsAdmissible (posed_words grammar algebra words) → length words < 2 ^ 64
+        → IsCertifiedJob (posed_words grammar algebra words) job bytes
         → AreAccepted grammar algebra words job bytes }
 {
     written_certificates_are_right();

@@ -6,6 +6,7 @@ mod claims;
 mod demanded;
 mod forms;
 mod job_split;
+mod known_scores;
 pub mod laws;
 mod magnitudes;
 mod numbers;

@@ -52,9 +52,11 @@ fn word_score(problem: &Problem<'_>, solved: &Solved<'_>) -> Option<i64>
 fn written_outcome<'p, 't>(
     alloc: Global,
     problem: &'p Problem<'p>,
+    solved: &Solved<'p>,
     number: u32,
     text: &'t [u8],
 ) -> Result<Option<Outcome<'t>>, AllocError>
+    requires { solved.now ≡ problem.now }
     ensures outcome { IfOk result (λ found. IfSome found (IsOutcome problem.now number text.now)) }
     ensures within { IfOk result (λ found. IfSome found (IsWithin text.now)) }
 {
@@ -65,20 +67,39 @@ fn written_outcome<'p, 't>(
     demanded_cells_are_within_the_cell_bound();
     words_keep_their_score_bound();
     parts_have_names();
-    let solved = solve(alloc, problem)?;
-    let block = certificate(alloc, number, problem, &solved)?;
+    let block = certificate(alloc, number, problem, solved)?;
     let Some(behind) = behind_block(problem.grammar, &block, text) else {
         return Ok(None);
     };
     Ok(Some(Outcome::Right {
-        value: word_score(problem, &solved),
+        value: word_score(problem, solved),
         lines: solved.cells() as u32 + 1,
         behind,
     }))
 }
 
-/// What comes of the block of this number, with which a text begins. One that is what is written of its word is right;
-/// the lines of any other are judged one by one.
+/// What comes of the block of this number, with which a text begins, where its word is solved. One that is what is
+/// written of its word is right; the lines of any other are judged one by one.
+fn solved_block<'p, 't>(
+    alloc: Global,
+    problem: &'p Problem<'p>,
+    solved: &Solved<'p>,
+    number: u32,
+    text: &'t [u8],
+) -> Result<Outcome<'t>, AllocError>
+    requires same_problem { solved.now ≡ problem.now }
+    requires few { length text.now ≤ 2 ^ 31 }
+    requires begins { IsAtHead problem.now.grammar text.now }
+    ensures outcome { IfOk result (IsOutcome problem.now number text.now) }
+    ensures within { IfOk result (IsWithin text.now) }
+{
+    match written_outcome(alloc, problem, solved, number, text)? {
+        Some(outcome) => Ok(outcome),
+        None => judge_block(alloc, problem, solved, number, text),
+    }
+}
+
+/// What comes of the block of this number, with which a text begins.
 pub(crate) fn verify_block<'p, 't>(
     alloc: Global,
     problem: &'p Problem<'p>,
@@ -90,8 +111,6 @@ pub(crate) fn verify_block<'p, 't>(
     ensures outcome { IfOk result (IsOutcome problem.now number text.now) }
     ensures within { IfOk result (IsWithin text.now) }
 {
-    match written_outcome(alloc, problem, number, text)? {
-        Some(outcome) => Ok(outcome),
-        None => judge_block(alloc, problem, number, text),
-    }
+    let solved = solve(alloc, problem)?;
+    solved_block(alloc, problem, &solved, number, text)
 }

@@ -17,7 +17,6 @@ use Rattle.nested_jobs.specs.NestedJob.{IsNestedText, hidden_in}
 use Rattle.table_certificate.specs.CertificateLines.{forms_of}
 use Rattle.table_certificate.specs.JobSplit.{IsSplitAtJob}
 use Rattle.table_certificate.specs.LocalCertificate.{IsLocallyRight}
-use Rattle.table_certificate.specs.Verified.{posed_problems}
 use Rattle.table_certificate.specs.WrittenCertificate.{AreCertificates, IsCertifiedJob, IsWritten}
 use Rattle.verdicts.specs.declared.command.Mode.{Mode}
 use Rattle.verdicts.specs.declared.command.Mode.TheVariants.{Lex, Cert, Verify, KBest, Big}
@@ -34,9 +33,9 @@ use Rattle.verdicts.proofs.OneVerdict.{command_unique, no_second, no_trees, some
 -- what is known of certificates and reports
 pub record AcceptLaws : Type 0 where
   pub right : (grammar : Grammar) (algebra : ℕ) (words : List (List ℕ)) (text : List ℕ)
-      → All IsAdmissible (posed_problems grammar algebra words) → length words < 2 ^ 64
-      → IsWritten (posed_problems grammar algebra words) text
-      → IsLocallyRight (posed_problems grammar algebra words) (forms_of grammar text)
+      → All IsAdmissible (posed_words grammar algebra words) → length words < 2 ^ 64
+      → IsWritten (posed_words grammar algebra words) text
+      → IsLocallyRight (posed_words grammar algebra words) (forms_of grammar text)
   pub long : (problems : List PosedProblem) (text : List ℕ) → IsWritten problems text → length problems < length text
   pub split : (problems : List PosedProblem) (grammar : Grammar) (text job : List ℕ)
       → IsLocallyRight problems (forms_of grammar text) → IsSplitAtJob (text ++ line (codes "job") ++ job) text job

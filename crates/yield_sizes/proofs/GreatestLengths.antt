@@ -13,7 +13,7 @@ use Rattle.adp_model.specs.declared.grammar.Alt.{Alt}
 use Rattle.adp_model.specs.declared.grammar.Grammar.{Grammar}
 use Rattle.adp_model.specs.Parts.{alternatives_of, alternative_at, arguments_of}
 use Rattle.adp_model.specs.Lengths.{high_of}
-use Rattle.adp_model.specs.Sizes.{greatest_kept, greatest_bounded, sum_of, greater_of, cut_to, greatest_of, greatest_sum, greatest_among, bounded, IsUpTo, AreStableSizes, AreGreatestSizes}
+use Rattle.adp_model.specs.Sizes.{greatest_kept, sum_of, greater_of, cut_to, greatest_of, greatest_sum, greatest_among, bounded, IsUpTo, AreStableSizes, AreGreatestSizes}
 use Rattle.yield_sizes.specs.declared.places.Place.{Place}
 use Rattle.yield_sizes.specs.KnownGreatest.{argument_greatest, arguments_greatest, alternative_greatest, is_below, IsSettled, AreRising, rise_left, work_left}
 use Rattle.yield_sizes.specs.Places.{ArePlaces, AreAllPlaces, is_named_at, places_naming}

@@ -1,17 +1,17 @@
 -- Sums of sizes that are cut where they are large, against bounds; and sizes of rules that are the same in all lists.
-use Rattle.std.proofs.Common.{◌≡◌, ◌↔◌, ℕ, ◌+◌, ◌<◌, ◌≤◌, min, ◌⊎◌, inl, inr, Bool, true, false, Option, Some, None, IfSome, List, [], ◌∷◌, length, get_or, fold, refl, sym, ap, ap₂, subst, ◌∙◌, arith}
+use Rattle.std.proofs.Common.{◌≡◌, ◌↔◌, ℕ, ◌+◌, ◌≤◌, min, inl, inr, Option, Some, None, IfSome, List, [], ◌∷◌, length, get_or, fold, refl, sym, ap, ap₂, subst, ◌∙◌, arith}
 use Rattle.std.specs.List.{All}
 use Rattle.std.proofs.lemmas.Bool.{cases_lt}
 use Rattle.std.proofs.lemmas.List.{get_or_past}
 use Rattle.std.proofs.lemmas.List.Elements.{All-get_or, All-from_get_or}
 use Rattle.adp_model.specs.declared.grammar.Arg.{Arg}
-use Rattle.adp_model.specs.declared.grammar.Arg.TheVariants.{Rule, Literal, Letter, Run}
+use Rattle.adp_model.specs.declared.grammar.Arg.TheVariants.{Rule}
 use Rattle.adp_model.specs.declared.grammar.Alt.{Alt}
 use Rattle.adp_model.specs.declared.grammar.Grammar.{Grammar}
 use Rattle.adp_model.specs.GrammarFaults.{HasImpossibleAlternative, HasPossibleAlternatives}
 use Rattle.adp_model.specs.Lengths.{low_of, high_of}
 use Rattle.adp_model.specs.Parts.{alternatives_of, alternative_at}
-use Rattle.adp_model.specs.Sizes.{greatest_kept, least_of, greatest_of, least_sum, greatest_sum, sum_of, IsLeastSize, AreGreatestSizes, AreSizesOf, IsPossible}
+use Rattle.adp_model.specs.Sizes.{least_of, greatest_of, least_sum, greatest_sum, sum_of, AreSizesOf, IsPossible}
 use Rattle.yield_sizes.specs.Possible.{greatest_sum_kept, kept, kept_least_sum, kept_greatest_sum}
 use Rattle.yield_sizes.proofs.GreatestLengths.{sum_regroups, up_to_each_other, zero_sum}
 

@@ -1,6 +1,8 @@
-ghost use Rattle.std.specs.Prelude.{◌≡◌, ℕ, ◌<◌, ◌⊎◌, IfOk, IsTrue, MatchOption, [], false, true, length, slice_index_or};
+ghost use Rattle.std.specs.Prelude.{◌≡◌, ℕ, ◌<◌, ◌⊎◌, IfOk, IsTrue, List, MatchOption, [], ◌∷◌, false, true, length, slice_index_or};
 ghost use Rattle.std.specs.List.{All};
+ghost use Rattle.adp_model.specs.Parts.{alternatives_of};
 ghost use Rattle.adp_model.specs.Sizes.{AreGreatestSizes, bounded, cut_to, sum_of};
+ghost use Rattle.yield_sizes.specs.declared.places.Place.{Place as AnyPlace};
 ghost use Rattle.yield_sizes.specs.KnownGreatest.{AreRising, alternative_greatest, argument_greatest, arguments_greatest, is_below, rise_left, work_left};
 ghost use Rattle.yield_sizes.specs.Places.{AreNamingRows, ArePlaces};
 
@@ -78,6 +80,24 @@ fn is_below(length: Option<u32>, other: Option<u32>) -> bool
     }
 }
 
+/// Raises the greatest length of the rule at this place until the alternative there tells no greater one, and marks the
+/// rule if its length rose. An alternative that names its own rule is done with at once, before others look at it.
+fn raise_at(grammar: &Grammar, place: Place, known: &mut [Option<u32>], risen: &mut [bool])
+    requires place { place.alternative < length (alternatives_of grammar.now place.rule) }
+    requires rising { (waiting : List AnyPlace) × AreRising grammar.now (place ∷ waiting) known.old risen.old }
+    ensures rising { (waiting : List AnyPlace) → AreRising grammar.now (place ∷ waiting) known.old risen.old
+        → AreRising grammar.now waiting known.new risen.new }
+    ensures change { ((known.new ≡ known.old) × (risen.new ≡ risen.old)) ⊎ (rise_left known.new < rise_left known.old) }
+{
+    let alternative = alternative_at(grammar, place);
+    let mut greatest = alternative_greatest(known, alternative);
+    while is_below(known[place.rule], greatest) {
+        known[place.rule] = greatest;
+        risen[place.rule] = true;
+        greatest = alternative_greatest(known, alternative);
+    }
+}
+
 /// Raises the greatest lengths of the rules at these places to what the alternatives there tell, and marks the rules
 /// whose lengths rose.
 fn raise(grammar: &Grammar, places: &[Place], known: &mut [Option<u32>], risen: &mut [bool])
@@ -87,11 +107,7 @@ fn raise(grammar: &Grammar, places: &[Place], known: &mut [Option<u32>], risen: 
     ensures change { ((known.new ≡ known.old) × (risen.new ≡ risen.old)) ⊎ (rise_left known.new < rise_left known.old) }
 {
     for place in places {
-        let greatest = alternative_greatest(known, alternative_at(grammar, *place));
-        if is_below(known[place.rule], greatest) {
-            known[place.rule] = greatest;
-            risen[place.rule] = true;
-        }
+        raise_at(grammar, *place, known, risen);
     }
 }
 
@@ -127,7 +143,7 @@ fn raise_again(
 }
 
 /// The greatest length of each rule, at most 4,000, or `None` where it is unbounded. From 0 up: where a length rises, the
-/// alternatives that name its rule are looked at again, so at most 4,001 times for each argument.
+/// alternatives that name its rule are looked at again, at most 4,001 times for each argument and each rule.
 pub fn greatest_lengths(alloc: Global, grammar: &Grammar) -> Result<Vec<Option<u32>>, AllocError>
     ensures { IfOk result (λ known. AreGreatestSizes grammar.now known.items) }
 {

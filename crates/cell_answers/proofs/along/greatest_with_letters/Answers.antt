@@ -1,5 +1,3 @@
-use Rattle.std.proofs.Common.{FitsSigned, w64, arith, rules}
-use Rattle.std.proofs.lemmas.Int.{to_z-of_z}
 use Rattle.score_numbers.specs.Entries.{no_candidate}
 use Rattle.score_numbers.specs.Packing.{short, medium, long}
 use Rattle.cell_answers.proofs.FirstEnds.{AreSound}

@@ -82,32 +82,32 @@ loop-end-preserved-in_default-argument_value c =
     (none_valued c.args.behind.now.lines.now c.args.behind.now.scores.now (sound begun) c.in-Some-Some.argument.now c.in-Some-Some.others.now c.in-Some-Some.factor.now c.in-Some-Some.more.now c.args.from c.args.to c.args.total (laid begun) (greatest begun) end (before begun end c.loop-end.invariant)
     (fits at end c.loop-end.auto.end c.loop-end-test.true) (λ entry. c.in_default-argument_value.ensures entry))
 
-pub loop-end-preserved-in_default-greatest_total : goal.loop-end-preserved-in_default-greatest_total
-loop-end-preserved-in_default-greatest_total c =
-    let at = (goal.at.loop-end-preserved-in_default-greatest_total c).After-ends_of_first-positions in
-    let begun = (goal.at.loop-end-preserved-in_default-greatest_total c).After-answer_is_unique in
+pub loop-end-preserved-in_default-plain_total : goal.loop-end-preserved-in_default-plain_total
+loop-end-preserved-in_default-plain_total c =
+    let at = (goal.at.loop-end-preserved-in_default-plain_total c).After-ends_of_first-positions in
+    let begun = (goal.at.loop-end-preserved-in_default-plain_total c).After-answer_is_unique in
     let end = c.loop-end.end in
     after begun (end + 1)
     (none_totalled c.args.behind.now.lines.now c.args.behind.now.scores.now (sound begun) c.in-Some-Some.argument.now c.in-Some-Some.others.now c.in-Some-Some.factor.now c.in-Some-Some.more.now c.args.from c.args.to c.args.total (laid begun) (greatest begun) end (before begun end c.loop-end.invariant)
-    (fits at end c.loop-end.auto.end c.loop-end-test.true) c.in_default-greatest_total.ensures)
+    (fits at end c.loop-end.auto.end c.loop-end-test.true) c.in_default-plain_total.ensures)
 
 -- the arguments behind an end
 rest : (c : After-answer_is_unique) (range : Range ℕ) → ArePositions c.args.behind.now.lines.now c.in-Some-Some.argument.now c.in-Some-Some.others.now c.args.from c.args.to range → (end : ℕ) → range.start ≤ end → end < range.end → AreLaid c.args.behind.now.lines.now c.args.behind.now.scores.now c.in-Some-Some.others.now c.in-Some-Some.more.now end c.args.to
 rest c range are end l m = rest_laid c.args.behind.now.lines.now c.args.behind.now.scores.now c.in-Some-Some.argument.now c.in-Some-Some.others.now c.in-Some-Some.factor.now c.in-Some-Some.more.now c.args.from c.args.to (laid c) end (are.fit end l m) (omega (arith, are.up_to_last, m))
 
-pub greatest_total-requires-clause-weighted : goal.greatest_total-requires-clause-weighted
-greatest_total-requires-clause-weighted c =
-    let it = goal.at.greatest_total-requires-clause-weighted c in
+pub plain_total-requires-clause-weighted : goal.plain_total-requires-clause-weighted
+plain_total-requires-clause-weighted c =
+    let it = goal.at.plain_total-requires-clause-weighted c in
     (rest it.After-answer_is_unique c.ends_of_first-positions.result (positions it.After-ends_of_first-positions) c.loop-end.end c.loop-end.auto.end c.loop-end-test.true).weighted
 
-pub greatest_total-requires-clause-scored : goal.greatest_total-requires-clause-scored
-greatest_total-requires-clause-scored c =
-    let it = goal.at.greatest_total-requires-clause-scored c in
+pub plain_total-requires-clause-scored : goal.plain_total-requires-clause-scored
+plain_total-requires-clause-scored c =
+    let it = goal.at.plain_total-requires-clause-scored c in
     (rest it.After-answer_is_unique c.ends_of_first-positions.result (positions it.After-ends_of_first-positions) c.loop-end.end c.loop-end.auto.end c.loop-end-test.true).scored
 
-pub greatest_total-requires-clause-low : goal.greatest_total-requires-clause-low
-greatest_total-requires-clause-low c =
-    let it = goal.at.greatest_total-requires-clause-low c in
+pub plain_total-requires-clause-low : goal.plain_total-requires-clause-low
+plain_total-requires-clause-low c =
+    let it = goal.at.plain_total-requires-clause-low c in
     (rest it.After-answer_is_unique c.ends_of_first-positions.result (positions it.After-ends_of_first-positions) c.loop-end.end c.loop-end.auto.end c.loop-end-test.true).low
 
 -- the product of the first argument and the total from an end on fit
@@ -123,8 +123,8 @@ overflow_mul-factor c =
     let end_fits = fits at end c.loop-end.auto.end c.loop-end-test.true in
     let factor = c.in-Some-Some.factor.now in
     let value = c.in-Some.value in
-    let rest = c.in-Some-greatest_total.rest in
-    let it = fitting begun end end_fits value (λ entry. c.in-Some.ensures entry) rest c.in-Some-greatest_total.ensures.0 in
+    let rest = c.in-Some-plain_total.rest in
+    let it = fitting begun end end_fits value (λ entry. c.in-Some.ensures entry) rest c.in-Some-plain_total.ensures.0 in
     let fits_factor : FitsSigned w64 factor = search rules in
     let fits_value : FitsSigned w64 value = search rules in
     simp to_z-of_z it.0
@@ -137,8 +137,8 @@ overflow_add-factor c =
     let end_fits = fits at end c.loop-end.auto.end c.loop-end-test.true in
     let factor = c.in-Some-Some.factor.now in
     let value = c.in-Some.value in
-    let rest = c.in-Some-greatest_total.rest in
-    let it = fitting begun end end_fits value (λ entry. c.in-Some.ensures entry) rest c.in-Some-greatest_total.ensures.0 in
+    let rest = c.in-Some-plain_total.rest in
+    let it = fitting begun end end_fits value (λ entry. c.in-Some.ensures entry) rest c.in-Some-plain_total.ensures.0 in
     let fits_factor : FitsSigned w64 factor = search rules in
     let fits_value : FitsSigned w64 value = search rules in
     let fits_product : FitsSigned w64 (factor *ℤ value) = it.0 in
@@ -153,8 +153,8 @@ returns-then-factor-value c =
     let end_fits = fits at end c.loop-end.auto.end c.loop-end-test.true in
     let factor = c.in-Some-Some.factor.now in
     let value = c.in-Some.value in
-    let rest = c.in-Some-greatest_total.rest in
-    let it = fitting begun end end_fits value (λ entry. c.in-Some.ensures entry) rest c.in-Some-greatest_total.ensures.0 in
+    let rest = c.in-Some-plain_total.rest in
+    let it = fitting begun end end_fits value (λ entry. c.in-Some.ensures entry) rest c.in-Some-plain_total.ensures.0 in
     let fits_factor : FitsSigned w64 factor = search rules in
     let fits_value : FitsSigned w64 value = search rules in
     let fits_product : FitsSigned w64 (factor *ℤ value) = it.0 in
@@ -165,7 +165,7 @@ returns-then-factor-value c =
     let fits_total : FitsSigned w64 c.args.total = search rules in
     let told : of_z w64 ((factor *ℤ value) +ℤ rest) ≡ of_z w64 c.args.total = simp to_z-of_z at c.if-factor-value.true in
     let same = same_bits ((factor *ℤ value) +ℤ rest) c.args.total fits_sum fits_total told in
-    let found = found_here p c.args.behind.now.scores.now (sound begun) c.in-Some-Some.argument.now c.in-Some-Some.others.now factor more c.args.from c.args.to c.args.total (laid begun) (greatest begun) end (before begun end c.loop-end.invariant) end_fits value rest (λ entry. c.in-Some.ensures entry) c.in-Some-greatest_total.ensures same in
+    let found = found_here p c.args.behind.now.scores.now (sound begun) c.in-Some-Some.argument.now c.in-Some-Some.others.now factor more c.args.from c.args.to c.args.total (laid begun) (greatest begun) end (before begun end c.loop-end.invariant) end_fits value rest (λ entry. c.in-Some.ensures entry) c.in-Some-plain_total.ensures same in
     let A : List Arg → Type 0 = λ arguments. IsFirstEnd p arguments (factor ∷ more) c.args.from c.args.to c.args.total end in
     let F : List ℤ → Type 0 = λ factors. IsFirstEnd p c.args.arguments.now factors c.args.from c.args.to c.args.total end in
     subst F (sym c.in-Some-Some.ensures'.cases.0) (subst A (sym c.in-Some-Some.ensures.cases.0) found)
@@ -178,8 +178,8 @@ loop-end-preserved c =
     let end_fits = fits at end c.loop-end.auto.end c.loop-end-test.true in
     let factor = c.in-Some-Some.factor.now in
     let value = c.in-Some.value in
-    let rest = c.in-Some-greatest_total.rest in
-    let it = fitting begun end end_fits value (λ entry. c.in-Some.ensures entry) rest c.in-Some-greatest_total.ensures.0 in
+    let rest = c.in-Some-plain_total.rest in
+    let it = fitting begun end end_fits value (λ entry. c.in-Some.ensures entry) rest c.in-Some-plain_total.ensures.0 in
     let fits_factor : FitsSigned w64 factor = search rules in
     let fits_value : FitsSigned w64 value = search rules in
     let fits_product : FitsSigned w64 (factor *ℤ value) = it.0 in
@@ -188,7 +188,7 @@ loop-end-preserved c =
     let told : of_z w64 ((factor *ℤ value) +ℤ rest) ≡ of_z w64 c.args.total → ⊥ = simp to_z-of_z at c.if-factor-value.false in
     let differs : ((factor *ℤ value) +ℤ rest) ≡ c.args.total → ⊥ = λ e. told (ap (of_z w64) e) in
     after begun (end + 1)
-    (none_so_great c.args.behind.now.lines.now c.args.behind.now.scores.now (sound begun) c.in-Some-Some.argument.now c.in-Some-Some.others.now factor c.in-Some-Some.more.now c.args.from c.args.to c.args.total (laid begun) (greatest begun) end (before begun end c.loop-end.invariant) end_fits value rest (λ entry. c.in-Some.ensures entry) c.in-Some-greatest_total.ensures differs)
+    (none_so_great c.args.behind.now.lines.now c.args.behind.now.scores.now (sound begun) c.in-Some-Some.argument.now c.in-Some-Some.others.now factor c.in-Some-Some.more.now c.args.from c.args.to c.args.total (laid begun) (greatest begun) end (before begun end c.loop-end.invariant) end_fits value rest (λ entry. c.in-Some.ensures entry) c.in-Some-plain_total.ensures differs)
 
 pub unreachable-requires-2 : goal.unreachable-requires-2
 unreachable-requires-2 c =

@@ -4,8 +4,8 @@ use Rattle.adp_model.specs.ProblemFields.{IsAdmissible}
 use Rattle.cell_answers.proofs.FrontScores.{no_score_closed}
 use Rattle.cell_answers.proofs.filling.alternative_score.Goals as goal
 
-pub returns-in-None : goal.returns-in-None
-returns-in-None c =
+pub returns-in-None-clause-greatest : goal.returns-in-None-clause-greatest
+returns-in-None-clause-greatest c =
     let p = c.args.lines.now in
     let admissible : IsAdmissible p = subst (λ (q : PosedProblem). IsAdmissible q) c.problem.ensures c.admissible.ensures in
     let some = c.alternatives_fit.ensures.arguments p.grammar admissible.checked.well_formed c.args.cell.rule c.args.alt c.requires.in_range in

@@ -14,10 +14,10 @@ score_by_term-requires-clause-term c =
 pub score_by_term-requires-clause-allowed : goal.score_by_term-requires-clause-allowed
 score_by_term-requires-clause-allowed c = c.requires.opening.allowed c.args.alt c.requires.alternative
 
-pub returns-in-Sum : goal.returns-in-Sum
-returns-in-Sum c =
-    greatest_allowed c.args.lines.now c.args.cell c.args.alt c.score_by_sum.result (c.requires.opening.allowed c.args.alt c.requires.alternative) c.score_by_sum.ensures
+pub returns-in-Sum-clause-greatest : goal.returns-in-Sum-clause-greatest
+returns-in-Sum-clause-greatest c =
+    greatest_allowed c.args.lines.now c.args.cell c.args.alt c.score_by_sum.result (c.requires.opening.allowed c.args.alt c.requires.alternative) c.score_by_sum.ensures.greatest
 
-pub returns-in-Term : goal.returns-in-Term
-returns-in-Term c =
+pub returns-in-Term-clause-greatest : goal.returns-in-Term-clause-greatest
+returns-in-Term-clause-greatest c =
     greatest_allowed c.args.lines.now c.args.cell c.args.alt c.score_by_term.result (c.requires.opening.allowed c.args.alt c.requires.alternative) c.score_by_term.ensures

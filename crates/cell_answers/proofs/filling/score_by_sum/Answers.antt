@@ -9,6 +9,8 @@ use Rattle.adp_model.specs.declared.cell.Cell.{Cell}
 use Rattle.split_lines.specs.declared.kept.KeptAlternative.{KeptAlternative}
 use Rattle.split_lines.specs.declared.kept.WeightedSum.{WeightedSum}
 use Rattle.split_lines.specs.Kept.{IsAlternative, IsSummed, factors_behind}
+use Rattle.cell_answers.specs.Tails.{IsTail}
+use Rattle.cell_answers.proofs.TailFactors.{whole_tail}
 use Rattle.cell_answers.specs.Totals.{HasLaidScore, HasTotal, AreLow, AreWeighted}
 use Rattle.score_numbers.specs.Greatest.{IsGreatestOf}
 use Rattle.cell_answers.proofs.Alternatives.{TokensKeepBound, alternative_laid}
@@ -164,12 +166,12 @@ rest_is c =
           w.in-Last.ensures c.other_factors-factors.ensures (to_z-of_z w64 factor (search rules)) w.last_total-rest.ensures w.rest-is
       | in-Several w ↦
           by_several p c.args.cell c.args.alt kept is c.args.sum.now c.requires.sum c.args.from c.args.cell.to c.match-way.rest c.other_factors-factors.result.now
-          w.total_of_several-rest.result c.other_factors-factors.ensures w.total_of_several-rest.ensures w.rest-is
+          w.total_of_several-rest.result c.other_factors-factors.ensures w.total_of_several-rest.ensures.greatest w.rest-is
     ]
 
-pub returns-in_default : goal.returns-in_default
-returns-in_default c =
-    let at = (goal.at.returns-in_default c).After-arguments_are_few_and_known in
+pub returns-in_default-clause-greatest : goal.returns-in_default-clause-greatest
+returns-in_default-clause-greatest c =
+    let at = (goal.at.returns-in_default-clause-greatest c).After-arguments_are_few_and_known in
     let p = c.args.lines.now in
     let kept = c.args.alternative.now in
     let cell = c.args.cell in
@@ -182,7 +184,7 @@ returns-in_default c =
           w.in-Last.ensures c.other_factors-factors.ensures (to_z-of_z w64 factor (search rules)) w.last_total-rest.ensures w.rest-is
       | in-Several w ↦
           by_several p cell c.args.alt kept is c.args.sum.now c.requires.sum c.args.from cell.to c.match-way.rest c.other_factors-factors.result.now
-          w.total_of_several-rest.result c.other_factors-factors.ensures w.total_of_several-rest.ensures w.rest-is
+          w.total_of_several-rest.result c.other_factors-factors.ensures w.total_of_several-rest.ensures.greatest w.rest-is
     ] in
     no_score p cell c.args.alt kept is c.args.sum.now c.requires.sum
     (total_without_others p c.args.scores.now kept.front.now kept.others.now (in_front at) (behind at) cell.from c.args.from cell.to is.in_front.fixed c.requires.sum.front_each (laid at)
@@ -257,11 +259,11 @@ overflow_add-result-2 c =
     let fits_total : FitsSigned w64 (c.between_total-front.result +ℤ c.in-Some.rest) = fits_below (c.between_total-front.result +ℤ c.in-Some.rest) it.total_low in
     simp to_z-of_z (fits_below (c.args.sum.now.constant +ℤ (c.between_total-front.result +ℤ c.in-Some.rest)) it.score_low)
 
-pub returns : goal.returns
-returns c =
-    let at = (goal.at.returns c).After-arguments_are_few_and_known in
+pub returns-clause-greatest : goal.returns-clause-greatest
+returns-clause-greatest c =
+    let at = (goal.at.returns-clause-greatest c).After-arguments_are_few_and_known in
     let it = found at c.front_factors.result.now c.between_total-front.result c.in-Some.rest c.front_factors.ensures c.between_total-front.ensures
-    (subst (IsFoundBehind c.args.lines.now c.args.alternative.now c.args.sum.now c.args.from c.args.cell.to) c.in-Some.is (rest_is (goal.at.returns c).After-front_factors)) in
+    (subst (IsFoundBehind c.args.lines.now c.args.alternative.now c.args.sum.now c.args.from c.args.cell.to) c.in-Some.is (rest_is (goal.at.returns-clause-greatest c).After-front_factors)) in
     let fits_front : FitsSigned w64 c.between_total-front.result = search rules in
     let fits_rest : FitsSigned w64 c.in-Some.rest = search rules in
     let fits_constant : FitsSigned w64 c.args.sum.now.constant = search rules in
@@ -270,3 +272,28 @@ returns c =
     let score : IsGreatestOf (HasLaidScore c.args.lines.now c.args.cell c.args.alt) (Some (c.args.sum.now.constant +ℤ (c.between_total-front.result +ℤ c.in-Some.rest))) =
     score_is c.args.lines.now c.args.cell c.args.alt c.args.alternative.now c.requires.alternative c.args.sum.now c.requires.sum (c.between_total-front.result +ℤ c.in-Some.rest) it.greatest in
     simp to_z-of_z score
+
+-- what is noted is of the same problem
+tails_same : (c : After-front_factors) → c.match-way.tails ≡ c.args.tails.now
+tails_same c = elim c.match-way.branch [
+  | in-Front w ↦ w.tails-is
+  | in-Last w ↦ w.tails-is
+  | in-Several w ↦ w.tails-is ∙ w.total_of_several-rest.ensures.same
+]
+
+pub returns-clause-same : goal.returns-clause-same
+returns-clause-same c = tails_same (goal.at.returns-clause-same c).After-front_factors
+
+pub returns-in_default-clause-same : goal.returns-in_default-clause-same
+returns-in_default-clause-same c = elim c.match-way.branch [
+  | in-Front w ↦ w.tails-is
+  | in-Last w ↦ w.tails-is
+  | in-Several w ↦ w.tails-is ∙ w.total_of_several-rest.ensures.same
+]
+
+pub total_of_several-rest-requires-clause-owner : goal.total_of_several-rest-requires-clause-owner
+total_of_several-rest-requires-clause-owner c =
+    let p = c.args.lines.now in
+    let kept = c.args.alternative.now in
+    let F : List ℤ → Type 0 = IsTail p (record { rule = c.args.cell.rule; alt = c.args.alt; count = length kept.others.now }) kept.others.now in
+    subst F (sym c.other_factors-factors.ensures) (whole_tail p c.args.cell c.args.alt kept c.requires.alternative c.args.sum.now c.requires.sum)

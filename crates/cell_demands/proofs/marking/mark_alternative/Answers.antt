@@ -37,9 +37,9 @@ mark_others-requires-clause-counted c = λ child demands.
           (demanded_behind p kept.front.now kept.others.now cell.from cell.to c.requires.alternative.in_front.fixed c.in-Some.end (opened at).covers (opened at).only child demands),
     )
 
-pub returns-in-Some : goal.returns-in-Some
-returns-in-Some c =
-    let at = (goal.at.returns-in-Some c).In-Some in
+pub returns-in-Some-clause-marked : goal.returns-in-Some-clause-marked
+returns-in-Some-clause-marked c =
+    let at = (goal.at.returns-in-Some-clause-marked c).In-Some in
     let p = c.args.lines.now in
     let kept = c.args.alternative.now in
     let cell = c.args.cell in
@@ -49,10 +49,10 @@ returns-in-Some c =
     (λ child demands. (allowed, demands)) (λ child demands. demands.1)
     (subst M (sym c.requires.alternative.arguments)
     (marked_behind_front p kept.front.now kept.others.now cell.from cell.to c.requires.alternative.in_front.fixed c.in-Some.end (opened at).covers
-    (opened at).only cell.from c.args.marks.now c.mark_others.new.marks c.mark_others.ensures))
+    (opened at).only cell.from c.args.marks.now c.mark_others.new.marks c.mark_others.ensures.marked))
 
-pub returns-in_default : goal.returns-in_default
-returns-in_default c =
+pub returns-in_default-clause-marked : goal.returns-in_default-clause-marked
+returns-in_default-clause-marked c =
     let p = c.args.lines.now in
     let kept = c.args.alternative.now in
     let cell = c.args.cell in

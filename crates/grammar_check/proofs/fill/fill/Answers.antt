@@ -6,6 +6,10 @@ use Rattle.grammar_check.proofs.fill.fill.Goals as goal
 pub fill_length-requires-clause-fillable : goal.fill_length-requires-clause-fillable
 fill_length-requires-clause-fillable c = fillable_after c.requires.fillable c.loop-len.invariant.stay
 
+pub fill_length-requires-clause-below : goal.fill_length-requires-clause-below
+fill_length-requires-clause-below c = λ rule inside.
+    c.count_of-count.ensures rule (omega (arith, c.requires.fillable.ranks, c.loop-len.invariant.stay.each))
+
 pub loop-len-preserved : goal.loop-len-preserved
 loop-len-preserved c =
     let inv = c.loop-len.invariant in

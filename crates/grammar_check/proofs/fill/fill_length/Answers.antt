@@ -28,6 +28,6 @@ pub returns-clause-filled : goal.returns-clause-filled
 returns-clause-filled c = λ bound planned lesser filled.
     length_done bound c.args.ranks.now c.loop-rank.table c.loop-rank.plans.items c.args.len c.loop-rank.rank
     (λ rule inside.
-    let known = c.requires.fits rule (omega (arith, c.loop-rank.invariant.stay.each, c.loop-rank.plans.ok.0)) in
-    omega (arith, c.loop-rank-test.false, c.len-rank-end.ensures))
+    let known = c.requires.below rule (omega (arith, c.loop-rank.invariant.stay.each, c.loop-rank.plans.ok.0)) in
+    omega (arith, c.loop-rank-test.false))
     (c.loop-rank.invariant.filled bound planned lesser filled)

@@ -65,8 +65,8 @@ loop-number-preserved-then-is_marked_in_row c =
     let next : c.loop-number.number ≡ number + 1 = omega (arith, c.loop-number-test.true) in
     let S : ℕ → Type 0 = λ n. AreSwept p c.loop-number.marks (IsBeforeRule rules from to n) in
     record {
-      gathered = still_gathered from c.loop-number.marks c.mark_children.new.marks (IsDemandedChild p cell) c.loop-number.invariant.gathered c.mark_children.ensures;
-      swept = swept_settled p (counted before) cell c.loop-number.marks c.mark_children.new.marks (IsBeforeRule rules from to (number + 1)) (IsBeforeRule rules from to number)
+      gathered = still_gathered from c.loop-number.marks c.mark_children.new.self (IsDemandedChild p cell) c.loop-number.invariant.gathered c.mark_children.ensures;
+      swept = swept_settled p (counted before) cell c.loop-number.marks c.mark_children.new.self (IsBeforeRule rules from to (number + 1)) (IsBeforeRule rules from to number)
           (subst S next c.loop-number.invariant.swept) (c.if-is_marked_in_row.ensures.0 refl) c.mark_children.ensures.marked
           (rule_cases p rules from to number rule refl)
           (not_before p rules from to number rule refl (omega (arith, c.loop-number-test.true, c.loop-number.auto.number)) c.requires.ranked c.admissible.ensures.ranks (below before));

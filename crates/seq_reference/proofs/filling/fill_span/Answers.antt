@@ -1,10 +1,6 @@
 use Rattle.std.proofs.Common.{◌+◌, get_or, refl, sym, subst, ℤ, arith}
-use Rattle.std.specs.Prelude.{MatchOption}
-use Rattle.adp_model.specs.declared.cell.Answer.TheVariants.{NoCandidate}
 use Rattle.adp_model.specs.declared.cell.Cell.{Cell}
 use Rattle.adp_model.specs.PosedProblem.{PosedProblem}
-use Rattle.adp_model.specs.Answers.{IsAnswer}
-use Rattle.adp_model.specs.Bellman.{HasBestScore}
 use Rattle.adp_model.specs.Demand.{IsDemandedChild, IsBelow, IsDemanded, Child}
 use Rattle.cell_tables.specs.Tables.{Table}
 use Rattle.seq_reference.specs.Filling.{AreFilled, AreKept, IsFilledBeforeRule, IsShorterWithin, IsWithin}
@@ -36,42 +32,38 @@ loop-rule-init c =
       kept = λ cell entry. entry;
     }
 
-pub cell_score-score-requires-clause-rule : goal.cell_score-score-requires-clause-rule
-cell_score-score-requires-clause-rule c =
-    let before = (goal.at.cell_score-score-requires-clause-rule c).After-demanded_children_are_below in
+pub fill-requires-clause-rule : goal.fill-requires-clause-rule
+fill-requires-clause-rule c =
+    let before = (goal.at.fill-requires-clause-rule c).After-demanded_children_are_below in
     let cell = visited c.args.lines.now c.args.rules.now c.args.from c.args.to (get_or c.args.rules.now c.loop-rule.rule-index 0) in
     (counted before cell ((c.requires.marked cell).0 (c.if-is_marked_in_row.ensures.0 refl))).rule
 
-pub cell_score-score-requires-clause-in_word : goal.cell_score-score-requires-clause-in_word
-cell_score-score-requires-clause-in_word c =
-    let before = (goal.at.cell_score-score-requires-clause-in_word c).After-demanded_children_are_below in
+pub fill-requires-clause-in_word : goal.fill-requires-clause-in_word
+fill-requires-clause-in_word c =
+    let before = (goal.at.fill-requires-clause-in_word c).After-demanded_children_are_below in
     let cell = visited c.args.lines.now c.args.rules.now c.args.from c.args.to (get_or c.args.rules.now c.loop-rule.rule-index 0) in
     let is = counted before cell ((c.requires.marked cell).0 (c.if-is_marked_in_row.ensures.0 refl)) in
     record { in_order = is.in_order; in_word = is.in_word }
 
-pub cell_score-score-requires-clause-scored : goal.cell_score-score-requires-clause-scored
-cell_score-score-requires-clause-scored c = λ child is.
+pub fill-requires-clause-scored : goal.fill-requires-clause-scored
+fill-requires-clause-scored c = λ child is.
     let p = c.args.lines.now in
     let rules = c.args.rules.now in
     let number = c.loop-rule.rule-index in
-    let before = (goal.at.cell_score-score-requires-clause-scored c).After-demanded_children_are_below in
+    let before = (goal.at.fill-requires-clause-scored c).After-demanded_children_are_below in
     let cell = visited c.args.lines.now c.args.rules.now c.args.from c.args.to (get_or c.args.rules.now c.loop-rule.rule-index 0) in
     let demanded = Child cell child ((c.requires.marked cell).0 (c.if-is_marked_in_row.ensures.0 refl)) is in
     c.loop-rule.invariant.filled.entries child demanded
     (child_before p rules c.args.from c.args.to number (get_or rules number 0) refl c.loop-rule-test.true c.requires.ranked c.admissible.ensures.ranks (below before) child (counted before child demanded) is)
 
-pub keep-requires-clause-counted : goal.keep-requires-clause-counted
-keep-requires-clause-counted c =
-    let before = (goal.at.keep-requires-clause-counted c).After-demanded_children_are_below in
+pub fill-requires-clause-counted : goal.fill-requires-clause-counted
+fill-requires-clause-counted c =
+    let before = (goal.at.fill-requires-clause-counted c).After-demanded_children_are_below in
     let cell = visited c.args.lines.now c.args.rules.now c.args.from c.args.to (get_or c.args.rules.now c.loop-rule.rule-index 0) in
-    let C : PosedProblem → Type 0 = λ q. Counted q cell in
-    subst C (sym c.loop-rule.invariant.filled.problem) (counted before cell ((c.requires.marked cell).0 (c.if-is_marked_in_row.ensures.0 refl)))
+    counted before cell ((c.requires.marked cell).0 (c.if-is_marked_in_row.ensures.0 refl))
 
-pub keep-requires-clause-right : goal.keep-requires-clause-right
-keep-requires-clause-right c =
-    let cell = visited c.args.lines.now c.args.rules.now c.args.from c.args.to (get_or c.args.rules.now c.loop-rule.rule-index 0) in
-    let R : PosedProblem → Type 0 = λ q. MatchOption c.cell_score-score.result (IsAnswer q cell NoCandidate) (HasBestScore q cell) in
-    subst R (sym c.loop-rule.invariant.filled.problem) c.cell_score-score.ensures
+pub fill-requires-clause-same_problem : goal.fill-requires-clause-same_problem
+fill-requires-clause-same_problem c = c.loop-rule.invariant.filled.problem
 
 pub loop-rule-preserved : goal.loop-rule-preserved
 loop-rule-preserved c =
@@ -90,9 +82,9 @@ loop-rule-preserved c =
     elim c.if-is_marked_in_row.branch [
       | then-is_marked_in_row w ↦
           subst F (sym w.scores-is) (record {
-            filled = filled_kept p (counted before) cell c.loop-rule.scores w.keep.new.self (IsFilledBeforeRule rules from to number) (IsFilledBeforeRule rules from to (number + 1))
-                c.loop-rule.invariant.filled w.keep.ensures.problem w.keep.ensures.kept w.keep.ensures.others (fill_cases p rules from to number rule refl);
-            kept = λ other entry. w.keep.ensures.others other (c.loop-rule.invariant.kept other entry);
+            filled = filled_kept p (counted before) cell c.loop-rule.scores w.fill.new.self (IsFilledBeforeRule rules from to number) (IsFilledBeforeRule rules from to (number + 1))
+                c.loop-rule.invariant.filled w.fill.ensures.problem w.fill.ensures.kept w.fill.ensures.others (fill_cases p rules from to number rule refl);
+            kept = λ other entry. w.fill.ensures.others other (c.loop-rule.invariant.kept other entry);
           })
       | else-is_marked_in_row w ↦
           subst F (sym w.scores-is) (record {

@@ -8,7 +8,7 @@ use Rattle.split_lines.proofs.classes.ahead.Goals.{in-Some, in-None}
 
 pub loop-position-preserved : goal.loop-position-preserved
 loop-position-preserved c =
-    let class = c.args.class.now in
+    let class = c.args.class.class.now in
     let word = c.args.word.now in
     let position = c.loop-position.position - 1 in
     let ahead = c.loop-position.ahead.items in

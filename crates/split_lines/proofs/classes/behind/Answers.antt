@@ -6,7 +6,7 @@ use Rattle.split_lines.proofs.classes.behind.Goals.{then-is_none, else-is_none}
 
 pub loop-position-preserved : goal.loop-position-preserved
 loop-position-preserved c =
-    let class = c.args.class.now in
+    let class = c.args.class.class.now in
     let word = c.args.word.now in
     let position = c.loop-position.position in
     let behind = c.loop-position.behind.items in

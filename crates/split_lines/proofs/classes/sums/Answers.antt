@@ -15,7 +15,7 @@ fits_more i sum weight l m few = omega (arith, ints)
 
 pub loop-letter-preserved : goal.loop-letter-preserved
 loop-letter-preserved c =
-    let class = c.args.class.now in
+    let class = c.args.class.class.now in
     let word = c.args.word.now in
     let i = c.loop-letter.letter-index in
     let sums = c.loop-letter.sums.items in
@@ -49,7 +49,7 @@ loop-letter-preserved c =
 
 pub returns : goal.returns
 returns c =
-    let class = c.args.class.now in
+    let class = c.args.class.class.now in
     let word = c.args.word.now in
     let told = c.loop-letter.invariant.told in
     let whole : length word ≤ c.loop-letter.letter-index = omega arith in

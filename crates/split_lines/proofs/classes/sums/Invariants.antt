@@ -6,6 +6,6 @@ use Rattle.split_lines.proofs.classes.sums.Given as goal
 abbrev pub invariant-loop-letter : goal.invariant-loop-letter
 invariant-loop-letter l = record {
   each : length l.sums.items ≡ l.letter-index + 1;
-  now : IsSumOf l.class l.word l.letter-index l.sum;
-  told : (position : ℕ) → position ≤ l.letter-index → IsSumOf l.class l.word position (get_or l.sums.items position (pos 0));
+  now : IsSumOf l.class.class.now l.word l.letter-index l.sum;
+  told : (position : ℕ) → position ≤ l.letter-index → IsSumOf l.class.class.now l.word position (get_or l.sums.items position (pos 0));
 }

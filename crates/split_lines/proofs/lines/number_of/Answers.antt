@@ -6,18 +6,18 @@ use Rattle.split_lines.proofs.lines.number_of.Goals as goal
 
 pub returns-clause-middles : goal.returns-clause-middles
 returns-clause-middles c =
-    let middle : Middle = record { tokens = c.args.tokens; matches = c.in_ok-matches.matches } in
+    let middle : Middle = record { tokens = c.args.tokens; first = c.first_letter-first.result; matches = c.in_ok-matches.matches } in
     let P : List Middle → Type 0 = AreMiddles c.args.tables.now in
     subst P (sym {A = List Middle} c.in_ok-push.ensures.items) (middles_more c.args.tables.now c.args.middles.now.items middle c.requires.middles c.in_ok-matches.ensures)
 
 pub returns-clause-kept : goal.returns-clause-kept
 returns-clause-kept c =
-    let middle : Middle = record { tokens = c.args.tokens; matches = c.in_ok-matches.matches } in
+    let middle : Middle = record { tokens = c.args.tokens; first = c.first_letter-first.result; matches = c.in_ok-matches.matches } in
     let P : List Middle → Type 0 = HasAllOf c.args.middles.now.items in
     subst P (sym {A = List Middle} c.in_ok-push.ensures.items) (has_all_more c.args.middles.now.items middle)
 
 pub returns-clause-number : goal.returns-clause-number
 returns-clause-number c =
-    let middle : Middle = record { tokens = c.args.tokens; matches = c.in_ok-matches.matches } in
+    let middle : Middle = record { tokens = c.args.tokens; first = c.first_letter-first.result; matches = c.in_ok-matches.matches } in
     let P : List Middle → Type 0 = λ middles. IsNumberOf middles c.args.tokens.now c.len-number.result in
     subst P (sym {A = List Middle} c.in_ok-push.ensures.items) (number_of_last c.args.middles.now.items middle c.args.tokens.now c.len-number.result (omega (arith, c.len-number.ensures)) refl)

@@ -10,7 +10,11 @@ use Rattle.table_certificate.proofs.blocks.first_wrong.Goals as goal
 pub right_line-requires : goal.right_line-requires
 right_line-requires c =
     let line = subst (λ (g : Grammar). IsNextLine g c.lines.rest.now c.in-Some.form c.in-Some.behind.now) c.requires.same c.in-Some.ensures in
-    form_known c.args.lines.now.grammar line.next.exact c.in-Some.form line.next.is line.next.known
+    record {
+      solved = c.requires.solved;
+      noted = c.requires.noted;
+      form = form_known c.args.lines.now.grammar line.next.exact c.in-Some.form line.next.is line.next.known;
+    }
 
 pub returns-in-None : goal.returns-in-None
 returns-in-None c =

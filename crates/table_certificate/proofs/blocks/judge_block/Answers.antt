@@ -2,6 +2,8 @@ use Rattle.std.proofs.Common.{◌∷◌, sym, ap, subst, ◌∙◌, arith}
 use Rattle.adp_model.specs.declared.grammar.Grammar.{Grammar}
 use Rattle.adp_model.specs.PosedProblem.{PosedProblem}
 use Rattle.table_certificate.specs.CertificateLines.{LineForm, forms_of}
+use Rattle.table_certificate.specs.Claims.{Tell, claimed}
+use Rattle.table_certificate.specs.KnownScores.{AreSaidBest}
 use Rattle.table_certificate.specs.LocalCertificate.{IsRightWordLine}
 use Rattle.table_certificate.specs.BlockLines.{AreRightFurther, IsBlock, IsFirstWrong, lines_ahead}
 use Rattle.table_certificate.specs.NextForms.{IsNextForm}
@@ -83,3 +85,15 @@ returns-clause-outcome c =
     let further = subst (λ (q : PosedProblem). AreRightFurther q (lines_ahead q.grammar rest)) c.in_ok-lines.ensures c.in-None.ensures in
     right_block p c.args.number c.args.text.now rest c.in_ok-block.block.behind.now head.number head.cells is block.parts block.ends right
     c.in-Some-told_value.value c.in_ok-block.block.count further told.1 block.counted (omega (arith, block.fewer, next.fewer))
+
+pub first_wrong-requires-clause-noted : goal.first_wrong-requires-clause-noted
+first_wrong-requires-clause-noted c =
+    subst (λ (q : PosedProblem). AreSaidBest q (claimed c.in_ok-block.block.claims) c.in_ok-said_best.said_best)
+    (c.in_ok-layout.ensures ∙ sym c.in_ok-lines.ensures) c.in_ok-said_best.ensures
+
+pub first_wrong-requires-clause-told : goal.first_wrong-requires-clause-told
+first_wrong-requires-clause-told c =
+    let rest = c.in-Some.rest.now in
+    let G = ap (λ (q : PosedProblem). q.grammar) c.problem.view_is in
+    let block = subst (λ (g : Grammar). IsBlock g rest c.in_ok-block.block) G c.in_ok-block.ensures in
+    subst (λ (q : PosedProblem). Tell c.in_ok-block.block.claims (lines_ahead q.grammar rest)) (sym c.in_ok-lines.ensures) block.told

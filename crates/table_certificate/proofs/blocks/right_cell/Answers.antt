@@ -19,7 +19,7 @@ is_right_cell-requires-clause-inside c =
 pub is_right_cell-requires-clause-rule : goal.is_right_cell-requires-clause-rule
 is_right_cell-requires-clause-rule c =
     let found = rw c.in-Some.is at c.cell_in_word.ensures.inside in
-    subst (λ n. n < length c.args.lines.now.grammar.rules) (sym found.1) c.requires
+    subst (λ n. n < length c.args.lines.now.grammar.rules) (sym found.1) c.requires.rule
 
 pub returns-then-is_right_cell : goal.returns-then-is_right_cell
 returns-then-is_right_cell c = λ block exact told rule from to.

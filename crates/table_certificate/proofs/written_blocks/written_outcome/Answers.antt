@@ -9,14 +9,14 @@ use Rattle.table_certificate.proofs.written_blocks.written_outcome.Goals as goal
 pub overflow_cast-result : goal.overflow_cast-result
 overflow_cast-result c =
     let p = c.args.problem.now in
-    let counted = subst (λ (q : PosedProblem). IsDemandedCount q c.cells.result) c.in_ok-solved.ensures c.cells.ensures in
+    let counted = subst (λ (q : PosedProblem). IsDemandedCount q c.cells.result) c.requires c.cells.ensures in
     let few = few_demanded p c.admissible.ensures (λ count bound. c.demanded_cells_are_within_the_cell_bound.ensures p count bound c.admissible.ensures.checked.well_formed) c.cells.result counted in
     omega (arith, few)
 
 pub overflow_add-result : goal.overflow_add-result
 overflow_add-result c =
     let p = c.args.problem.now in
-    let counted = subst (λ (q : PosedProblem). IsDemandedCount q c.cells.result) c.in_ok-solved.ensures c.cells.ensures in
+    let counted = subst (λ (q : PosedProblem). IsDemandedCount q c.cells.result) c.requires c.cells.ensures in
     let few = few_demanded p c.admissible.ensures (λ count bound. c.demanded_cells_are_within_the_cell_bound.ensures p count bound c.admissible.ensures.checked.well_formed) c.cells.result counted in
     omega (arith, few)
 
@@ -26,7 +26,7 @@ returns-clause-outcome c =
     let G = ap (λ (q : PosedProblem). q.grammar) c.problem.view_is in
     let behind = c.in-Some.behind.now in
     let head = subst (λ (g : Grammar). IsAtHead g behind) G c.in-Some.ensures.head in
-    let counted = subst (λ (q : PosedProblem). IsDemandedCount q c.cells.result) c.in_ok-solved.ensures c.cells.ensures in
+    let counted = subst (λ (q : PosedProblem). IsDemandedCount q c.cells.result) c.requires c.cells.ensures in
     written_is_right (record {
       read = record {
         counted = c.demanded_cells_are_counted.ensures;

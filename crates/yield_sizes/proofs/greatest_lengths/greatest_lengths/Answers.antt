@@ -1,7 +1,5 @@
-use Rattle.std.proofs.Common.{◌≡◌, ℕ, Bool, Option, Some, false, List, [], length, map, replicate, sym, ap, subst, rules, ◌∙◌}
-use Rattle.std.specs.List.{range_with_len}
+use Rattle.std.proofs.Common.{◌≡◌, ℕ, Bool, Option, Some, false, List, length, replicate, sym, ap, subst, rules, ◌∙◌}
 use Rattle.yield_sizes.specs.declared.places.Place.{Place}
-use Rattle.yield_sizes.specs.Places.{AreAllPlaces}
 use Rattle.yield_sizes.specs.KnownGreatest.{AreRising}
 use Rattle.yield_sizes.proofs.GreatestLengths.{rising_start}
 use Rattle.yield_sizes.proofs.greatest_lengths.greatest_lengths.Goals as goal

@@ -1,5 +1,4 @@
-use Rattle.std.proofs.Common.{◌≡◌, ℕ, ◌+◌, ◌<◌, ◌≤◌, List, length, sym, ap, subst, ◌∙◌, arith}
-use Rattle.adp_model.specs.declared.grammar.Alt.{Alt}
+use Rattle.std.proofs.Common.{◌≡◌, ◌+◌, ◌<◌, ◌≤◌, List, length, sym, ap, subst, ◌∙◌, arith}
 use Rattle.adp_model.specs.Parts.{alternatives_of}
 use Rattle.yield_sizes.specs.declared.places.Place.{Place}
 use Rattle.yield_sizes.proofs.GrammarReads.{alternatives_read}

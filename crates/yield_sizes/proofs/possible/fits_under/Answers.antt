@@ -1,4 +1,4 @@
-use Rattle.std.proofs.Common.{◌≡◌, ◌↔◌, ℕ, ◌<◌, ◌≤◌, min, nat_le, Option, Some, IfSome, IsTrue, ap, subst, ◌∙◌, arith, leb-true}
+use Rattle.std.proofs.Common.{◌≡◌, ◌↔◌, ℕ, ◌≤◌, min, nat_le, Option, IfSome, IsTrue, ap, subst, ◌∙◌, arith, leb-true}
 use Rattle.std.proofs.lemmas.Bool.{le-leb}
 use Rattle.adp_model.specs.Sizes.{least_sum}
 use Rattle.yield_sizes.specs.Possible.{greatest_sum_kept, kept_least_sum}

@@ -1,4 +1,4 @@
-use Rattle.std.proofs.Common.{◌≡◌, ◌↔◌, ℕ, ◌<◌, ◌≤◌, nat_le, true, Option, None, Some, IfSome, IsTrue, refl, sym, ap, subst, ◌∙◌, arith, leb-true}
+use Rattle.std.proofs.Common.{◌≡◌, ℕ, ◌≤◌, Option, None, Some, IfSome, refl, sym, ap, subst, ◌∙◌, arith, leb-true}
 use Rattle.std.proofs.lemmas.Bool.{le-leb}
 use Rattle.adp_model.specs.Lengths.{low_of}
 use Rattle.adp_model.specs.Sizes.{greatest_sum}

@@ -1,4 +1,5 @@
-use Rattle.std.proofs.Common.{◌≡◌, ℕ, ◌+◌, ◌<◌, ◌≤◌, Vec, Global, List, [], ◌∷◌, ◌++◌, length, get_or, ap, sym, subst, ◌∙◌, arith}
+use Rattle.std.proofs.Common.{◌≡◌, ℕ, ◌+◌, ◌<◌, ◌≤◌, Option, Some, Result, Ok, Err, IfOk, Vec, Global, List, [], ◌∷◌, ◌++◌, length, get_or, slice_get, ap, sym, subst, ◌∙◌, arith}
+use Rattle.std.specs.Prelude.{IfSome}
 use Rattle.std.specs.List.{Contains}
 use Rattle.std.proofs.lemmas.Bool.{false≢true}
 use Rattle.std.proofs.lemmas.List.{length_push}
@@ -6,11 +7,14 @@ use Rattle.adp_model.specs.declared.grammar.Arg.{Arg}
 use Rattle.adp_model.specs.PosedProblem.{PosedProblem}
 use Rattle.viable_splits.specs.Placing.{Cover}
 use Rattle.split_lines.specs.Flags.{AreBits}
-use Rattle.split_lines.specs.Matching.{HaveLetters, AreMatchPositions, AreCounts, AreLimitsOf}
+use Rattle.split_lines.specs.declared.matches.Matches.{Matches}
+use Rattle.split_lines.specs.Kept.{BeginWith}
+use Rattle.split_lines.specs.Matching.{HaveLetters, AreMatchPositions, AreCounts, AreLimitsOf, AreMatches}
+use Rattle.split_lines.proofs.MakingReady.{letter_stands}
 use Rattle.split_lines.proofs.Matched.{no_counts, one_count_more, one_position_more, no_positions, positions_below, one_match_more, no_match_there}
 use Rattle.split_lines.proofs.TokenSpans.{cover_within}
 use Rattle.split_lines.proofs.matches.Matches.new.Goals as goal
-use Rattle.split_lines.proofs.matches.Matches.new.Goals.{then-end-len+then-covers+in_ok-push-2, else-end-len, else-end-len-via-then-end-len+else-covers, else-end-len-via-else-end-len}
+use Rattle.split_lines.proofs.matches.Matches.new.Goals.{then-end-len+then-cover_there+in_ok-push-2, else-end-len, else-end-len-via-then-end-len+else-cover_there, else-end-len-via-else-end-len}
 
 pub loop-position-init : goal.loop-position-init
 loop-position-init c =
@@ -53,15 +57,15 @@ loop-position-preserved c =
     let before = counted positions c.loop-position.before.items c.push.new.self.items c.len.result position kept.before kept.each (λ number. positions_below p tokens width position positions kept.positions number 0) (omega (arith, c.len.ensures)) c.in_ok-push.ensures.items in
     let each : length c.push.new.self.items ≡ position + 1 = omega (arith, c.in_ok-push.ensures.len, kept.each) in
     elim c.if-end-len.branch [
-      | then-end-len+then-covers+in_ok-push-2 w ↦
+      | then-end-len+then-cover_there+in_ok-push-2 w ↦
           let items_are : c.if-end-len.positions.items ≡ positions ++ position ∷ [] = ap (λ (v : Vec ℕ Global). v.items) w.positions-is ∙ w.in_ok-push-2.ensures.items in
-          let cover : Cover p tokens position (position + width) = w.covers.ensures.0 w.if-covers.true in
+          let cover : Cover p tokens position (position + width) = w.cover_there.ensures.0 w.if-cover_there.true in
           step p tokens width position (positions ++ position ∷ []) c.if-end-len.positions.items c.push.new.self.items items_are (one_match_more p tokens width position positions kept.positions cover) each (one_position_more positions c.push.new.self.items position before (omega (arith, each))) (omega (arith, length_push positions position, kept.few))
       | else-end-len w ↦
           let items_are : c.if-end-len.positions.items ≡ positions = ap (λ (v : Vec ℕ Global). v.items) w.positions-is in
           let none : Cover p tokens position (position + width) → ⊥ =
           elim w.else-end-len.branch [
-            | else-end-len-via-then-end-len+else-covers w' ↦ λ cover. false≢true (sym w'.if-covers.false ∙ w'.covers.ensures.1 cover)
+            | else-end-len-via-then-end-len+else-cover_there w' ↦ λ cover. false≢true (sym w'.if-cover_there.false ∙ w'.cover_there.ensures.1 cover)
             | else-end-len-via-else-end-len w' ↦ λ cover. let within = cover_within p tokens position (position + width) (omega (arith, len_is)) cover in absurd (omega (arith, within, w'.if-end-len.false, len_is))
           ] in
           step p tokens width position positions c.if-end-len.positions.items c.push.new.self.items items_are (no_match_there p tokens width position positions kept.positions none) each before (omega (arith, kept.few))
@@ -112,3 +116,26 @@ bits_of-requires-2-clause-within c = λ position there.
     let found = (c.loop-position.invariant.positions.exact position).0 (subst C c.deref-3.ensures.value there) in
     let within = cover_within p c.args.tokens.now position (position + c.fixed_letters-width.result) (omega (arith, found.0, len_is)) found.1 in
     omega (arith, within, len_is)
+
+-- ---- tokens that begin with a letter that the word lacks
+
+taken : {E : Type 0} (result : Result Matches E) (p : PosedProblem) (tokens : List Arg) (letters : ℕ)
+    → IfOk result (λ matches. (tokens : List Arg) → HaveLetters p tokens letters → ((from to : ℕ) → Cover p tokens from to → ⊥) → AreMatches p tokens matches)
+    → HaveLetters p tokens letters → ((from to : ℕ) → Cover p tokens from to → ⊥) → IfOk result (AreMatches p tokens)
+taken (Ok matches) p tokens letters made have none = made tokens have none
+taken (Err error) p tokens letters made have none = tt
+
+pub returns-then-not-occurs : goal.returns-then-not-occurs
+returns-then-not-occurs c =
+    let p = c.args.tables.now in
+    let tokens = c.args.tokens.now in
+    let width = c.fixed_letters-width.result in
+    let F : Option ℕ → Type 0 = λ first. IfSome first (BeginWith tokens) in
+    let begins : BeginWith tokens c.in-Some.letter = subst F c.in-Some.is c.first_letter-first.ensures in
+    let word_is : c.letters.result.now ≡ p.word = c.letters.ensures.word ∙ ap (λ (p : PosedProblem). p.word) c.problem-problem.ensures in
+    let S : List ℕ → ℕ → Type 0 = λ word from. slice_get word from ≡ Some c.in-Some.letter in
+    let none : (from to : ℕ) → Cover p tokens from to → ⊥ = λ from to cover.
+    c.occurs.ensures c.if-not-occurs.true from (subst (λ word. S word from) (sym word_is) (letter_stands p tokens c.in-Some.letter from to begins cover)) in
+    let R : PosedProblem → Type 0 = λ p. IfOk c.nowhere.result (λ matches. (tokens : List Arg) → HaveLetters p tokens width → ((from to : ℕ) → Cover p tokens from to → ⊥) → AreMatches p tokens matches) in
+    let H : PosedProblem → Type 0 = λ p. HaveLetters p tokens width in
+    taken c.nowhere.result p tokens width (subst R c.problem-problem.ensures c.nowhere.ensures) (subst H c.problem-problem.ensures c.fixed_letters-width.ensures.letters) none

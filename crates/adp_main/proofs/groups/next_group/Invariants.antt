@@ -1,0 +1,15 @@
+-- The problems are those of the first words, and the words behind them are still to come.
+use Rattle.std.proofs.Common.{◌≡◌, ◌≤◌, ◌++◌, drop, length}
+use Rattle.adp_model.specs.ProblemFields.{most_cells}
+use Rattle.verdicts.specs.Posed.{posed_words}
+use Rattle.adp_main.specs.Groups.{HaveCells}
+use Rattle.adp_main.proofs.groups.next_group.Given as goal
+
+abbrev pub invariant-loop-at : goal.invariant-loop-at
+invariant-loop-at l = record {
+  few : length l.problems.items ≤ 64;
+  together : HaveCells l.problems.items l.cells;
+  small : l.cells ≤ most_cells;
+  first : l.problems.items ++ drop l.at (posed_words l.job.checked.grammar l.job.checked.algebra l.job.words)
+      ≡ drop l.place (posed_words l.job.checked.grammar l.job.checked.algebra l.job.words);
+}

@@ -1,0 +1,227 @@
+//! Groups of words: solved side by side, each on one thread, and reported in order.
+ghost use Rattle.std.specs.Prelude.{◌≡◌, ◌↔◌, ◌++◌, ◌+◌, ◌<◌, ◌≤◌, List, ℕ, None, IfOk, IsTrue, drop, length};
+ghost use Rattle.std.specs.List.{AllByRecursion, AllZip};
+ghost use Rattle.adp_io.specs.Causes.{RisesWhere};
+ghost use Rattle.adp_io.specs.Streams.{SameTold};
+ghost use Rattle.adp_model.specs.PosedProblem.{PosedProblem};
+ghost use Rattle.adp_model.specs.ProblemFields.{most_cells};
+ghost use Rattle.verdicts.specs.Posed.{posed_words};
+ghost use Rattle.verdicts.specs.SecondAlgebra.{IsAdmissibleWith};
+ghost use Rattle.verdicts.specs.Verdict.{IsReportWith};
+ghost use Rattle.adp_main.specs.FirstWords.{AreFirstEnding, IsWriteFault};
+ghost use Rattle.adp_main.specs.Groups.{HasRoom, HaveCells, IsGrouped, TakesGroups};
+ghost use Rattle.adp_main.specs.KeptLengths.{HaveKept};
+ghost use Rattle.adp_main.specs.Reporting.{AreShort};
+ghost use Rattle.adp_main.specs.Seconds.{AreJobRows};
+ghost use Rattle.adp_main.specs.Writing.{IsRunFor};
+
+use crate::admitting::admitted;
+use crate::cert::block_report;
+use crate::checking::CheckedJob;
+use crate::evaluating::{plain_report, write_run};
+use crate::limits::Judged;
+use crate::writing::is_admitted;
+use adp_io::Sink;
+use adp_model::Problem;
+use evaluators::{Finished, Gate};
+use report::Fault;
+use std::alloc::{AllocError, Global};
+use std::thread::Threads;
+use verdicts::{Command, Mode};
+use word_groups::run_group;
+
+/// The most words of a group.
+const MOST_WORDS: usize = 64;
+
+/// The most counted cells that the words of a group have together, unless it had fewer words than there are workers.
+const ENOUGH_CELLS: u64 = 32_768;
+
+/// The most counted cells that the words of a group have together: as many as one word may have.
+const MOST_CELLS: u64 = 2_097_152;
+
+/// Whether words are solved in groups: where there are workers enough, and reports tell nothing of them.
+fn takes_groups(command: &Command<'_>) -> bool
+    ensures { IsTrue result ↔ TakesGroups command.now }
+{
+    match command.mode {
+        Mode::Best | Mode::Cert => command.workers > 1,
+        _ => false,
+    }
+}
+
+/// Reports the words from this place on that make a group, and says how many: none where they make none, or groups are
+/// made no more. Where there is no memory for a group it reports those of its first words for which there is, and groups
+/// are made no more.
+pub(crate) fn write_side_by_side<R: Threads + Sync, K: Sink, G: Gate>(
+    rt: &R,
+    alloc: Global,
+    command: &Command<'_>,
+    place: usize,
+    job: &CheckedJob,
+    judged: &Judged,
+    side_by_side: &mut bool,
+    out: &mut K,
+    gate: &mut G,
+) -> Result<usize, Fault>
+    requires few { length job.now.words ≤ 65536 }
+    requires inside { place < length job.now.words }
+    requires rows { AreJobRows job.now.checked job.now.second judged.now.rows }
+    requires known { AreShort judged.now.rows.first.longest job.now.words }
+    requires bounds { HaveKept command.now.second job.now.checked.grammar job.now.checked.algebra
+        judged.now.compiled.items job.now.words }
+    requires admissible { AllByRecursion (IsAdmissibleWith command.now.second)
+        (posed_words job.now.checked.grammar job.now.checked.algebra job.now.words) }
+    ensures told { SameTold (K.held out.old) (K.held out.new) }
+    ensures faults { RisesWhere (K.faults out.old) (K.faults out.new) (IsWriteFault result) }
+    ensures ending { AreFirstEnding command.now (place + 1)
+        (drop place (posed_words job.now.checked.grammar job.now.checked.algebra job.now.words)) result
+        (G.runs gate.old) (G.runs gate.new) (K.held out.old) (K.held out.new) }
+{
+    if !*side_by_side || !takes_groups(command) {
+        return Ok(0);
+    }
+    let problems = next_group(alloc, command, job, judged, place);
+    if problems.len() < 2 {
+        return Ok(0);
+    }
+    let number = place as u32 + 1;
+    let written = write_group(rt, alloc, command, number, &problems, out, gate)?;
+    *side_by_side = written == problems.len();
+    Ok(written)
+}
+
+/// The problems of the words from this place on, as many as make a group, or as there is memory for.
+fn next_group<'a>(
+    alloc: Global,
+    command: &Command<'_>,
+    job: &'a CheckedJob,
+    judged: &Judged,
+    place: usize,
+) -> Vec<Problem<'a>>
+    requires inside { place < length job.now.words }
+    requires rows { AreJobRows job.now.checked job.now.second judged.now.rows }
+    requires known { AreShort judged.now.rows.first.longest job.now.words }
+    requires bounds { HaveKept command.now.second job.now.checked.grammar job.now.checked.algebra
+        judged.now.compiled.items job.now.words }
+    requires admissible { AllByRecursion (IsAdmissibleWith command.now.second)
+        (posed_words job.now.checked.grammar job.now.checked.algebra job.now.words) }
+    ensures few { length result.items ≤ 64 }
+    ensures small { (cells : ℕ) × HaveCells result.items cells × (cells ≤ most_cells) }
+    ensures first { (rest : List PosedProblem) × (result.items ++ rest
+        ≡ drop place (posed_words job.now.checked.grammar job.now.checked.algebra job.now.words)) }
+{
+    let words = job.words.as_slice();
+    let mut problems = Vec::new(alloc);
+    let mut cells = 0u64;
+    for at in place..words.len() {
+        let word = &words[at];
+        is_admitted(command, job, judged, words, at, word);
+        let problem = admitted(&job.checked, &judged.rows.first, word);
+        cells = cells.saturating_add(problem.cells);
+        if !has_room(problems.len(), cells, command.workers as usize) {
+            break;
+        }
+        match problems.push(problem) {
+            Ok(()) => {}
+            Err(_) => break,
+        }
+    }
+    problems
+}
+
+/// Whether a group of so many words takes one more, with which it has so many counted cells.
+fn has_room(words: usize, cells: u64, workers: usize) -> bool
+    ensures { IsTrue result ↔ HasRoom words cells workers }
+{
+    words < MOST_WORDS && cells <= MOST_CELLS && (words < workers || cells <= ENOUGH_CELLS)
+}
+
+/// Solves the problems side by side and reports them in order, the first of which has this number, as many as there is
+/// memory for.
+fn write_group<'a, R: Threads + Sync, K: Sink, G: Gate>(
+    rt: &R,
+    alloc: Global,
+    command: &Command<'_>,
+    number: u32,
+    problems: &'a [Problem<'a>],
+    out: &mut K,
+    gate: &mut G,
+) -> Result<usize, Fault>
+    requires mode { IsGrouped command.now.mode }
+    requires few { number + length problems.now ≤ 65537 }
+    ensures told { SameTold (K.held out.old) (K.held out.new) }
+    ensures faults { RisesWhere (K.faults out.old) (K.faults out.new) (IsWriteFault result) }
+    ensures ending { AreFirstEnding command.now number problems.now result
+        (G.runs gate.old) (G.runs gate.new) (K.held out.old) (K.held out.new) }
+{
+    match run_side_by_side(rt, alloc, command, problems, &*gate) {
+        Ok(all) => write_solved(alloc, command, number, problems, &all, out, gate),
+        Err(_) => Ok(0),
+    }
+}
+
+/// Solves the problems side by side, each by as many evaluators as the command says. The gate is passed.
+fn run_side_by_side<'a, R: Threads + Sync, G: Gate>(
+    rt: &R,
+    alloc: Global,
+    command: &Command<'_>,
+    problems: &'a [Problem<'a>],
+    gate: &G,
+) -> Result<Vec<Finished<'a>>, AllocError>
+    requires { IsGrouped command.now.mode }
+    ensures { IfOk result (λ all. AllZip (IsRunFor command.now) problems.now all.items) }
+{
+    command.in_range();
+    run_group(rt, alloc, problems, command.workers, command.seed, gate)
+}
+
+/// Reports problems in order that evaluators solved, each by one `write_whole`, and tells the gate of each run, as many
+/// as there is memory for.
+fn write_solved<'a, K: Sink, G: Gate>(
+    alloc: Global,
+    command: &Command<'_>,
+    number: u32,
+    problems: &'a [Problem<'a>],
+    all: &[Finished<'a>],
+    out: &mut K,
+    gate: &mut G,
+) -> Result<usize, Fault>
+    requires mode { IsGrouped command.now.mode }
+    requires few { number + length problems.now ≤ 65537 }
+    requires solved { AllZip (IsRunFor command.now) problems.now all.now }
+    ensures told { SameTold (K.held out.old) (K.held out.new) }
+    ensures faults { RisesWhere (K.faults out.old) (K.faults out.new) (IsWriteFault result) }
+    ensures ending { AreFirstEnding command.now number problems.now result
+        (G.runs gate.old) (G.runs gate.new) (K.held out.old) (K.held out.new) }
+{
+    for place in 0..problems.len() {
+        let problem = &problems[place];
+        let finished = &all[place];
+        let report = match report_of(alloc, command, number + place as u32, problem, finished) {
+            Ok(report) => report,
+            Err(_) => return Ok(place),
+        };
+        write_run(command, problem, finished, &report, out, gate)?;
+    }
+    Ok(problems.len())
+}
+
+/// The report of a word that evaluators solved.
+fn report_of<'a>(
+    alloc: Global,
+    command: &Command<'_>,
+    number: u32,
+    problem: &'a Problem<'a>,
+    finished: &Finished<'a>,
+) -> Result<Vec<u8>, AllocError>
+    requires mode { IsGrouped command.now.mode }
+    requires run { IsRunFor command.now problem.now finished.now }
+    ensures { IfOk result (λ report. IsReportWith command.now.mode command.now None number problem.now
+        finished.now.wins.items report.items) }
+{
+    if command.certifies() {
+        block_report(alloc, number, problem, finished)
+    } else {
+        plain_report(alloc, number, problem, finished)
+    }
+}

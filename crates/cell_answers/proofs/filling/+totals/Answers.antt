@@ -1,0 +1,387 @@
+use Rattle.std.proofs.Common.{◌≡◌, ◌<◌, ◌≤◌, ◌⊎◌, ℕ, ℤ, ◌-◌, ◌+ℤ◌, ◌*ℤ◌, Option, Some, None, List, [], ◌∷◌, length, drop, ap, FitsSigned, w64, sym, subst, arith, rules, ◌∙◌}
+use Rattle.std.specs.Option.{option_copied}
+use Rattle.std.specs.Prelude.{IfSome, ◌==◌, if◌then◌else◌}
+use Rattle.std.proofs.lemmas.Int.{to_z-of_z}
+use Rattle.adp_model.specs.declared.grammar.Arg.{Arg}
+use Rattle.split_lines.specs.declared.lines.Line.{Line}
+use Rattle.split_lines.specs.Lines.{IsLine}
+use Rattle.adp_model.specs.Splits.{AtRule, FitsSpan}
+use Rattle.adp_model.specs.FirstSplit.{IsValue}
+use Rattle.adp_model.specs.Bellman.{HasBestScore}
+use Rattle.viable_splits.specs.Placing.{on_span, ArePositions, Cover}
+use Rattle.cell_answers.specs.Entries.{HasEntry}
+use Rattle.cell_answers.specs.Totals.{AreLow, AreWeighted, HasTotal}
+use Rattle.score_numbers.specs.Greatest.{IsGreatestOf}
+use Rattle.cell_answers.proofs.FirstEnds.{AreLaid, AreSound, first_low, rest_laid, found_more, unvalued_more, untotalled_more, none_first, all_found}
+use Rattle.split_lines.specs.Ends.{IsEndTold}
+use Rattle.cell_answers.proofs.OneEnds.{none_ends, one_ends, total_nowhere, none_from, greatest_from, fixed_value, empty_without}
+use Rattle.cell_answers.specs.Tails.{IsOwner, IsTail, IsTailTotal}
+use Rattle.cell_answers.proofs.TailFactors.{shorter_owner, owner_tail, tail_total_is}
+use Rattle.cell_answers.proofs.Reading.{product_fits, sum_fits, sum_read}
+use Rattle.cell_answers.proofs.Soundness.{parts_fit, sound_by}
+use Rattle.cell_answers.proofs.filling.+totals.Goals as goal
+use Rattle.cell_answers.proofs.filling.+totals.Goals.{greatest_total-After-answer_is_unique, greatest_total-After-ends_of_first-positions, greatest_total-After-token_value, greatest_total-In_ok-end, tail_total-After-total}
+
+-- the arguments, from the first one on
+laid : (t : ℕ) (c : greatest_total-After-answer_is_unique t) → AreLaid c.args.known.now.lines.now c.args.known.now.scores.now (c.in-Some-Some.argument.now ∷ c.in-Some-Some.others.now) (c.in-Some-Some.factor.now ∷ c.in-Some-Some.factors.now) c.args.from c.args.to
+laid t c =
+    let p = c.args.known.now.lines.now in
+    let table = c.args.known.now.scores.now in
+    let A : List Arg → Type 0 = λ arguments. AreLaid p table arguments (c.in-Some-Some.factor.now ∷ c.in-Some-Some.factors.now) c.args.from c.args.to in
+    let F : List ℤ → Type 0 = λ factors. AreLaid p table c.args.arguments.now factors c.args.from c.args.to in
+    subst A c.in-Some-Some.ensures.cases.0 (subst F c.in-Some-Some.ensures'.cases.0
+    (record { weighted = c.requires.weighted; span = c.requires.span; scored = c.requires.scored; low = c.requires.low }))
+
+sound : (t : ℕ) (c : greatest_total-After-answer_is_unique t) → AreSound c.args.known.now.lines.now
+sound t c =
+    sound_by c.problem.result.now c.args.known.now.lines.now c.problem.ensures c.admissible.ensures (c.bounds_are_sound.ensures.score c.args.known.now.lines.now) (c.answer_is_unique.ensures c.args.known.now.lines.now)
+
+positions : (t : ℕ) (c : greatest_total-After-ends_of_first-positions t) → ArePositions c.args.known.now.lines.now c.in-Some-Some.argument.now c.in-Some-Some.others.now c.args.from c.args.to c.ends_of_first-positions.result
+positions t c = c.ends_of_first-positions.ensures c.in-Some-Some.argument.now c.in-Some-Some.others.now c.in-Some-Some.ensures.cases.0
+
+fits : (t : ℕ) (c : greatest_total-After-ends_of_first-positions t) (end : ℕ) → c.ends_of_first-positions.result.start ≤ end → end < c.ends_of_first-positions.result.end → FitsSpan c.args.known.now.lines.now (on_span c.in-Some-Some.argument.now c.args.from end)
+fits t c end l m = (positions t c).fit end l m
+
+pub greatest_total-loop-end-init : goal.greatest_total-loop-end-init
+greatest_total-loop-end-init t c =
+    let at = (goal.at.greatest_total-loop-end-init t c).After-ends_of_first-positions in
+    record {
+      same = c.requires.same_tails;
+      greatest = none_first c.args.known.now.lines.now c.in-Some-Some.argument.now c.in-Some-Some.others.now c.in-Some-Some.factor.now c.in-Some-Some.factors.now c.args.from c.args.to c.ends_of_first-positions.result (positions t at);
+    }
+
+pub greatest_total-argument_value-requires-clause-fits : goal.greatest_total-argument_value-requires-clause-fits
+greatest_total-argument_value-requires-clause-fits t c = fits t (goal.at.greatest_total-argument_value-requires-clause-fits t c).After-ends_of_first-positions c.loop-end.end c.loop-end.auto.end c.loop-end-test.true
+
+pub greatest_total-argument_value-requires-clause-low : goal.greatest_total-argument_value-requires-clause-low
+greatest_total-argument_value-requires-clause-low t c =
+    let at = (goal.at.greatest_total-argument_value-requires-clause-low t c).After-ends_of_first-positions in
+    let begun = (goal.at.greatest_total-argument_value-requires-clause-low t c).After-answer_is_unique in
+    first_low c.args.known.now.lines.now c.args.known.now.scores.now c.in-Some-Some.argument.now c.in-Some-Some.others.now c.in-Some-Some.factor.now c.in-Some-Some.factors.now c.args.from c.args.to (laid t begun) c.loop-end.end
+    (fits t at c.loop-end.end c.loop-end.auto.end c.loop-end-test.true)
+
+pub greatest_total-returns-clause-greatest : goal.greatest_total-returns-clause-greatest
+greatest_total-returns-clause-greatest t c =
+    let at = (goal.at.greatest_total-returns-clause-greatest t c).After-ends_of_first-positions in
+    let p = c.args.known.now.lines.now in
+    let found = all_found p c.in-Some-Some.argument.now c.in-Some-Some.others.now c.in-Some-Some.factor.now c.in-Some-Some.factors.now c.args.from c.args.to c.ends_of_first-positions.result (positions t at) c.loop-end.end c.loop-end.greatest c.loop-end-test.false c.loop-end.invariant.greatest in
+    let A : List Arg → Type 0 = λ arguments. IsGreatestOf (HasTotal p (HasBestScore p) arguments (c.in-Some-Some.factor.now ∷ c.in-Some-Some.factors.now) c.args.from c.args.to) c.loop-end.greatest in
+    let F : List ℤ → Type 0 = λ factors. IsGreatestOf (HasTotal p (HasBestScore p) c.args.arguments.now factors c.args.from c.args.to) c.loop-end.greatest in
+    subst F (sym c.in-Some-Some.ensures'.cases.0) (subst A (sym c.in-Some-Some.ensures.cases.0) found)
+
+-- the line of the others
+later_line : (t : ℕ) (c : greatest_total-After-answer_is_unique t) → IfSome c.args.known.now.line (λ line. IsLine c.args.known.now.lines.now (drop (c.args.ahead - 1) c.in-Some-Some.others.now) line)
+later_line t c =
+    let A : List Arg → Type 0 = λ arguments. IfSome c.args.known.now.line (λ line. IsLine c.args.known.now.lines.now (drop c.args.ahead arguments) line) in
+    c.line_begins_later.ensures c.args.known.now.lines.now c.in-Some-Some.argument.now c.in-Some-Some.others.now c.args.known.now.line (option_copied c.line_here.result) c.args.ahead (subst (λ (given : Option Line). option_copied c.line_here.result ≡ (if c.args.ahead == 0 then given else None)) c.as_ref.ensures.value c.line_here.ensures) (ap option_copied c.in_default.is) (subst A c.in-Some-Some.ensures.cases.0 c.requires.line)
+
+-- the alternative whose last arguments the others are
+owner_behind : (t : ℕ) (c : greatest_total-After-answer_is_unique t) → IsOwner c.args.known.now.lines.now c.args.known.now.owner c.in-Some-Some.others.now c.in-Some-Some.factors.now
+owner_behind t c =
+    let p = c.args.known.now.lines.now in
+    let A : List Arg → Type 0 = λ arguments. IsOwner p c.args.known.now.owner arguments (c.in-Some-Some.factor.now ∷ c.in-Some-Some.factors.now) in
+    let F : List ℤ → Type 0 = λ factors. IsOwner p c.args.known.now.owner c.args.arguments.now factors in
+    shorter_owner p c.args.known.now.owner c.in-Some-Some.argument.now c.in-Some-Some.others.now c.in-Some-Some.factor.now c.in-Some-Some.factors.now
+    (subst A c.in-Some-Some.ensures.cases.0 (subst F c.in-Some-Some.ensures'.cases.0 c.requires.owner))
+
+pub greatest_total-tail_total-requires : goal.greatest_total-tail_total-requires
+greatest_total-tail_total-requires t c =
+    let at = (goal.at.greatest_total-tail_total-requires t c).After-ends_of_first-positions in
+    let begun = (goal.at.greatest_total-tail_total-requires t c).After-answer_is_unique in
+    let p = c.args.known.now.lines.now in
+    let end = c.loop-end.end in
+    let l : end ≤ c.args.to = omega (arith, (positions t at).up_to_last, c.loop-end-test.true) in
+    let rest = rest_laid p c.args.known.now.scores.now c.in-Some-Some.argument.now c.in-Some-Some.others.now c.in-Some-Some.factor.now c.in-Some-Some.factors.now c.args.from c.args.to (laid t begun) end (fits t at end c.loop-end.auto.end c.loop-end-test.true) l in
+    let fewer = c.in-Some-Some.ensures.cases.1 in
+    let N : ℕ → Type 0 = λ n. IfSome c.args.known.now.line (λ line. IsLine p (drop n c.in-Some-Some.others.now) line) in
+    let ahead = subst N (sym c.saturating_sub-ahead.ensures) (later_line t begun) in
+    (search rules, (c.requires.same_problem, (c.loop-end.invariant.same, (owner_behind t begun, (ahead, (rest.weighted, (rest.span, (rest.scored, rest.low))))))))
+
+-- the product of the first argument and the total from an end on fit
+fitting : (t : ℕ) (c : greatest_total-After-answer_is_unique t) (end : ℕ) → FitsSpan c.args.known.now.lines.now (on_span c.in-Some-Some.argument.now c.args.from end) → (value : ℤ) → (AtRule (HasEntry c.args.known.now.scores.now) (on_span c.in-Some-Some.argument.now c.args.from end) → IsValue c.args.known.now.lines.now (HasBestScore c.args.known.now.lines.now) (on_span c.in-Some-Some.argument.now c.args.from end) value)
+    → (rest : ℤ) → HasTotal c.args.known.now.lines.now (HasBestScore c.args.known.now.lines.now) c.in-Some-Some.others.now c.in-Some-Some.factors.now end c.args.to rest → FitsSigned w64 (c.in-Some-Some.factor.now *ℤ value) × FitsSigned w64 rest × FitsSigned w64 ((c.in-Some-Some.factor.now *ℤ value) +ℤ rest)
+fitting t c end end_fits value told rest total = parts_fit c.args.known.now.lines.now c.args.known.now.scores.now c.in-Some-Some.argument.now c.in-Some-Some.others.now c.in-Some-Some.factor.now c.in-Some-Some.factors.now c.args.from c.args.to (laid t c) end end_fits (sound t c) value told rest total
+
+pub greatest_total-overflow_mul-factor : goal.greatest_total-overflow_mul-factor
+greatest_total-overflow_mul-factor t c =
+    let at = (goal.at.greatest_total-overflow_mul-factor t c).After-ends_of_first-positions in
+    let begun = (goal.at.greatest_total-overflow_mul-factor t c).After-answer_is_unique in
+    let end = c.loop-end.end in
+    let end_fits = fits t at end c.loop-end.auto.end c.loop-end-test.true in
+    let factor = c.in-Some-Some.factor.now in
+    let value = c.in-Some-argument_value.value in
+    let rest = c.in-Some-tail_total.rest in
+    let it = fitting t begun end end_fits value (λ entry. c.in-Some-argument_value.ensures entry) rest c.in-Some-tail_total.ensures.greatest.0 in
+    product_fits factor value (search rules) (search rules) it.0
+
+pub greatest_total-overflow_add-factor : goal.greatest_total-overflow_add-factor
+greatest_total-overflow_add-factor t c =
+    let at = (goal.at.greatest_total-overflow_add-factor t c).After-ends_of_first-positions in
+    let begun = (goal.at.greatest_total-overflow_add-factor t c).After-answer_is_unique in
+    let end = c.loop-end.end in
+    let end_fits = fits t at end c.loop-end.auto.end c.loop-end-test.true in
+    let factor = c.in-Some-Some.factor.now in
+    let value = c.in-Some-argument_value.value in
+    let rest = c.in-Some-tail_total.rest in
+    let it = fitting t begun end end_fits value (λ entry. c.in-Some-argument_value.ensures entry) rest c.in-Some-tail_total.ensures.greatest.0 in
+    sum_fits factor value (search rules) (search rules) it.0 rest it.1 it.2
+
+pub greatest_total-loop-end-preserved : goal.greatest_total-loop-end-preserved
+greatest_total-loop-end-preserved t c =
+    let at = (goal.at.greatest_total-loop-end-preserved t c).After-ends_of_first-positions in
+    let begun = (goal.at.greatest_total-loop-end-preserved t c).After-answer_is_unique in
+    let end = c.loop-end.end in
+    let end_fits = fits t at end c.loop-end.auto.end c.loop-end-test.true in
+    let factor = c.in-Some-Some.factor.now in
+    let value = c.in-Some-argument_value.value in
+    let rest = c.in-Some-tail_total.rest in
+    let it = fitting t begun end end_fits value (λ entry. c.in-Some-argument_value.ensures entry) rest c.in-Some-tail_total.ensures.greatest.0 in
+    let either : IsGreatestOf (λ number. (c.loop-end.greatest ≡ Some number) ⊎ (Some ((factor *ℤ value) +ℤ rest) ≡ Some number)) c.greater-greatest.result =
+    subst (λ total. IsGreatestOf (λ number. (c.loop-end.greatest ≡ Some number) ⊎ (Some total ≡ Some number)) c.greater-greatest.result) (sum_read factor value (search rules) (search rules) it.0 rest it.1 it.2) c.greater-greatest.ensures in
+    record {
+      same = c.in-Some-tail_total.ensures.same ∙ c.loop-end.invariant.same;
+      greatest = found_more c.args.known.now.lines.now c.args.known.now.scores.now c.in-Some-Some.argument.now c.in-Some-Some.others.now factor c.in-Some-Some.factors.now c.args.from c.args.to (laid t begun) end end_fits (sound t begun) value rest (λ entry. c.in-Some-argument_value.ensures entry) c.in-Some-tail_total.ensures.greatest c.loop-end.greatest c.greater-greatest.result c.loop-end.invariant.greatest either;
+    }
+
+pub greatest_total-loop-end-preserved-in_default-argument_value : goal.greatest_total-loop-end-preserved-in_default-argument_value
+greatest_total-loop-end-preserved-in_default-argument_value t c =
+    let at = (goal.at.greatest_total-loop-end-preserved-in_default-argument_value t c).After-ends_of_first-positions in
+    let begun = (goal.at.greatest_total-loop-end-preserved-in_default-argument_value t c).After-answer_is_unique in
+    let end = c.loop-end.end in
+    record {
+      same = c.loop-end.invariant.same;
+      greatest = unvalued_more c.args.known.now.lines.now c.args.known.now.scores.now c.in-Some-Some.argument.now c.in-Some-Some.others.now c.in-Some-Some.factor.now c.in-Some-Some.factors.now c.args.from c.args.to (laid t begun) end (fits t at end c.loop-end.auto.end c.loop-end-test.true)
+          (λ entry. c.in_default-argument_value.ensures entry) c.loop-end.greatest c.loop-end.invariant.greatest;
+    }
+
+pub greatest_total-loop-end-preserved-in_default-tail_total : goal.greatest_total-loop-end-preserved-in_default-tail_total
+greatest_total-loop-end-preserved-in_default-tail_total t c =
+    let at = (goal.at.greatest_total-loop-end-preserved-in_default-tail_total t c).After-ends_of_first-positions in
+    let begun = (goal.at.greatest_total-loop-end-preserved-in_default-tail_total t c).After-answer_is_unique in
+    let end = c.loop-end.end in
+    record {
+      same = c.in_default-tail_total.ensures.same ∙ c.loop-end.invariant.same;
+      greatest = untotalled_more c.args.known.now.lines.now c.args.known.now.scores.now c.in-Some-Some.argument.now c.in-Some-Some.others.now c.in-Some-Some.factor.now c.in-Some-Some.factors.now c.args.from c.args.to (laid t begun) end (fits t at end c.loop-end.auto.end c.loop-end-test.true)
+          c.in_default-tail_total.ensures.greatest c.loop-end.greatest c.loop-end.invariant.greatest;
+    }
+
+pub greatest_total-greatest_along-requires-clause-line : goal.greatest_total-greatest_along-requires-clause-line
+greatest_total-greatest_along-requires-clause-line t c =
+    c.line_begins_here.ensures c.args.known.now.lines.now c.args.arguments.now c.args.known.now.line (option_copied c.line_here.result) c.args.ahead c.in-Some.line.now (subst (λ (given : Option Line). option_copied c.line_here.result ≡ (if c.args.ahead == 0 then given else None)) c.as_ref.ensures.value c.line_here.ensures) (ap option_copied c.in-Some.is) c.requires.line
+
+-- ---- a token in front
+
+told_end : (t : ℕ) (c : greatest_total-In_ok-end t) → IsEndTold c.args.known.now.lines.now c.in-Some-Some.argument.now c.args.from c.args.to (Some c.in_ok-end.end)
+told_end t c = let E : Option ℕ → Type 0 = IsEndTold c.args.known.now.lines.now c.in-Some-Some.argument.now c.args.from c.args.to in
+    subst E c.in_ok-end.was c.token_end.ensures
+
+end_there : (t : ℕ) (c : greatest_total-In_ok-end t) → (c.in_ok-end.end ≤ c.args.to) × FitsSpan c.args.known.now.lines.now (on_span c.in-Some-Some.argument.now c.args.from c.in_ok-end.end)
+end_there t c = (told_end t c c.in_ok-end.end).0 (λ i. Some c.in_ok-end.end)
+
+only_end : (t : ℕ) (c : greatest_total-In_ok-end t) (other : ℕ) → FitsSpan c.args.known.now.lines.now (on_span c.in-Some-Some.argument.now c.args.from other) → Cover c.args.known.now.lines.now c.in-Some-Some.others.now other c.args.to → other ≡ c.in_ok-end.end
+only_end t c = one_ends c.args.known.now.lines.now c.in-Some-Some.argument.now c.in-Some-Some.others.now c.args.from c.args.to c.in_ok-end.end (told_end t c)
+
+-- what holds of the totals of the first argument and the others holds of those of the arguments
+of_all : (t : ℕ) (c : greatest_total-After-answer_is_unique t) (result : Option ℤ)
+    → IsGreatestOf (HasTotal c.args.known.now.lines.now (HasBestScore c.args.known.now.lines.now) (c.in-Some-Some.argument.now ∷ c.in-Some-Some.others.now) (c.in-Some-Some.factor.now ∷ c.in-Some-Some.factors.now) c.args.from c.args.to) result
+    → IsGreatestOf (HasTotal c.args.known.now.lines.now (HasBestScore c.args.known.now.lines.now) c.args.arguments.now c.args.factors.now c.args.from c.args.to) result
+of_all t c result found =
+    let p = c.args.known.now.lines.now in
+    let A : List Arg → Type 0 = λ arguments. IsGreatestOf (HasTotal p (HasBestScore p) arguments (c.in-Some-Some.factor.now ∷ c.in-Some-Some.factors.now) c.args.from c.args.to) result in
+    let F : List ℤ → Type 0 = λ factors. IsGreatestOf (HasTotal p (HasBestScore p) c.args.arguments.now factors c.args.from c.args.to) result in
+    subst F (sym c.in-Some-Some.ensures'.cases.0) (subst A (sym c.in-Some-Some.ensures.cases.0) found)
+
+pub greatest_total-returns-in_err-end-clause-greatest : goal.greatest_total-returns-in_err-end-clause-greatest
+greatest_total-returns-in_err-end-clause-greatest t c =
+    let begun = (goal.at.greatest_total-returns-in_err-end-clause-greatest t c).After-answer_is_unique in
+    let p = c.args.known.now.lines.now in
+    let argument = c.in-Some-Some.argument.now in
+    let others = c.in-Some-Some.others.now in
+    let E : Option ℕ → Type 0 = IsEndTold p argument c.args.from c.args.to in
+    let none = none_ends p argument others c.args.from c.args.to (subst E c.in_err-end.was c.token_end.ensures) in
+    of_all t begun c.from_residual.result (subst (λ (result : Option ℤ). IsGreatestOf (HasTotal p (HasBestScore p) (argument ∷ others) (c.in-Some-Some.factor.now ∷ c.in-Some-Some.factors.now) c.args.from c.args.to) result) (sym c.from_residual.ensures)
+    (total_nowhere p argument others c.args.from c.args.to none (HasBestScore p) c.in-Some-Some.factor.now c.in-Some-Some.factors.now))
+
+pub greatest_total-greatest_total-requires : goal.greatest_total-greatest_total-requires
+greatest_total-greatest_total-requires t c =
+    let begun = (goal.at.greatest_total-greatest_total-requires t c).After-answer_is_unique in
+    let p = c.args.known.now.lines.now in
+    let it = end_there t (goal.at.greatest_total-greatest_total-requires t c).In_ok-end in
+    let rest = rest_laid p c.args.known.now.scores.now c.in-Some-Some.argument.now c.in-Some-Some.others.now c.in-Some-Some.factor.now c.in-Some-Some.factors.now c.args.from c.args.to (laid t begun) c.in_ok-end.end it.1 it.0 in
+    let fewer = c.in-Some-Some.ensures.cases.1 in
+    let N : ℕ → Type 0 = λ n. IfSome c.args.known.now.line (λ line. IsLine p (drop n c.in-Some-Some.others.now) line) in
+    let ahead = subst N (sym c.saturating_sub-ahead.ensures) (later_line t begun) in
+    (search rules, (c.requires.same_problem, (c.requires.same_tails, (owner_behind t begun, (ahead, (rest.weighted, (rest.span, (rest.scored, rest.low))))))))
+
+pub greatest_total-returns-in_err-rest-clause-greatest : goal.greatest_total-returns-in_err-rest-clause-greatest
+greatest_total-returns-in_err-rest-clause-greatest t c =
+    let begun = (goal.at.greatest_total-returns-in_err-rest-clause-greatest t c).After-answer_is_unique in
+    let at = (goal.at.greatest_total-returns-in_err-rest-clause-greatest t c).In_ok-end in
+    let p = c.args.known.now.lines.now in
+    let argument = c.in-Some-Some.argument.now in
+    let others = c.in-Some-Some.others.now in
+    let G : Option ℤ → Type 0 = λ result. IsGreatestOf (HasTotal p (HasBestScore p) others c.in-Some-Some.factors.now c.in_ok-end.end c.args.to) result in
+    of_all t begun c.from_residual-in_err-rest.result (subst (λ (result : Option ℤ). IsGreatestOf (HasTotal p (HasBestScore p) (argument ∷ others) (c.in-Some-Some.factor.now ∷ c.in-Some-Some.factors.now) c.args.from c.args.to) result) (sym c.from_residual-in_err-rest.ensures)
+    (none_from p argument others c.args.from c.args.to c.in_ok-end.end (end_there t at).1 (only_end t at) (HasBestScore p) c.in-Some-Some.factor.now c.in-Some-Some.factors.now (subst G c.in_err-rest.was c.greatest_total.ensures.greatest)))
+
+pub greatest_total-token_value-requires-clause-span : goal.greatest_total-token_value-requires-clause-span
+greatest_total-token_value-requires-clause-span t c = (end_there t (goal.at.greatest_total-token_value-requires-clause-span t c).In_ok-end).1.0
+
+pub greatest_total-token_value-requires-clause-low : goal.greatest_total-token_value-requires-clause-low
+greatest_total-token_value-requires-clause-low t c =
+    let begun = (goal.at.greatest_total-token_value-requires-clause-low t c).After-answer_is_unique in
+    first_low c.args.known.now.lines.now c.args.known.now.scores.now c.in-Some-Some.argument.now c.in-Some-Some.others.now c.in-Some-Some.factor.now c.in-Some-Some.factors.now c.args.from c.args.to (laid t begun) c.in_ok-end.end
+    (end_there t (goal.at.greatest_total-token_value-requires-clause-low t c).In_ok-end).1
+
+-- the value of the token, and that its parts are low
+value_is : (t : ℕ) (c : greatest_total-After-token_value t) → IsValue c.args.known.now.lines.now (HasBestScore c.args.known.now.lines.now) (on_span c.in-Some-Some.argument.now c.args.from c.in_ok-end.end) c.token_value.result
+value_is t c =
+    let p = c.args.known.now.lines.now in
+    let argument = c.in-Some-Some.argument.now in
+    let V : ℤ → Type 0 = λ value. IsValue p (HasBestScore p) (on_span argument c.args.from c.in_ok-end.end) value in
+    subst V (sym c.token_value.ensures) (fixed_value p (HasBestScore p) argument c.args.from c.in_ok-end.end (c.is_fixed.ensures.0 c.if-is_fixed.true))
+
+rest_is : (t : ℕ) (c : greatest_total-After-token_value t) → IsGreatestOf (HasTotal c.args.known.now.lines.now (HasBestScore c.args.known.now.lines.now) c.in-Some-Some.others.now c.in-Some-Some.factors.now c.in_ok-end.end c.args.to) (Some c.in_ok-rest.rest)
+rest_is t c =
+    let p = c.args.known.now.lines.now in
+    let G : Option ℤ → Type 0 = λ result. IsGreatestOf (HasTotal p (HasBestScore p) c.in-Some-Some.others.now c.in-Some-Some.factors.now c.in_ok-end.end c.args.to) result in
+    subst G c.in_ok-rest.was c.greatest_total.ensures.greatest
+
+pub greatest_total-overflow_mul-result : goal.greatest_total-overflow_mul-result
+greatest_total-overflow_mul-result t c =
+    let begun = (goal.at.greatest_total-overflow_mul-result t c).After-answer_is_unique in
+    let at = (goal.at.greatest_total-overflow_mul-result t c).In_ok-end in
+    let behind = (goal.at.greatest_total-overflow_mul-result t c).After-token_value in
+    let factor = c.in-Some-Some.factor.now in
+    let value = c.token_value.result in
+    let rest = c.in_ok-rest.rest in
+    let it = fitting t begun c.in_ok-end.end (end_there t at).1 value (λ entry. value_is t behind) rest (rest_is t behind).0 in
+    product_fits factor value (search rules) (search rules) it.0
+
+pub greatest_total-overflow_add-result : goal.greatest_total-overflow_add-result
+greatest_total-overflow_add-result t c =
+    let begun = (goal.at.greatest_total-overflow_add-result t c).After-answer_is_unique in
+    let at = (goal.at.greatest_total-overflow_add-result t c).In_ok-end in
+    let behind = (goal.at.greatest_total-overflow_add-result t c).After-token_value in
+    let factor = c.in-Some-Some.factor.now in
+    let value = c.token_value.result in
+    let rest = c.in_ok-rest.rest in
+    let it = fitting t begun c.in_ok-end.end (end_there t at).1 value (λ entry. value_is t behind) rest (rest_is t behind).0 in
+    sum_fits factor value (search rules) (search rules) it.0 rest it.1 it.2
+
+pub greatest_total-returns-then-is_fixed-clause-greatest : goal.greatest_total-returns-then-is_fixed-clause-greatest
+greatest_total-returns-then-is_fixed-clause-greatest t c =
+    let begun = (goal.at.greatest_total-returns-then-is_fixed-clause-greatest t c).After-answer_is_unique in
+    let at = (goal.at.greatest_total-returns-then-is_fixed-clause-greatest t c).In_ok-end in
+    let behind = (goal.at.greatest_total-returns-then-is_fixed-clause-greatest t c).After-token_value in
+    let factor = c.in-Some-Some.factor.now in
+    let value = c.token_value.result in
+    let rest = c.in_ok-rest.rest in
+    let it = fitting t begun c.in_ok-end.end (end_there t at).1 value (λ entry. value_is t behind) rest (rest_is t behind).0 in
+    let found = greatest_from c.args.known.now.lines.now c.in-Some-Some.argument.now c.in-Some-Some.others.now c.args.from c.args.to c.in_ok-end.end (end_there t at).1 (only_end t at) (HasBestScore c.args.known.now.lines.now) factor c.in-Some-Some.factors.now (sound t begun).one value rest (value_is t behind) (rest_is t behind) in
+    let p = c.args.known.now.lines.now in
+    subst (λ total. IsGreatestOf (HasTotal p (HasBestScore p) c.args.arguments.now c.args.factors.now c.args.from c.args.to) (Some total)) (sym (sum_read factor value (search rules) (search rules) it.0 rest it.1 it.2))
+    (of_all t begun (Some ((factor *ℤ value) +ℤ rest)) found)
+
+-- ---- the last argument
+
+-- nothing stands behind it
+none_behind : (t : ℕ) (c : greatest_total-After-answer_is_unique t) → length c.in-Some-Some.others.now ≡ 0 → (c.in-Some-Some.others.now ≡ []) × (c.in-Some-Some.factors.now ≡ [])
+none_behind t c none =
+    let none' = empty_without c.in-Some-Some.others.now none in
+    let each : length c.in-Some-Some.factors.now ≡ 0 = omega (arith, c.requires.weighted.factors_each, ap length c.in-Some-Some.ensures.cases.0, ap length c.in-Some-Some.ensures'.cases.0, ap length none') in
+    (none', empty_without c.in-Some-Some.factors.now each)
+
+laid_alone : (t : ℕ) (c : greatest_total-After-answer_is_unique t) → length c.in-Some-Some.others.now ≡ 0 → AreLaid c.args.known.now.lines.now c.args.known.now.scores.now (c.in-Some-Some.argument.now ∷ []) (c.in-Some-Some.factor.now ∷ []) c.args.from c.args.to
+laid_alone t c none =
+    let it = none_behind t c none in
+    let p = c.args.known.now.lines.now in
+    let table = c.args.known.now.scores.now in
+    subst (λ others. AreLaid p table (c.in-Some-Some.argument.now ∷ others) (c.in-Some-Some.factor.now ∷ []) c.args.from c.args.to) it.0
+    (subst (λ factors. AreLaid p table (c.in-Some-Some.argument.now ∷ c.in-Some-Some.others.now) (c.in-Some-Some.factor.now ∷ factors) c.args.from c.args.to) it.1 (laid t c))
+
+pub greatest_total-last_total-requires-clause-weighted : goal.greatest_total-last_total-requires-clause-weighted
+greatest_total-last_total-requires-clause-weighted t c =
+    let it = laid_alone t (goal.at.greatest_total-last_total-requires-clause-weighted t c).After-answer_is_unique (search rules) in
+    let p = c.args.known.now.lines.now in
+    let argument = c.in-Some-Some.argument.now in
+    subst (λ factor. AreWeighted p (argument ∷ []) (factor ∷ [])) (sym (to_z-of_z w64 c.in-Some-Some.factor.now (search rules))) it.weighted
+
+pub greatest_total-last_total-requires-clause-scored : goal.greatest_total-last_total-requires-clause-scored
+greatest_total-last_total-requires-clause-scored t c = (laid_alone t (goal.at.greatest_total-last_total-requires-clause-scored t c).After-answer_is_unique (search rules)).scored
+
+pub greatest_total-last_total-requires-clause-low : goal.greatest_total-last_total-requires-clause-low
+greatest_total-last_total-requires-clause-low t c =
+    let it = laid_alone t (goal.at.greatest_total-last_total-requires-clause-low t c).After-answer_is_unique (search rules) in
+    let p = c.args.known.now.lines.now in
+    let argument = c.in-Some-Some.argument.now in
+    subst (λ factor. AreLow p (argument ∷ []) (factor ∷ []) c.args.from c.args.to) (sym (to_z-of_z w64 c.in-Some-Some.factor.now (search rules))) it.low
+
+pub greatest_total-returns-then-is_empty-clause-greatest : goal.greatest_total-returns-then-is_empty-clause-greatest
+greatest_total-returns-then-is_empty-clause-greatest t c =
+    let begun = (goal.at.greatest_total-returns-then-is_empty-clause-greatest t c).After-answer_is_unique in
+    let it = none_behind t begun (search rules) in
+    let p = c.args.known.now.lines.now in
+    let argument = c.in-Some-Some.argument.now in
+    let factor = c.in-Some-Some.factor.now in
+    let found = subst (λ factor. IsGreatestOf (HasTotal p (HasBestScore p) (argument ∷ []) (factor ∷ []) c.args.from c.args.to) c.last_total.result) (to_z-of_z w64 factor (search rules)) c.last_total.ensures in
+    of_all t begun c.last_total.result
+    (subst (λ others. IsGreatestOf (HasTotal p (HasBestScore p) (argument ∷ others) (factor ∷ c.in-Some-Some.factors.now) c.args.from c.args.to) c.last_total.result) (sym it.0)
+    (subst (λ factors. IsGreatestOf (HasTotal p (HasBestScore p) (argument ∷ []) (factor ∷ factors) c.args.from c.args.to) c.last_total.result) (sym it.1) found))
+
+pub greatest_total-greatest_along-requires-clause-same_problem : goal.greatest_total-greatest_along-requires-clause-same_problem
+greatest_total-greatest_along-requires-clause-same_problem t c = c.requires.same_problem
+
+pub greatest_total-greatest_along-requires-clause-weighted : goal.greatest_total-greatest_along-requires-clause-weighted
+greatest_total-greatest_along-requires-clause-weighted t c = c.requires.weighted
+
+pub greatest_total-greatest_along-requires-clause-span : goal.greatest_total-greatest_along-requires-clause-span
+greatest_total-greatest_along-requires-clause-span t c = c.requires.span
+
+pub greatest_total-greatest_along-requires-clause-scored : goal.greatest_total-greatest_along-requires-clause-scored
+greatest_total-greatest_along-requires-clause-scored t c = c.requires.scored
+
+pub greatest_total-greatest_along-requires-clause-low : goal.greatest_total-greatest_along-requires-clause-low
+greatest_total-greatest_along-requires-clause-low t c = c.requires.low
+
+pub greatest_total-last_total-requires-clause-same_problem : goal.greatest_total-last_total-requires-clause-same_problem
+greatest_total-last_total-requires-clause-same_problem t c = c.requires.same_problem
+
+pub greatest_total-last_total-requires-clause-span : goal.greatest_total-last_total-requires-clause-span
+greatest_total-last_total-requires-clause-span t c = c.requires.span
+
+pub greatest_total-argument_value-requires-clause-same_problem : goal.greatest_total-argument_value-requires-clause-same_problem
+greatest_total-argument_value-requires-clause-same_problem t c = c.requires.same_problem
+
+pub greatest_total-ends_of_first-positions-requires-clause-span : goal.greatest_total-ends_of_first-positions-requires-clause-span
+greatest_total-ends_of_first-positions-requires-clause-span t c = c.requires.span
+
+pub greatest_total-token_end-requires-clause-span : goal.greatest_total-token_end-requires-clause-span
+greatest_total-token_end-requires-clause-span t c = c.requires.span
+
+pub greatest_total-returns-in-Some-clause-greatest : goal.greatest_total-returns-in-Some-clause-greatest
+greatest_total-returns-in-Some-clause-greatest t c = c.greatest_along.ensures
+
+pub greatest_total-argument_value-requires-clause-known : goal.greatest_total-argument_value-requires-clause-known
+greatest_total-argument_value-requires-clause-known t c = (laid t (goal.at.greatest_total-argument_value-requires-clause-known t c).After-answer_is_unique).weighted.known.0
+
+pub greatest_total-token_end-requires-clause-known : goal.greatest_total-token_end-requires-clause-known
+greatest_total-token_end-requires-clause-known t c = (laid t (goal.at.greatest_total-token_end-requires-clause-known t c).After-answer_is_unique).weighted.known.0
+
+pub greatest_total-token_value-requires-clause-known : goal.greatest_total-token_value-requires-clause-known
+greatest_total-token_value-requires-clause-known t c = (laid t (goal.at.greatest_total-token_value-requires-clause-known t c).After-answer_is_unique).weighted.known.0
+
+-- ---- what is noted
+
+-- the tail that is told is that of the arguments
+told_tail : (t : ℕ) (c : tail_total-After-total t) → IsTail c.args.known.now.lines.now c.in-Some.tail c.args.arguments.now c.args.factors.now
+told_tail t c = owner_tail c.args.known.now.lines.now c.args.known.now.owner c.args.arguments.now c.args.factors.now c.in-Some.tail (sym c.in-Some.is ∙ c.tail_of.ensures) c.requires.owner
+
+pub tail_total-note-requires : goal.tail_total-note-requires
+tail_total-note-requires t c =
+    let p = c.args.known.now.lines.now in
+    let total = c.greatest_total-total.result in
+    let tail = c.in-Some.tail in
+    let it = told_tail t (goal.at.tail_total-note-requires t c).After-total in
+    let found = tail_total_is p tail c.args.arguments.now c.args.factors.now c.args.from c.args.to total it c.greatest_total-total.ensures.greatest in
+    subst (λ q. IsTailTotal q tail c.args.from c.args.to total) (sym (c.greatest_total-total.ensures.same ∙ c.requires.same_tails)) found

@@ -1,0 +1,7 @@
+use Rattle.std.proofs.Common.{◌≡◌}
+use Rattle.cell_answers.specs.CellBest.{IsBestOfFirst}
+use Rattle.cell_answers.proofs.filling.best_noting.Given as goal
+
+-- the best of what the first alternatives give
+abbrev pub invariant-loop-number : goal.invariant-loop-number
+invariant-loop-number l = record { same : l.tails ≡ l.lines; best : IsBestOfFirst l.lines l.cell l.number l.best }

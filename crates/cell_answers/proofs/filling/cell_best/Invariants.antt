@@ -1,6 +1,0 @@
-use Rattle.cell_answers.specs.CellBest.{IsBestOfFirst}
-use Rattle.cell_answers.proofs.filling.cell_best.Given as goal
-
--- the best of what the first alternatives give
-abbrev pub invariant-loop-number : goal.invariant-loop-number
-invariant-loop-number l = IsBestOfFirst l.lines l.cell l.number l.best

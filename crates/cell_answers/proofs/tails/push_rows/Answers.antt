@@ -1,0 +1,11 @@
+use Rattle.std.proofs.Common.{List, sym, subst}
+use Rattle.cell_answers.specs.declared.tails.TailRow.{TailRow}
+use Rattle.cell_answers.specs.TailRows.{AreEmpty}
+use Rattle.cell_answers.proofs.TailNotes.{empty_pushed}
+use Rattle.cell_answers.proofs.tails.push_rows.Goals as goal
+
+pub loop-count-preserved : goal.loop-count-preserved
+loop-count-preserved c =
+    let row : TailRow = record { tail = record { rule = c.args.rule; alt = c.loop-alt.alt; count = c.loop-count.count }; notes = c.new.result } in
+    let R : List TailRow → Type 0 = AreEmpty in
+    subst R (sym c.in_ok-push.ensures.items) (empty_pushed c.loop-count.rows.items row c.loop-count.invariant c.new.ensures.items)

@@ -1,0 +1,2 @@
+pub mod TailNotes
+pub mod Tails

@@ -1,7 +1,0 @@
-use Rattle.std.proofs.Common.{◌≡◌, drop}
-use Rattle.adp_model.specs.Tokens.{weight_of}
-use Rattle.split_lines.proofs.classes.weight_of.Given as goal
-
--- the letter is not among the first of the class
-abbrev pub invariant-loop-other : goal.invariant-loop-other
-invariant-loop-other l = weight_of l.class l.letter ≡ weight_of (drop l.other-index l.class) l.letter
