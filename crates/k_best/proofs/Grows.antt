@@ -1,13 +1,13 @@
 -- A list that grows: what is known of its first entries, and how one more is opened.
-use Rattle.std.proofs.Common.{◌≡◌, ℕ, zero, suc, ◌+◌, ◌<◌, ◌≤◌, ◌⊎◌, inl, inr, ℤ, Some, List, [], ◌∷◌, length, refl, sym, ap, subst, ◌∙◌, arith, ⊎_elim}
-use Rattle.std.specs.List.{AllByRecursion, AllZip}
+use Rattle.std.proofs.Common.{◌≡◌, ℕ, zero, suc, ◌+◌, ◌<◌, ◌≤◌, ◌⊎◌, inl, inr, List, [], ◌∷◌, length, sym, ap, subst, ◌∙◌, arith, ⊎_elim}
+use Rattle.std.specs.List.{AllZip}
 use Rattle.std.proofs.lemmas.Bool.{cases_lt}
 use Rattle.adp_model.specs.declared.cell.Cell.{Cell}
 use Rattle.adp_model.specs.PosedProblem.{PosedProblem}
 use Rattle.adp_model.specs.Parts.{algebra_of}
-use Rattle.first_trees.specs.FirstTrees.{AreFirst, AreFirstOf, AreInOrder, IsAt}
-use Rattle.first_trees.specs.Entries.{Entry, EntryPrecedes, AreEntries}
-use Rattle.first_trees.specs.RankedSplits.{AreFirstSplits, HasScoreAt, IsRankedSplit}
+use Rattle.first_trees.specs.FirstTrees.{AreInOrder, IsAt}
+use Rattle.first_trees.specs.Entries.{Entry, EntryPrecedes}
+use Rattle.first_trees.specs.RankedSplits.{AreFirstSplits, IsRankedSplit}
 use Rattle.k_best.specs.Settled.{IsBehind, IsListed, IsSettled}
 use Rattle.k_best.specs.RankedRows.{BeginWith, IsListing}
 use Rattle.k_best.specs.Growing.{AreHeaded, IsGrowing, IsHeaded, IsLed, raised}

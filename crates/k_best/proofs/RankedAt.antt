@@ -1,13 +1,12 @@
 -- A split at some ranks: what its arguments are worth there, or that no ranked split of its choice has such ranks.
-use Rattle.std.proofs.Common.{◌≡◌, ℕ, zero, suc, ◌+◌, ◌<◌, ◌≤◌, ℤ, List, [], ◌∷◌, ◌++◌, length, refl, sym, ap, subst, ◌∙◌, arith, append_assoc}
-use Rattle.std.specs.List.{AllZip}
+use Rattle.std.proofs.Common.{◌≡◌, ℕ, ◌≤◌, ℤ, List, [], ◌∷◌, ◌++◌, length, refl, sym, ap, subst, ◌∙◌, arith}
 use Rattle.adp_model.specs.declared.grammar.Arg.{Arg}
 use Rattle.adp_model.specs.declared.grammar.Arg.TheVariants.{Rule}
 use Rattle.adp_model.specs.declared.cell.Cell.{Cell}
 use Rattle.adp_model.specs.declared.cell.Choice.{Choice}
 use Rattle.adp_model.specs.PosedProblem.{PosedProblem}
 use Rattle.adp_model.specs.Parts.{arguments_of}
-use Rattle.adp_model.specs.Splits.{Placed, place, placed}
+use Rattle.adp_model.specs.Splits.{place, placed}
 use Rattle.first_trees.specs.FirstTrees.{IsAt}
 use Rattle.first_trees.specs.Entries.{Entry}
 use Rattle.first_trees.specs.RankedSplits.{AreRankedValues, HasScoreAt, IsRankedSplit}

@@ -122,11 +122,7 @@ fn put(basis: &Basis<'_, '_>, grown: &mut Grown, slot: usize, list: Growing)
 }
 
 /// Opens the entry at a place of a cell's list, where it is the next to be opened.
-pub fn grow(
-    basis: &Basis<'_, '_>,
-    grown: &mut Grown,
-    listed: Listed,
-) -> Result<(), AllocError>
+pub fn grow(basis: &Basis<'_, '_>, grown: &mut Grown, listed: Listed) -> Result<(), AllocError>
     requires basis { IsBasis basis.now }
     requires growing { AreGrowing basis.now.lines.now basis.now.k grown.old.lists.items }
     ensures { OnOk result (AreGrowing basis.now.lines.now basis.now.k grown.new.lists.items) }
@@ -144,11 +140,7 @@ pub fn grow(
 }
 
 /// The entry of the tree at a place of a cell's list, as far as the list has grown.
-pub fn grown_entry<'g>(
-    basis: &Basis<'_, '_>,
-    grown: &'g Grown,
-    listed: Listed,
-) -> Option<&'g Entry>
+pub fn grown_entry<'g>(basis: &Basis<'_, '_>, grown: &'g Grown, listed: Listed) -> Option<&'g Entry>
     requires basis { IsBasis basis.now }
     requires growing { AreGrowing basis.now.lines.now basis.now.k grown.now.lists.items }
     ensures { IfSome result (λ entry. (tree : Tree)

@@ -11,15 +11,15 @@ ghost use Rattle.first_trees.specs.ListReport.{IsListReport, lines_of};
 ghost use Rattle.first_trees.specs.ListLimits.{most_first_trees};
 ghost use Rattle.k_best.specs.GrowingLists.{AreGrowing, IsBasis};
 
-use crate::grown_trees::{grow_along, grown_nodes};
 use crate::growing::{Basis, Grown, Told, slot_of, told_at};
+use crate::grown_trees::{grow_along, grown_nodes};
 use crate::listed_trees::Listed;
 use crate::reports::push_lines;
 use adp_model::Problem;
 use cell_layouts::{Layout, Places};
 use first_trees::laws::{cells_have_first_trees, first_trees_are_unique};
 use report::push_number_line;
-use seq_reference::solve;
+use seq_reference::{Solved, solve};
 use split_lines::Lines;
 use std::alloc::{AllocError, Global};
 
@@ -111,6 +111,78 @@ fn report_of(
     Ok(Some(out))
 }
 
+/// The report of a word with its first trees, by lists of which none has begun.
+fn report_from(
+    alloc: Global,
+    number: u32,
+    basis: &Basis<'_, '_>,
+) -> Result<Option<Vec<u8>>, AllocError>
+    requires { IsBasis basis.now }
+    ensures { IfOk result (λ report. IfSome report (λ report.
+        IsListReport number basis.now.lines.now basis.now.k report.items)) }
+{
+    let mut grown = Grown::new(alloc, basis.lines.problem())?;
+    report_of(alloc, number, basis, &mut grown)
+}
+
+/// The report of a word with its first `k` trees, by its lines, its best scores and its layout.
+fn report_over(
+    alloc: Global,
+    number: u32,
+    lines: &Lines<'_>,
+    solved: &Solved<'_>,
+    layout: &Layout<'_>,
+    k: u32,
+) -> Result<Option<Vec<u8>>, AllocError>
+    requires some { 0 < k }
+    requires few { k ≤ most_first_trees }
+    requires solved { solved.now ≡ lines.now }
+    requires layout { layout.now ≡ lines.now }
+    ensures { IfOk result (λ report. IfSome report (λ report. IsListReport number lines.now k report.items)) }
+{
+    let basis = Basis {
+        lines,
+        solved,
+        places: Places::of(layout)?,
+        k: k as usize,
+    };
+    report_from(alloc, number, &basis)
+}
+
+/// The report of a word with its first `k` trees, by its lines and its best scores.
+fn report_by_lines(
+    alloc: Global,
+    number: u32,
+    lines: &Lines<'_>,
+    solved: &Solved<'_>,
+    k: u32,
+) -> Result<Option<Vec<u8>>, AllocError>
+    requires some { 0 < k }
+    requires few { k ≤ most_first_trees }
+    requires solved { solved.now ≡ lines.now }
+    ensures { IfOk result (λ report. IfSome report (λ report. IsListReport number lines.now k report.items)) }
+{
+    let layout = Layout::new(alloc, lines.problem())?;
+    report_over(alloc, number, lines, solved, &layout, k)
+}
+
+/// The report of a word with its first `k` trees, by its best scores.
+fn report_by_scores(
+    alloc: Global,
+    number: u32,
+    problem: &Problem<'_>,
+    solved: &Solved<'_>,
+    k: u32,
+) -> Result<Option<Vec<u8>>, AllocError>
+    requires some { 0 < k }
+    requires few { k ≤ most_first_trees }
+    requires solved { solved.now ≡ problem.now }
+    ensures { IfOk result (λ report. IfSome report (λ report. IsListReport number problem.now k report.items)) }
+{
+    let lines = Lines::new(alloc, problem)?;
+    report_by_lines(alloc, number, &lines, solved, k)
+}
+
 /// The report of a word with its first `k` trees, by lists that grow as far as they are asked for, where they grow as
 /// far.
 pub fn grown_report(
@@ -123,15 +195,6 @@ pub fn grown_report(
     requires few { k ≤ most_first_trees }
     ensures { IfOk result (λ report. IfSome report (λ report. IsListReport number problem.now k report.items)) }
 {
-    let lines = Lines::new(alloc, problem)?;
-    let layout = Layout::new(alloc, problem)?;
     let solved = solve(alloc, problem)?;
-    let basis = Basis {
-        lines: &lines,
-        solved: &solved,
-        places: Places::of(&layout)?,
-        k: k as usize,
-    };
-    let mut grown = Grown::new(alloc, problem)?;
-    report_of(alloc, number, &basis, &mut grown)
+    report_by_scores(alloc, number, problem, &solved, k)
 }

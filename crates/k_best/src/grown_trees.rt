@@ -10,8 +10,8 @@ ghost use Rattle.traceback.specs.Preorder.{nodes_of};
 ghost use Rattle.k_best.specs.GrowingLists.{AreGrowing, IsBasis};
 ghost use Rattle.k_best.specs.ListedNodes.{IsListedMore, IsUnlisted};
 
-use crate::grown_lists::{begin, grow, grown_entry};
 use crate::growing::{Basis, Grown};
+use crate::grown_lists::{begin, grow, grown_entry};
 use crate::listed_trees::{Listed, push_children, whole_trees_are_small};
 use adp_model::laws::derivation::children_are_placed;
 use first_trees::laws::first_trees_are_unique;

@@ -12,7 +12,7 @@ ghost use Rattle.k_best.specs.GrowingLists.{AreGrowing, IsBasis, IsGrowingList, 
 ghost use Rattle.k_best.specs.RankedRows.{IsListing};
 
 use crate::entry::Entry;
-use crate::growing::{Basis, Grown, Growing};
+use crate::growing::{Basis, Growing, Grown};
 use crate::ranked::meet_at;
 use adp_model::laws::demand::demanded_cells_are_counted;
 use adp_model::laws::splits::ranks_tell_splits_apart;
@@ -144,11 +144,7 @@ fn first_unopened(list: &Growing) -> Option<Entry>
 
 /// Opens the first entry of a list that isn't opened yet, where there is one. Tells whether all is known that comes
 /// next to it.
-pub fn open(
-    basis: &Basis<'_, '_>,
-    grown: &Grown,
-    list: &mut Growing,
-) -> Result<bool, AllocError>
+pub fn open(basis: &Basis<'_, '_>, grown: &Grown, list: &mut Growing) -> Result<bool, AllocError>
     requires basis { IsBasis basis.now }
     requires growing { AreGrowing basis.now.lines.now basis.now.k grown.now.lists.items }
     requires list { IsGrowingList basis.now.lines.now basis.now.k list.old }

@@ -14,10 +14,9 @@ use crate::chosen::Chosen;
 use crate::entry::Entry;
 use crate::growing::{Basis, Grown, Told, told_at};
 use crate::split_ranks::{Split, meet_chosen, token_value};
-use adp_model::Arg;
-use adp_model::Cell;
 use adp_model::laws::bounds::words_keep_their_score_bound;
 use adp_model::laws::well_formed::arguments_are_few_and_known;
+use adp_model::{Arg, Cell};
 use first_trees::laws::{entries_are_in_strict_order, lower_ranks_come_first};
 use std::alloc::AllocError;
 use traceback::NodeAt;
@@ -116,7 +115,16 @@ pub fn meet_at(
     let ends = [first, second, third, node.cell.to];
     let arguments = problem.arguments(node.cell.rule, node.choice.alt);
     let from = node.cell.from;
-    match split_at(basis, grown, node, arguments, from, &ends, ranks, Chosen::none()) {
+    match split_at(
+        basis,
+        grown,
+        node,
+        arguments,
+        from,
+        &ends,
+        ranks,
+        Chosen::none(),
+    ) {
         Ranked::Found(chosen) => {
             let split = Split {
                 lines: basis.lines,

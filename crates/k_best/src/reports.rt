@@ -167,6 +167,20 @@ fn preferred_report(
     solved_report(alloc, number, problem, &solved)
 }
 
+/// The report of a word with its first `k` trees, by whole lists.
+fn listed_report(
+    alloc: Global,
+    number: u32,
+    problem: &Problem<'_>,
+    k: u32,
+) -> Result<Vec<u8>, AllocError>
+    requires { k ≤ most_first_trees }
+    ensures { IfOk result (λ report. IsListReport number problem.now k report.items) }
+{
+    let lists = solve_lists(alloc, problem, k)?;
+    list_report(alloc, number, problem, &lists)
+}
+
 /// The report of a word with its first `k` trees. Makes lists only where more than one tree is asked for.
 ///
 /// # Errors
@@ -189,6 +203,5 @@ pub fn first_trees_report(
             return Ok(report);
         }
     }
-    let lists = solve_lists(alloc, problem, k)?;
-    list_report(alloc, number, problem, &lists)
+    listed_report(alloc, number, problem, k)
 }

@@ -1,4 +1,4 @@
-use Rattle.std.proofs.Common.{◌≡◌, ℕ, ℤ, Option, MatchOption, FitsSigned, w64, sym, subst, ◌∙◌, rules}
+use Rattle.std.proofs.Common.{ℕ, ℤ, Option, MatchOption, FitsSigned, w64, sym, subst, ◌∙◌, rules}
 use Rattle.std.proofs.lemmas.Int.{to_z-of_z}
 use Rattle.adp_model.specs.Answers.{HasNoTree}
 use Rattle.adp_model.specs.Bellman.{HasBestScore}

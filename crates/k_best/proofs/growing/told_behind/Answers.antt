@@ -1,4 +1,4 @@
-use Rattle.std.proofs.Common.{◌≡◌, FitsSigned, w64, List, ◌≤◌, length, subst, ◌∙◌, arith, rules}
+use Rattle.std.proofs.Common.{FitsSigned, w64, List, ◌≤◌, length, subst, ◌∙◌, arith, rules}
 use Rattle.std.proofs.lemmas.Int.{to_z-of_z}
 use Rattle.adp_model.specs.declared.cell.Cell.{Cell}
 use Rattle.adp_model.specs.Demand.{IsDemanded}

@@ -1,4 +1,4 @@
-use Rattle.std.proofs.Common.{◌≡◌, List, sym, subst}
+use Rattle.std.proofs.Common.{List, sym, subst}
 use Rattle.first_trees.specs.Entries.{Entry}
 use Rattle.first_trees.specs.FirstTrees.{IsAt}
 use Rattle.k_best.proofs.InOrder.{get_at}

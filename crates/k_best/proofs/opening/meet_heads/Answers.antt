@@ -2,8 +2,6 @@ use Rattle.std.proofs.Common.{◌≡◌, ◌≤◌, ℕ, List, refl, sym, subst,
 use Rattle.adp_model.specs.ProblemFields.{IsAdmissible}
 use Rattle.adp_model.specs.Splits.{IsViable}
 use Rattle.adp_model.specs.Walk.{ranks_of}
-use Rattle.first_trees.specs.Entries.{Entry}
-use Rattle.first_trees.specs.RankedSplits.{IsRankedSplit}
 use Rattle.k_best.specs.Growing.{IsHeaded}
 use Rattle.k_best.specs.GrowingLists.{no_ranks}
 use Rattle.k_best.proofs.Told.{headed_kept, zeros_under}

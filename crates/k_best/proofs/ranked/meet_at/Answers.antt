@@ -1,5 +1,4 @@
 use Rattle.std.proofs.Common.{◌≡◌, ◌++◌, ℕ, List, take, sym, ap, subst}
-use Rattle.first_trees.specs.Entries.{Entry}
 use Rattle.k_best.specs.Chosen.{ranks_of, values_of}
 use Rattle.k_best.specs.Growing.{AreUnder}
 use Rattle.k_best.specs.RankedRows.{BeginWith}
