@@ -9,3 +9,8 @@ pub mod Fills
 pub mod Unlisted
 pub mod AtPlaces
 pub mod Reporting
+pub mod Agreeing
+pub mod Raised
+pub mod Grows
+pub mod RankedAt
+pub mod Told

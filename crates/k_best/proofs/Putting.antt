@@ -5,7 +5,7 @@ use Rattle.adp_model.specs.declared.grammar.Goal.{Goal}
 use Rattle.first_trees.specs.FirstTrees.{AreInOrder, IsAt}
 use Rattle.first_trees.specs.Entries.{Entry, EntryPrecedes}
 use Rattle.k_best.specs.Settled.{IsListed, IsSettled}
-use Rattle.k_best.proofs.InOrder.{nothing_at, some_one, all_joined, put_in_order, taken_in_order, taken_or_behind}
+use Rattle.k_best.proofs.InOrder.{all_at, nothing_at, some_one, all_joined, put_in_order, taken_in_order, taken_or_behind}
 
 -- ---- items of a list with one item more
 
@@ -55,6 +55,21 @@ all_taken P zero items all = tt
 all_taken P (suc count) [] all = tt
 all_taken P (suc count) (x ∷ items) all = (all.0, all_taken P count items all.1)
 
+stays_taken : {X : Type 0} (count : ℕ) (items : List X) (place : ℕ) (item : X) → place < count → IsAt items place item
+    → IsAt (take count items) place item
+stays_taken zero items place item l at = absurd (omega arith)
+stays_taken (suc count) [] place item l at = absurd (nothing_at item at)
+stays_taken (suc count) (x ∷ items) zero item l at = at
+stays_taken (suc count) (x ∷ items) (suc place) item l at = stays_taken count items place item (omega arith) at
+
+-- an item of two lists stands in the first, or at the place behind that in the second
+front_or_back : {X : Type 0} (xs ys : List X) (place : ℕ) (item : X) → IsAt (xs ++ ys) place item
+    → ((place < length xs) × IsAt xs place item) ⊎ ((other : ℕ) × IsAt ys other item)
+front_or_back [] ys place item at = inr (place, at)
+front_or_back (x ∷ xs) ys zero item at = inl (omega arith, at)
+front_or_back (x ∷ xs) ys (suc place) item at =
+    ⊎_elim (λ front. inl (omega (arith, front.0), front.1)) (λ back. inr back) (front_or_back xs ys place item at)
+
 -- ---- the entry is put between those before it and those behind it
 
 module _ (goal : Goal) (transitive : (a b c : Entry) → EntryPrecedes goal a b → EntryPrecedes goal b c → EntryPrecedes goal a c)
@@ -77,6 +92,18 @@ module _ (goal : Goal) (transitive : (a b c : Entry) → EntryPrecedes goal a b 
   put_settled =
       taken_or_behind (EntryPrecedes goal) transitive k (front ++ entry ∷ back) (length front) entry all_put
       (at_put front back entry)
+
+  -- what comes before the new entry stands where it stood
+  pub put_front : ((a : Entry) → EntryPrecedes goal a a → ⊥) → (place : ℕ) (other : Entry) → IsAt (front ++ back) place other
+      → EntryPrecedes goal other entry → IsAt (take k (front ++ entry ∷ back)) place other
+  put_front irreflexive place other at earlier =
+      ⊎_elim
+      (λ (stands : (place < length front) × IsAt front place other).
+      let l : place < length front = stands.0 in
+      stays_taken k (front ++ entry ∷ back) place other (omega (arith, few, length-append front back)) (at_front front (entry ∷ back) place other stands.1))
+      (λ (stands : (other' : ℕ) × IsAt back other' other).
+      absurd (irreflexive entry (transitive entry other entry (all_at (EntryPrecedes goal entry) back stands.0 other behind stands.1) earlier)))
+      (front_or_back front back place other at)
 
   -- what comes behind all of as many entries as are asked for comes behind the new one too, where that is not the last
   -- one itself

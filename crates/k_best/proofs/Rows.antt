@@ -79,7 +79,7 @@ module _ (p : PosedProblem) (k : ℕ) where
   finds_more child rest laid again token from to ranks (v ∷ vs) r others [] r' = absurd r'
   finds_more child rest laid again token from to ranks (v ∷ vs) r others (w ∷ ws) r' = again ranks vs r.1 others ws r'.1
 
-  finds : (laid : List Placed) (child : Cell) (rest : List Placed) → Finds laid child rest
+  pub finds : (laid : List Placed) (child : Cell) (rest : List Placed) → Finds laid child rest
   finds [] child rest [] [] r [] values' r' = absurd r'
   finds [] child rest [] [] r (y ∷ ys) [] r' = absurd r'
   finds [] child rest [] [] r (y ∷ ys) (w ∷ ws) r' = (y, w, refl, r'.0)

@@ -16,15 +16,19 @@ use Rattle.k_best.specs.Settled.{IsSettled}
 abbrev pub no_turns : List ℕ
 no_turns = 0 ∷ 0 ∷ 0 ∷ []
 
--- the ranked splits of an alternative with cuts before these are settled
-pub record IsWalked (p : PosedProblem) (k : ℕ) (cell : Cell) (alternative : ℕ) (turns cuts : List ℕ) (old new : List Entry)
-    : Type 0 where
+-- what is settled is done with
+abbrev pub settled : PosedProblem → ℕ → List Entry → Entry → Type 0
+settled p k = IsSettled (algebra_of p).goal k
+
+-- the ranked splits of an alternative with cuts before these are done with, as settled ones are
+pub record IsWalked (p : PosedProblem) (k : ℕ) (cell : Cell) (IsDone : List Entry → Entry → Type 0) (alternative : ℕ)
+    (turns cuts : List ℕ) (old new : List Entry) : Type 0 where
   pub straight : turns ≡ no_turns
   pub viable : IsViable p cell alternative cuts
   pub listing : IsListing p k cell new
-  pub kept : (entry : Entry) → IsSettled (algebra_of p).goal k old entry → IsSettled (algebra_of p).goal k new entry
+  pub kept : (entry : Entry) → IsDone old entry → IsDone new entry
   pub met : (entry : Entry) → IsRankedSplit p k cell entry → entry.choice.alt ≡ alternative
-      → IsVisitedBefore cell no_turns entry.choice.cuts cuts → IsSettled (algebra_of p).goal k new entry
+      → IsVisitedBefore cell no_turns entry.choice.cuts cuts → IsDone new entry
 
 -- ---- how many steps a walk has left at most
 
@@ -103,16 +107,16 @@ module _ (p : PosedProblem) (cell : Cell) (alternative : ℕ)
 
 -- ---- one split more
 
-module _ (p : PosedProblem) (k : ℕ) (cell : Cell) (alternative : ℕ)
+module _ (p : PosedProblem) (k : ℕ) (cell : Cell) (IsDone : List Entry → Entry → Type 0) (alternative : ℕ)
     (apart : (cuts others : List ℕ) → IsViable p cell alternative cuts → IsViable p cell alternative others
     → ranks_of cell no_turns cuts ≡ ranks_of cell no_turns others → cuts ≡ others)
-    (turns cuts : List ℕ) (old middle new : List Entry) (walked : IsWalked p k cell alternative turns cuts old middle)
-    (kept : (entry : Entry) → IsSettled (algebra_of p).goal k middle entry → IsSettled (algebra_of p).goal k new entry)
+    (turns cuts : List ℕ) (old middle new : List Entry) (walked : IsWalked p k cell IsDone alternative turns cuts old middle)
+    (kept : (entry : Entry) → IsDone middle entry → IsDone new entry)
     (met : (entry : Entry) → IsRankedSplit p k cell entry
-    → entry.choice ≡ record { alt = alternative; cuts = cuts } → IsSettled (algebra_of p).goal k new entry) where
-  -- what isn't visited behind these cuts is settled now
+    → entry.choice ≡ record { alt = alternative; cuts = cuts } → IsDone new entry) where
+  -- what isn't visited behind these cuts is done with now
   up_to_here : (entry : Entry) → IsRankedSplit p k cell entry → entry.choice.alt ≡ alternative
-      → (IsVisitedBefore cell no_turns cuts entry.choice.cuts → ⊥) → IsSettled (algebra_of p).goal k new entry
+      → (IsVisitedBefore cell no_turns cuts entry.choice.cuts → ⊥) → IsDone new entry
   up_to_here entry is by not_behind =
       let viable = subst (λ a. IsViable p cell a entry.choice.cuts) by is.viable in
       ⊎_elim
@@ -123,14 +127,14 @@ module _ (p : PosedProblem) (k : ℕ) (cell : Cell) (alternative : ℕ)
       (visited p cell alternative apart cuts entry.choice.cuts walked.viable viable)
 
   pub all_walked : IsLastVisited p cell alternative turns cuts → (entry : Entry) → IsRankedSplit p k cell entry
-      → entry.choice.alt ≡ alternative → IsSettled (algebra_of p).goal k new entry
+      → entry.choice.alt ≡ alternative → IsDone new entry
   all_walked last entry is by =
       let viable = subst (λ a. IsViable p cell a entry.choice.cuts) by is.viable in
       up_to_here entry is by
       (subst (λ t. IsLastVisited p cell alternative t cuts) walked.straight last entry.choice.cuts viable)
 
   pub walked_on : (next : List ℕ) → IsNextVisited p cell alternative turns cuts next → IsListing p k cell new
-      → IsWalked p k cell alternative turns next old new
+      → IsWalked p k cell IsDone alternative turns next old new
   walked_on next is_next listing =
       let straight = subst (λ t. IsNextVisited p cell alternative t cuts next) walked.straight is_next in
       record {

@@ -5,3 +5,5 @@ pub mod ListedNodes
 pub mod ListsFields
 pub mod Chosen
 pub mod RankedRows
+pub mod Growing
+pub mod GrowingLists

@@ -58,13 +58,12 @@ fn meet_alternative<'s, 'a>(
     loop {
         let split = Split {
             lines,
-            table,
             k,
             cell,
             choice: Choice { alt, cuts: cuts.at },
             term,
         };
-        meet_split(split, listed)?;
+        meet_split(split, table, listed)?;
         if !lines.next_viable(cell, alt, &mut cuts) {
             return Ok(());
         }

@@ -29,7 +29,8 @@ impl Model for Entry {
 }
 
 impl Entry {
-    ghost use Rattle.std.specs.Prelude.{◌≡◌, ◌≤◌, length, take};
+    ghost use Rattle.std.specs.Prelude.{◌≡◌, ◌<◌, ◌≤◌, IfSome, length, take};
+    ghost use Rattle.k_best.specs.Growing.{raised};
 
     /// The entry with the first so many of these ranks.
     pub(crate) fn new(score: i64, choice: Choice, ranks: [u8; 4], count: u8) -> Entry
@@ -67,6 +68,31 @@ impl Entry {
         ensures few { length result.now ≤ 4 }
     {
         &self.ranks[..self.count as usize]
+    }
+
+    /// The same entry once more.
+    pub(crate) fn same(&self) -> Entry
+        ensures { result ≡ self.now }
+    {
+        Entry {
+            score: self.score,
+            choice: self.choice,
+            ranks: self.ranks,
+            count: self.count,
+        }
+    }
+
+    /// The ranks, with the one at this place greater by one: in an entry that is none of a cell's yet.
+    pub(crate) fn raised(&self, number: usize) -> Option<Entry>
+        requires { number < length self.now.ranks }
+        ensures { IfSome result (λ entry. entry.ranks ≡ raised number self.now.ranks) }
+    {
+        let mut ranks = self.ranks;
+        let Some(rank) = ranks[number].checked_add(1) else {
+            return None;
+        };
+        ranks[number] = rank;
+        Some(Entry::new(self.score, self.choice, ranks, self.count))
     }
 }
 

@@ -6,10 +6,16 @@ mod cell_list;
 mod chosen;
 mod entry;
 mod filling;
+mod growing;
+mod grown_lists;
+mod grown_report;
+mod grown_trees;
 mod list_table;
 mod listed_trees;
 mod listing;
 mod lists;
+mod opening;
+mod ranked;
 mod reports;
 mod split_ranks;
 

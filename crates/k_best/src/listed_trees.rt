@@ -30,7 +30,7 @@ pub struct Listed {
 }
 
 /// Trees of the whole word have few nodes.
-fn whole_trees_are_small(problem: &Problem<'_>)
+pub fn whole_trees_are_small(problem: &Problem<'_>)
     ensures { (tree : Tree) → Derives problem.now (axiom_cell problem.now) tree
         → length (nodes_of tree) ≤ most_nodes }
 {
@@ -76,7 +76,7 @@ fn push_listed(
 }
 
 /// Puts the listed trees of a split's rule arguments on the stack, the first on top.
-fn push_children(
+pub fn push_children(
     waiting: &mut Vec<Listed>,
     problem: &Problem<'_>,
     cell: Cell,

@@ -2,7 +2,7 @@
 
 ghost use Rattle.std.specs.Prelude.{◌≡◌, ◌⊎◌, ℕ, ◌<◌, ◌≤◌, IfOk, Some, false, length, take, drop, slice_get};
 ghost use Rattle.std.specs.List.{AllByRecursion};
-ghost use Rattle.first_trees.specs.FirstTrees.{AreInOrder};
+ghost use Rattle.first_trees.specs.FirstTrees.{AreInOrder, IsAt};
 ghost use Rattle.first_trees.specs.Entries.{Entry as EntryValue, EntryPrecedes};
 ghost use Rattle.k_best.specs.Settled.{IsBehind, IsComparable, IsListed, IsSettled};
 
@@ -40,6 +40,8 @@ pub fn meet(goal: Goal, k: usize, listed: &mut Vec<Entry>, entry: Entry) -> Resu
         → IsSettled goal k listed.new.items other) }
     ensures settled { IfOk result (λ _. IsSettled goal k listed.new.items entry) }
     ensures out { IfOk result (λ is_in. is_in ≡ false → IsBehind goal k listed.new.items entry) }
+    ensures front { IfOk result (λ _. (place : ℕ) (other : EntryValue) → IsAt listed.old.items place other
+        → EntryPrecedes goal other entry → IsAt listed.new.items place other) }
 {
     entries_are_in_strict_order();
     let place = place_of(goal, listed, &entry);

@@ -13,6 +13,7 @@ ghost use Rattle.first_trees.specs.ListReport.{IsListReport, lines_of};
 ghost use Rattle.first_trees.specs.ListLimits.{most_first_trees};
 ghost use Rattle.k_best.specs.ListedNodes.{AreScoredNodes};
 
+use crate::grown_report::grown_report;
 use crate::listed_trees::tree_nodes;
 use crate::lists::{Lists, solve_lists};
 use adp_model::laws::order::preferred_tree_is_unique;
@@ -25,7 +26,7 @@ use std::alloc::{AllocError, Global};
 use traceback::{NodeAt, preorder};
 
 /// Appends the lines of a tree of the whole word: its score and its text, from its nodes.
-fn push_lines(
+pub fn push_lines(
     alloc: Global,
     out: &mut Vec<u8>,
     problem: &Problem<'_>,
@@ -166,6 +167,20 @@ fn preferred_report(
     solved_report(alloc, number, problem, &solved)
 }
 
+/// The report of a word with its first `k` trees, by whole lists.
+fn listed_report(
+    alloc: Global,
+    number: u32,
+    problem: &Problem<'_>,
+    k: u32,
+) -> Result<Vec<u8>, AllocError>
+    requires { k ≤ most_first_trees }
+    ensures { IfOk result (λ report. IsListReport number problem.now k report.items) }
+{
+    let lists = solve_lists(alloc, problem, k)?;
+    list_report(alloc, number, problem, &lists)
+}
+
 /// The report of a word with its first `k` trees. Makes lists only where more than one tree is asked for.
 ///
 /// # Errors
@@ -183,6 +198,10 @@ pub fn first_trees_report(
     if k == 1 {
         return preferred_report(alloc, number, problem);
     }
-    let lists = solve_lists(alloc, problem, k)?;
-    list_report(alloc, number, problem, &lists)
+    if k > 1 {
+        if let Some(report) = grown_report(alloc, number, problem, k)? {
+            return Ok(report);
+        }
+    }
+    listed_report(alloc, number, problem, k)
 }

@@ -3,7 +3,8 @@
 ghost use Rattle.std.specs.Prelude.{◌≡◌, ◌<◌, ◌≤◌, ℕ, IfOk, false, [], length, nat_abs};
 ghost use Rattle.adp_model.specs.declared.cell.Cell.{Cell as CellValue};
 ghost use Rattle.adp_model.specs.declared.grammar.Arg.{Arg as ArgValue};
-ghost use Rattle.first_trees.specs.Entries.{Entry as EntryValue};
+ghost use Rattle.first_trees.specs.Entries.{Entry as EntryValue, EntryPrecedes};
+ghost use Rattle.first_trees.specs.FirstTrees.{IsAt};
 ghost use Rattle.adp_model.specs.PosedProblem.{IsSpan};
 ghost use Rattle.adp_model.specs.Parts.{algebra_of, arguments_of, term_of};
 ghost use Rattle.adp_model.specs.Splits.{IsViable, placed};
@@ -11,7 +12,7 @@ ghost use Rattle.adp_model.specs.ProblemFields.{greatest_score};
 ghost use Rattle.adp_model.specs.Tokens.{letters_between, token_value};
 ghost use Rattle.adp_model.specs.WellFormed.{IsKnown};
 ghost use Rattle.adp_model.specs.Demand.{IsDemandedChild};
-ghost use Rattle.first_trees.specs.RankedSplits.{AreRankedValues};
+ghost use Rattle.first_trees.specs.RankedSplits.{AreRankedValues, IsRankedSplit};
 ghost use Rattle.k_best.specs.Chosen.{ranks_of, values_of};
 ghost use Rattle.k_best.specs.Settled.{IsSettled};
 ghost use Rattle.k_best.specs.ListTables.{HasList, IsLaidOut};
@@ -37,7 +38,6 @@ use term_values::laws::terms_have_their_values;
 #[derive(Clone, Copy)]
 pub struct Split<'s, 'a> {
     pub lines: &'s Lines<'a>,
-    pub table: &'s ListTable<'a>,
     pub k: usize,
     pub cell: Cell,
     pub choice: Choice,
@@ -45,7 +45,7 @@ pub struct Split<'s, 'a> {
 }
 
 /// Puts the ranked split with these ranks among the first entries. Tells whether it is one of them.
-fn meet_chosen(
+pub fn meet_chosen(
     split: Split<'_, '_>,
     chosen: Chosen,
     listed: &mut Vec<Entry>,
@@ -69,6 +69,10 @@ fn meet_chosen(
     ensures out { IfOk result (λ is_in. is_in ≡ false
         → AreSettled split.entry.lines.now split.entry.k split.entry.cell split.entry.choice
         (AreNotBelow (ranks_of chosen)) listed.new.items) }
+    ensures front { IfOk result (λ _. (place : ℕ) (other : EntryValue) → IsAt listed.old.items place other
+        → ((entry : EntryValue) → IsRankedSplit split.entry.lines.now split.entry.k split.entry.cell entry
+        → entry.choice ≡ split.entry.choice → entry.ranks ≡ ranks_of chosen
+        → EntryPrecedes (algebra_of split.entry.lines.now).goal other entry) → IsAt listed.new.items place other) }
 {
     let problem = split.lines.problem();
     problem.admissible();
@@ -85,7 +89,7 @@ fn meet_chosen(
 }
 
 /// What letters that a token matches are worth.
-fn token_value(lines: &Lines<'_>, token: &Arg, from: u16, to: u16) -> i64
+pub fn token_value(lines: &Lines<'_>, token: &Arg, from: u16, to: u16) -> i64
     requires known { IsKnown lines.now.grammar token.now }
     requires span { IsSpan lines.now.word from to }
     requires low { nat_abs (token_value lines.now.grammar token.now (letters_between lines.now.word from to))
@@ -101,18 +105,19 @@ fn token_value(lines: &Lines<'_>, token: &Arg, from: u16, to: u16) -> i64
 /// Puts the ranked splits among the first entries whose ranks begin with those that are chosen, the other arguments
 /// laid from `from` on. Tells whether the first of them is one of these; else no split with ranks from the chosen ones
 /// on is.
-pub fn meet_ranked(
+fn meet_ranked(
     split: Split<'_, '_>,
+    table: &ListTable<'_>,
     arguments: &[Arg],
     from: u16,
     ends: &[u16],
     chosen: Chosen,
     listed: &mut Vec<Entry>,
 ) -> Result<bool, AllocError>
-    requires laid { IsLaidOut split.lines.now split.table.now }
+    requires laid { IsLaidOut split.lines.now table.now }
     requires small { split.k ≤ 64 }
     requires lists { (child : CellValue) → IsDemandedChild split.lines.now split.cell child
-        → HasList split.k split.table.now child }
+        → HasList split.k table.now child }
     requires span { IsSpan split.lines.now.word split.cell.from split.cell.to }
     requires viable { IsViable split.lines.now split.cell split.choice.alt split.choice.cuts }
     requires term { split.term.now ≡ term_of split.lines.now split.cell.rule split.choice.alt }
@@ -144,14 +149,14 @@ pub fn meet_ranked(
     first_trees_are_unique();
     match argument {
         Arg::Rule(rule) => {
-            let list = split.table.list(Cell {
+            let list = table.list(Cell {
                 rule: *rule,
                 from,
                 to: *to,
             });
             for (rank, entry) in list.iter().enumerate() {
                 let next = chosen.with_value(entry.score()).with_rank(rank as u8);
-                if !meet_ranked(split, others, *to, later, next, listed)? {
+                if !meet_ranked(split, table, others, *to, later, next, listed)? {
                     return Ok(rank > 0);
                 }
             }
@@ -159,17 +164,21 @@ pub fn meet_ranked(
         }
         token => {
             let next = chosen.with_value(token_value(split.lines, token, from, *to));
-            meet_ranked(split, others, *to, later, next, listed)
+            meet_ranked(split, table, others, *to, later, next, listed)
         }
     }
 }
 
 /// Puts all ranked splits of a viable split among the first entries.
-pub fn meet_split(split: Split<'_, '_>, listed: &mut Vec<Entry>) -> Result<(), AllocError>
-    requires laid { IsLaidOut split.lines.now split.table.now }
+pub fn meet_split(
+    split: Split<'_, '_>,
+    table: &ListTable<'_>,
+    listed: &mut Vec<Entry>,
+) -> Result<(), AllocError>
+    requires laid { IsLaidOut split.lines.now table.now }
     requires small { split.k ≤ 64 }
     requires lists { (child : CellValue) → IsDemandedChild split.lines.now split.cell child
-        → HasList split.k split.table.now child }
+        → HasList split.k table.now child }
     requires span { IsSpan split.lines.now.word split.cell.from split.cell.to }
     requires viable { IsViable split.lines.now split.cell split.choice.alt split.choice.cuts }
     requires term { split.term.now ≡ term_of split.lines.now split.cell.rule split.choice.alt }
@@ -190,6 +199,7 @@ pub fn meet_split(split: Split<'_, '_>, listed: &mut Vec<Entry>) -> Result<(), A
         .arguments(split.cell.rule, split.choice.alt);
     meet_ranked(
         split,
+        table,
         arguments,
         split.cell.from,
         &ends,

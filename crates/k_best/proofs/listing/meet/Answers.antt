@@ -1,10 +1,10 @@
 use Rattle.std.proofs.Common.{◌≡◌, ◌<◌, ◌≤◌, ◌++◌, ◌∷◌, ◌⊎◌, List, length, drop, take, refl, sym, ap, subst, ◌∙◌, arith, length-take}
 use Rattle.std.specs.List.{AllByRecursion}
-use Rattle.first_trees.specs.FirstTrees.{AreInOrder}
+use Rattle.first_trees.specs.FirstTrees.{AreInOrder, IsAt}
 use Rattle.first_trees.specs.Entries.{Entry, EntryPrecedes}
 use Rattle.k_best.specs.Settled.{IsListed, IsSettled}
 use Rattle.k_best.proofs.InOrder.{all_behind, get_at, none_behind, taken_dropped}
-use Rattle.k_best.proofs.Putting.{put_from, put_kept, put_ordered, put_settled}
+use Rattle.k_best.proofs.Putting.{put_from, put_front, put_kept, put_ordered, put_settled}
 use Rattle.k_best.proofs.listing.meet.Goals as goal
 use Rattle.k_best.proofs.listing.meet.Goals.{After-truncate, in-Some+else-not-precedes, in_default}
 
@@ -74,3 +74,11 @@ returns-clause-settled c =
     (put_settled c.args.goal (c.entries_are_in_strict_order.ensures.transitive c.args.goal) c.args.k
     (take c.place_of-place.result c.args.listed.now.items) (drop c.place_of-place.result c.args.listed.now.items)
     c.args.entry (ordered c) (before c) (behind c) (few c))
+
+pub returns-clause-front : goal.returns-clause-front
+returns-clause-front c place other at earlier =
+    subst (λ (items : List Entry). IsAt items place other) (made c)
+    (put_front c.args.goal (c.entries_are_in_strict_order.ensures.transitive c.args.goal) c.args.k
+    (take c.place_of-place.result c.args.listed.now.items) (drop c.place_of-place.result c.args.listed.now.items)
+    c.args.entry (ordered c) (before c) (behind c) (few c) (c.entries_are_in_strict_order.ensures.irreflexive c.args.goal) place other
+    (subst (λ (items : List Entry). IsAt items place other) (sym (whole c)) at) earlier)

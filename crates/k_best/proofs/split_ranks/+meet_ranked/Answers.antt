@@ -33,7 +33,7 @@ begun t c =
 
 -- the cell of a rule among the arguments has its list
 has_list : (t : ℕ) (c : After-first_trees_are_unique t) (rule : ℕ) → c.in-Some.argument.now ≡ Rule rule
-    → HasList c.args.split.k c.args.split.table.now (record { rule = rule; from = c.args.from; to = c.in-Some-split_first.to.now })
+    → HasList c.args.split.k c.args.table.now (record { rule = rule; from = c.args.from; to = c.in-Some-split_first.to.now })
 has_list t c rule is =
     let p = c.args.split.lines.now in
     let choice = c.args.split.choice in

@@ -1,4 +1,4 @@
-use Rattle.std.proofs.Common.{◌≡◌, map, nat_abs, FitsSigned, w64, sym, ap, subst, ◌∙◌, arith, rules, refl, IfOk, false}
+use Rattle.std.proofs.Common.{◌≡◌, ℕ, map, nat_abs, FitsSigned, w64, sym, ap, subst, ◌∙◌, arith, rules, refl, IfOk, false}
 use Rattle.std.proofs.lemmas.Int.{to_z-of_z}
 use Rattle.adp_model.specs.declared.grammar.Goal.{Goal}
 use Rattle.adp_model.specs.declared.grammar.Term.{Term}
@@ -7,12 +7,12 @@ use Rattle.adp_model.specs.ProblemFields.{IsAdmissible}
 use Rattle.adp_model.specs.Parts.{algebra_of, term_of}
 use Rattle.adp_model.specs.Terms.{magnitude, term_value}
 use Rattle.first_trees.specs.Entries.{Entry, EntryPrecedes}
-use Rattle.first_trees.specs.FirstTrees.{AreInOrder}
+use Rattle.first_trees.specs.FirstTrees.{AreInOrder, IsAt}
 use Rattle.first_trees.specs.RankedSplits.{IsRankedSplit}
 use Rattle.std.specs.List.{AllByRecursion}
 use Rattle.k_best.specs.Settled.{IsBehind, IsComparable, IsSettled}
 use Rattle.k_best.specs.Chosen.{ranks_of, values_of}
-use Rattle.k_best.proofs.Meeting.{comparable, listing_after, made_ranked, met_after, out_after}
+use Rattle.k_best.proofs.Meeting.{comparable, if_ok, listing_after, made_ranked, met_after, out_after}
 use Rattle.k_best.proofs.split_ranks.meet_chosen.Goals as goal
 use Rattle.k_best.proofs.split_ranks.meet_chosen.Goals.{After-lower_ranks_come_first, After-goal}
 
@@ -121,3 +121,19 @@ returns-clause-out c =
     (c.lower_ranks_come_first.ensures p known.least known.greatest known.ranks known.checked k cell c.requires.span)
     c.new-entry.result (is_ranked at) c.meet.result c.meet.new.listed.items c.args.split.choice (ranks_of c.args.chosen) c.new-entry.ensures.choice c.new-entry.ensures.ranks
     (subst (λ (goal : Goal). IfOk c.meet.result (λ is_in. is_in ≡ false → IsBehind goal k c.meet.new.listed.items c.new-entry.result)) (sym (goal_is at)) c.meet.ensures.out)
+
+pub returns-clause-front : goal.returns-clause-front
+returns-clause-front c =
+    let at = (goal.at.returns-clause-front c).After-goal in
+    let p = c.args.split.lines.now in
+    let old = c.args.listed.now.items in
+    let new = c.meet.new.listed.items in
+    if_ok c.meet.result
+    (λ _. (place : ℕ) (other : Entry) → IsAt old place other → EntryPrecedes c.goal.result other c.new-entry.result → IsAt new place other)
+    (λ _. (place : ℕ) (other : Entry) → IsAt old place other
+    → ((entry : Entry) → IsRankedSplit p c.args.split.k c.args.split.cell entry → entry.choice ≡ c.args.split.choice → entry.ranks ≡ ranks_of c.args.chosen
+    → EntryPrecedes (algebra_of p).goal other entry) → IsAt new place other)
+    (λ _ front place other stands each. front place other stands
+    (subst (λ (goal : Goal). EntryPrecedes goal other c.new-entry.result) (goal_is at)
+    (each c.new-entry.result (is_ranked at) c.new-entry.ensures.choice c.new-entry.ensures.ranks)))
+    c.meet.ensures.front
