@@ -69,19 +69,12 @@ fn answer<S: Source, K: Sink>(
         Ok(bytes) => bytes,
         Err(fault) => return Err(reading_fault(fault)),
     };
-    let text = job_trace(alloc, &command, &bytes)?;
+    let job = checked_job(alloc, &command, &bytes)?;
+    let text = trace_text(alloc, &command, &job)?;
     match write_whole(out, &text) {
         Ok(()) => Ok(()),
         Err(_) => Err(Fault::Write),
     }
-}
-
-/// The trace of the first word of a job.
-fn job_trace(alloc: Global, command: &Command<'_>, bytes: &[u8]) -> Result<Vec<u8>, Fault>
-    ensures { IfErr result HasShortName }
-{
-    let job = checked_job(alloc, command, bytes)?;
-    trace_text(alloc, command, &job)
 }
 
 /// The trace of the first word; nothing where there is no word.
