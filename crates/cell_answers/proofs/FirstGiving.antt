@@ -8,12 +8,13 @@ use Rattle.adp_model.specs.declared.cell.Cell.{Cell}
 use Rattle.adp_model.specs.PosedProblem.{PosedProblem, IsSpan}
 use Rattle.adp_model.specs.Parts.{algebra_of, alternatives_of, arguments_of}
 use Rattle.adp_model.specs.Answers.{IsAnswer}
-use Rattle.adp_model.specs.Bellman.{Bellman}
+use Rattle.adp_model.specs.Bellman.{HasBestScore, Bellman}
 use Rattle.score_numbers.specs.Greatest.{IsGreatestOf}
 use Rattle.score_numbers.specs.Turned.{turned}
 use Rattle.cell_answers.specs.declared.filling.Best as declared
 use Rattle.cell_answers.specs.CellBest.{IsBestOfFirst, IsCellBest, GiveNone, IsFirstGiving}
 use Rattle.cell_answers.specs.Totals.{HasTurnedScore}
+use Rattle.cell_answers.proofs.BestSplits.{not_greater}
 use Rattle.cell_answers.proofs.Scoring.{turned_twice, better_or_same, not_better, scored_in, turned_in}
 
 module _ (p : PosedProblem) (cell : Cell) (count : ℕ) where
@@ -66,6 +67,18 @@ module _ (p : PosedProblem) (cell : Cell) (count : ℕ) where
       first = λ other l has. absurd (let m = is.greatest other score l has in omega (arith, ints));
     }
 
+-- alternatives that give nothing may be passed over
+pub passed_over : (p : PosedProblem) (cell : Cell) (count next : ℕ) (best : Option declared.Best) → count ≤ next → ((other : ℕ) → count ≤ other → other < next → IsGreatestOf (HasTurnedScore p cell other) None)
+    → IsBestOfFirst p cell count best → IsBestOfFirst p cell next best
+passed_over p cell count next None ahead none given = λ other number l has.
+    elim (cases_lt other count) [ inl early ↦ given other number early has | inr late ↦ none other late l number has ]
+passed_over p cell count next (Some best) ahead none given = record {
+  before = omega (arith, given.before);
+  gives = given.gives;
+  greatest = λ other number l has. elim (cases_lt other count) [ inl early ↦ given.greatest other number early has | inr late ↦ absurd (none other late l number has) ];
+  first = given.first;
+}
+
 -- nothing more changes nothing
 pub best_kept : (p : PosedProblem) (cell : Cell) (count : ℕ) (best : Option declared.Best) → IsBestOfFirst p cell count best → IsGreatestOf (HasTurnedScore p cell count) None → IsBestOfFirst p cell (count + 1) best
 best_kept p cell count None none here = none_more p cell count none here
@@ -111,3 +124,60 @@ module _ (p : PosedProblem) (bellman : Bellman p) (cell : Cell) (span : IsSpan p
 
     pub best_given : IsCellBest p cell (turned (algebra_of p).goal score) alternative
     best_given = let answer = bellman.answered cell span in best_at answer.0 answer.1
+
+-- ---- where the best score is known
+
+module _ (p : PosedProblem) (bellman : Bellman p) (cell : Cell) (span : IsSpan p.word cell.from cell.to)
+    (some : (alternative : ℕ) → alternative < length (alternatives_of p.grammar cell.rule) → 1 ≤ length (arguments_of p.grammar cell.rule alternative))
+    (few : (alternative : ℕ) → length (arguments_of p.grammar cell.rule alternative) ≤ 4) (best : ℤ) (has_best : HasBestScore p cell best) where
+  abbrev sought : ℤ
+  sought = turned (algebra_of p).goal best
+
+  -- no alternative gives more than it
+  not_more : (alternative : ℕ) (number : ℤ) → alternative < length (alternatives_of p.grammar cell.rule) → HasTurnedScore p cell alternative number → number ≤ℤ sought
+  not_more alternative number in_range has =
+      let split = turned_in p bellman cell span some few number alternative in_range has in
+      let first = bellman.only cell (Best best has_best.0) span has_best.1 in
+      not_greater p bellman cell span some few has_best.0.alt first.1.viable.in_range best (has_best.0.cuts, has_best.1) number
+      (λ better. first.2 (turned (algebra_of p).goal number) (record { alt = alternative; cuts = split.0 }) tt split.1 (inl better))
+
+  -- an alternative whose greatest is another score doesn't give it
+  pub gives_other : (alternative : ℕ) (greatest : Option ℤ) → alternative < length (alternatives_of p.grammar cell.rule)
+      → IsGreatestOf (HasTurnedScore p cell alternative) greatest → (greatest ≡ Some sought → ⊥) → HasTurnedScore p cell alternative sought → ⊥
+  gives_other alternative None in_range none differs has = none sought has
+  gives_other alternative (Some greatest) in_range it differs has =
+      let most = not_more alternative greatest in_range it.0 in
+      let least = it.1 sought has in
+      let same : greatest ≡ sought = omega (arith, ints) in
+      differs (ap Some same)
+
+  abbrev NoneBefore : ℕ → Type 0
+  NoneBefore count = (other : ℕ) → other < count → HasTurnedScore p cell other sought → ⊥
+
+  pub none_further : (count : ℕ) → NoneBefore count → (HasTurnedScore p cell count sought → ⊥) → NoneBefore (count + 1)
+  none_further count none here other l has = elim (last_or_before p cell count (λ n. Unit {0}) other l) [
+    | inl before ↦ none other before has
+    | inr same ↦ here (at_count p cell count other sought same has)
+  ]
+
+  -- an alternative that gives it, or is the last one, is the first that gives it, where none before it does
+  pub first_is : (count : ℕ) → count < length (alternatives_of p.grammar cell.rule) → NoneBefore count
+      → HasTurnedScore p cell count sought ⊎ (length (alternatives_of p.grammar cell.rule) ≡ count + 1) → IsCellBest p cell best count
+  first_is count in_range none last =
+      let choice = has_best.0 in
+      let first = bellman.only cell (Best best choice) span has_best.1 in
+      let has = scored_in p bellman cell span some few best choice first.1 in
+      let goal = (algebra_of p).goal in
+      let alt_is : choice.alt ≡ count = elim (cases_lt choice.alt count) [
+        | inl earlier ↦ absurd (none choice.alt earlier has)
+        | inr later ↦ elim last [
+          | inl gives ↦ elim (cases_lt count choice.alt) [
+            | inl before ↦
+                let split = turned_in p bellman cell span some few sought count in_range gives in
+                absurd (first.2 (turned goal sought) (record { alt = count; cuts = split.0 }) tt split.1 (inr (turned_twice goal best, inl before)))
+            | inr behind ↦ omega arith
+          ]
+          | inr is ↦ let l = first.1.viable.in_range in omega arith
+        ]
+      ] in
+      (choice.cuts, subst (λ alt. IsAnswer p cell (Best best (record { alt = alt; cuts = choice.cuts }))) alt_is has_best.1)

@@ -1,6 +1,6 @@
 //! The greatest total along a line.
 
-ghost use Rattle.std.specs.Prelude.{◌≡◌, ℕ, ℤ, [], ◌∷◌, ◌++◌, IfSome, IsTrue, false};
+ghost use Rattle.std.specs.Prelude.{◌≡◌, ◌↔◌, ℕ, ℤ, [], ◌∷◌, ◌++◌, IfSome, IsTrue, false};
 ghost use Rattle.std.specs.List.{AllByRecursion, Contains};
 ghost use Rattle.adp_model.specs.declared.cell.Cell.{Cell};
 ghost use Rattle.adp_model.specs.PosedProblem.{IsSpan};
@@ -77,6 +77,17 @@ pub fn rule_scales(line: &OpenedLine<'_>) -> Option<Scales>
     Some(Scales { before, behind })
 }
 
+/// Whether the tokens add nothing to a total, whatever letters they match; in most cases there are none.
+#[inline(always)]
+fn add_nothing(tokens: &[Arg], factors: &[i64]) -> bool
+    ensures { IsTrue result ↔ AreWorthless tokens.now factors.now }
+{
+    if tokens.is_empty() {
+        return true;
+    }
+    are_worthless(tokens, factors)
+}
+
 /// The factors of numbers of which the totals of a line are sums; `None` where its two arguments of open length are not
 /// both rules, a factor does not fit, or the tokens between the two may add something.
 #[inline(always)]
@@ -86,7 +97,7 @@ pub fn scales_of(line: &OpenedLine<'_>) -> Option<Scales>
     let Some(scales) = rule_scales(line) else {
         return None;
     };
-    if are_worthless(line.arguments.middle, line.arguments.middle_factors) {
+    if add_nothing(line.arguments.middle, line.arguments.middle_factors) {
         Some(scales)
     } else {
         None
@@ -315,5 +326,14 @@ pub fn greatest_along(
     let front = greatest_front(lines, &opened)?;
     let arguments = opened.arguments;
     let last = opened.boundary.last;
-    Some(front + fixed_total(lines, arguments.tail, arguments.tail_factors, last, to))
+    let has_tail = !arguments.tail.is_empty();
+    let behind = between_total(
+        lines,
+        arguments.tail,
+        arguments.tail_factors,
+        has_tail,
+        last,
+        to,
+    );
+    Some(front + behind)
 }

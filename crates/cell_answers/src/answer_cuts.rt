@@ -25,7 +25,7 @@ ghost use Rattle.cell_answers.specs.Totals.{AreLow, AreWeighted, HasTotal};
 use crate::along::{factors_of, fixed_total, scales_of, total_through};
 use crate::argument_values::{Numbers, argument_value};
 use crate::by_term::cuts_by_term;
-use crate::filling::{Best, Known, cell_best, plain_total};
+use crate::filling::{Best, Known, cell_best, first_giving, plain_total};
 use crate::letters_between::weighed_line;
 use crate::only_ends::only_end;
 use crate::opened::{OpenedLine, open_line};
@@ -430,17 +430,15 @@ pub fn first_cuts(lines: &Lines<'_>, scores: &Scores<'_>, cell: Cell, best: Best
     }
 }
 
-/// The answer of a cell, by the scores of its demanded children. Takes no memory.
-pub fn cell_answer(lines: &Lines<'_>, scores: &Scores<'_>, cell: Cell) -> Answer
+/// The answer of a cell that has a candidate, by its best score and the first alternative that gives it.
+fn answer_with(lines: &Lines<'_>, scores: &Scores<'_>, cell: Cell, best: Best) -> Answer
     requires same_problem { scores.now.problem ≡ lines.now }
     requires rule { cell.rule < length lines.now.grammar.rules }
     requires in_word { IsSpan lines.now.word cell.from cell.to }
     requires scored { (child : Cell) → IsDemandedChild lines.now cell child → HasEntry scores.now child }
+    requires best { IsCellBest lines.now cell best.score best.alt }
     ensures { IsAnswer lines.now cell result }
 {
-    let Some(best) = cell_best(lines, scores, cell) else {
-        return Answer::NoCandidate;
-    };
     let cuts = first_cuts(lines, scores, cell, best);
     let choice = Choice {
         alt: best.alt,
@@ -450,4 +448,35 @@ pub fn cell_answer(lines: &Lines<'_>, scores: &Scores<'_>, cell: Cell) -> Answer
         score: best.score,
         choice,
     }
+}
+
+/// The answer of a cell, by the scores of its demanded children. Takes no memory.
+pub fn cell_answer(lines: &Lines<'_>, scores: &Scores<'_>, cell: Cell) -> Answer
+    requires same_problem { scores.now.problem ≡ lines.now }
+    requires rule { cell.rule < length lines.now.grammar.rules }
+    requires in_word { IsSpan lines.now.word cell.from cell.to }
+    requires scored { (child : Cell) → IsDemandedChild lines.now cell child → HasEntry scores.now child }
+    ensures { IsAnswer lines.now cell result }
+{
+    match cell_best(lines, scores, cell) {
+        Some(best) => answer_with(lines, scores, cell, best),
+        None => Answer::NoCandidate,
+    }
+}
+
+/// The answer of a cell that has an entry, by that and by the scores of its demanded children. Takes no memory, and of
+/// its best score no more time than it takes to tell the alternative: the last one is not asked for it.
+pub fn kept_answer(lines: &Lines<'_>, scores: &Scores<'_>, cell: Cell) -> Answer
+    requires same_problem { scores.now.problem ≡ lines.now }
+    requires rule { cell.rule < length lines.now.grammar.rules }
+    requires in_word { IsSpan lines.now.word cell.from cell.to }
+    requires scored { (child : Cell) → IsDemandedChild lines.now cell child → HasEntry scores.now child }
+    requires kept { HasEntry scores.now cell }
+    ensures { IsAnswer lines.now cell result }
+{
+    let Some(score) = scores.score(cell) else {
+        return Answer::NoCandidate;
+    };
+    let alt = first_giving(lines, scores, cell, score);
+    answer_with(lines, scores, cell, Best { score, alt })
 }

@@ -1,6 +1,6 @@
 //! The best score of a cell, and the alternative that gives it, from the scores of its demanded children.
 
-ghost use Rattle.std.specs.Prelude.{◌≡◌, ◌+◌, ◌<◌, ◌≤◌, IfSome, MatchOption, [], ◌∷◌, length, drop, option_map};
+ghost use Rattle.std.specs.Prelude.{◌≡◌, ◌↔◌, ◌+◌, ◌<◌, ◌≤◌, IfSome, IsTrue, MatchOption, Some, [], ◌∷◌, length, drop, option_map};
 ghost use Rattle.adp_model.specs.declared.cell.Answer.TheVariants.{NoCandidate};
 ghost use Rattle.adp_model.specs.declared.cell.Cell.{Cell};
 ghost use Rattle.adp_model.specs.PosedProblem.{PosedProblem, IsSpan};
@@ -253,6 +253,10 @@ fn total_of_several(
         result }
 {
     let ahead = line.map_or(0, |line| line.first);
+    line_begins_here();
+    if let Some(line) = line_here(line.as_ref(), ahead) {
+        return greatest_along(lines, scores, *line, arguments, factors, from, to);
+    }
     let known = Known {
         lines,
         scores,
@@ -315,7 +319,7 @@ fn score_by_sum<'s>(
         lines,
         alternative.front,
         sum.front_factors(alternative),
-        sum.weighs,
+        alternative.weighs,
         cell.from,
         from,
     );
@@ -423,12 +427,15 @@ fn best_noting(
     arguments_are_few_and_known();
     alternatives_fit();
     let goal = problem.goal();
-    let alternatives = lines.alternatives(cell.rule);
+    let candidates = lines.candidates(cell);
     let mut best = None;
-    for number in 0..alternatives.len() {
+    let mut number = candidates.next(0);
+    while number < candidates.alternatives.len() {
         let alt = number as u8;
-        let score = alternative_score(lines, scores, tails, cell, &alternatives[number], alt);
+        let alternative = &candidates.alternatives[number];
+        let score = alternative_score(lines, scores, tails, cell, alternative, alt);
         best = better(best, score, alt);
+        number = candidates.next(number + 1);
     }
     let Some(Best { score, alt }) = best else {
         return None;
@@ -451,6 +458,50 @@ pub fn cell_best(lines: &Lines<'_>, scores: &Scores<'_>, cell: Cell) -> Option<B
 {
     let mut tails = Tails::none(lines.problem());
     best_noting(lines, scores, &mut tails, cell)
+}
+
+/// Whether this score is given.
+#[inline(always)]
+fn is_score(given: Option<i64>, score: i64) -> bool
+    ensures { IsTrue result ↔ (given ≡ Some score) }
+{
+    match given {
+        Some(given) => given == score,
+        None => false,
+    }
+}
+
+/// The first alternative that gives a cell this score, its best one. What the last alternative gives is not asked: where
+/// no other one gives it, that one does.
+pub(crate) fn first_giving(lines: &Lines<'_>, scores: &Scores<'_>, cell: Cell, score: i64) -> u8
+    requires same_problem { scores.now.problem ≡ lines.now }
+    requires rule { cell.rule < length lines.now.grammar.rules }
+    requires in_word { IsSpan lines.now.word cell.from cell.to }
+    requires scored { (child : Cell) → IsDemandedChild lines.now cell child → HasEntry scores.now child }
+    requires best { HasBestScore lines.now cell score }
+    ensures { IsCellBest lines.now cell score result }
+{
+    let problem = lines.problem();
+    problem.admissible();
+    bellman();
+    bounds_are_sound();
+    answer_is_unique();
+    magnitudes_rise();
+    values_are_within_magnitudes();
+    arguments_are_few_and_known();
+    alternatives_fit();
+    let sought = turned(problem.goal(), score);
+    let mut tails = Tails::none(problem);
+    let alternatives = lines.alternatives(cell.rule);
+    let last = alternatives.len() - 1;
+    for number in 0..last {
+        let alt = number as u8;
+        let given = alternative_score(lines, scores, &mut tails, cell, &alternatives[number], alt);
+        if is_score(given, sought) {
+            return alt;
+        }
+    }
+    last as u8
 }
 
 /// The best score of a cell, by the scores of its demanded children; `None` where it has no candidate. Takes no memory.

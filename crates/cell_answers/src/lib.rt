@@ -14,7 +14,7 @@ mod scores;
 mod tails;
 mod term_along;
 
-pub use answer_cuts::{cell_answer, first_cuts};
+pub use answer_cuts::{cell_answer, first_cuts, kept_answer};
 pub use argument_values::argument_value;
 pub use filling::{Best, cell_best, cell_score, cell_score_noting};
 pub use scores::Scores;

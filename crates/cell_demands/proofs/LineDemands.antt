@@ -13,10 +13,13 @@ use Rattle.adp_model.specs.Parts.{alternatives_of, arguments_of}
 use Rattle.adp_model.specs.Splits.{Placed, FitsSpan, place, ends_by}
 use Rattle.adp_model.specs.Demand.{IsDemandedChild}
 use Rattle.viable_splits.specs.Placing.{on_span, Cover, ArePositions}
+use Rattle.split_lines.specs.declared.kept.KeptAlternative.{KeptAlternative}
+use Rattle.split_lines.specs.Kept.{IsAlternative}
 use Rattle.split_lines.specs.Laid.{IsCellOf, Demands, DemandsBy, IsFixed, LineParts, AreBoundaries}
 use Rattle.split_lines.specs.Lines.{HasLine, parts_by}
+use Rattle.split_lines.specs.Ways.{IsClosed}
 use Rattle.cell_tables.specs.Marks.{CellMarks, AreMarkedFrom}
-use Rattle.cell_demands.proofs.Splitting.{child_of_demands, demands_of_child}
+use Rattle.cell_demands.proofs.Splitting.{child_of_demands, demands_of_child, split_of_demands}
 use Rattle.cell_demands.proofs.MarkSteps.{marked_like, marked_more}
 
 module _ (p : PosedProblem) where
@@ -257,6 +260,25 @@ module _ (p : PosedProblem) (cell : Cell) where
       (λ same. let e : alternative ≡ count = omega arith in inr (subst (λ n. DemandsBy p cell n child) e demands))
       (cases_lt alternative count))
       (marked_more begin first second third (DemandsByFirst p cell count) (DemandsBy p cell count) before here)
+
+  -- an alternative by which the cell has no split demands nothing
+  pub closed_demands : (kept : KeptAlternative) (alternative : ℕ) → alternative < length (alternatives_of p.grammar cell.rule) → length (arguments_of p.grammar cell.rule alternative) ≤ 4 → IsAlternative p cell.rule alternative kept → IsClosed p kept cell
+      → (child : Cell) → DemandsBy p cell alternative child → ⊥
+  closed_demands kept alternative in_range few is closed child demands =
+      let split = split_of_demands p cell alternative child in_range few demands in
+      closed alternative split.0 is split.1
+
+  -- alternatives that demand nothing may be passed over
+  pub passed_over : (begin count next : ℕ) (first second : CellMarks) → count ≤ next → ((alternative : ℕ) → count ≤ alternative → alternative < next → (child : Cell) → DemandsBy p cell alternative child → ⊥)
+      → AreMarkedFrom begin first second (DemandsByFirst p cell count) → AreMarkedFrom begin first second (DemandsByFirst p cell next)
+  passed_over begin count next first second ahead none marked =
+      marked_like begin first second (DemandsByFirst p cell count) (DemandsByFirst p cell next)
+      (λ child (alternative, l, demands). (alternative, omega arith, demands))
+      (λ child (alternative, l, demands).
+      ⊎_elim (λ early. (alternative, early, demands))
+      (λ late. absurd (none alternative late l child demands))
+      (cases_lt alternative count))
+      marked
 
   pub all_alternatives : (few : (alternative : ℕ) → length (arguments_of p.grammar cell.rule alternative) ≤ 4) (begin : ℕ) (first second : CellMarks) → AreMarkedFrom begin first second (DemandsByFirst p cell (length (alternatives_of p.grammar cell.rule)))
       → AreMarkedFrom begin first second (IsDemandedChild p cell)

@@ -14,7 +14,7 @@ ghost use Rattle.split_lines.specs.Flags.{AreBitsAmong};
 ghost use Rattle.split_lines.specs.Kept.{IsAlternative};
 ghost use Rattle.split_lines.specs.Laid.{Demands, DemandsBy, IsCellOf};
 ghost use Rattle.split_lines.specs.Lines.{IsLine};
-ghost use Rattle.cell_demands.specs.Tails.{IsOwner};
+ghost use Rattle.cell_demands.specs.Tails.{IsOwner, IsTail, tail_with};
 ghost use Rattle.cell_demands.specs.TailNotes.{AreTrue};
 ghost use Rattle.cell_tables.specs.Marks.{AreInRows, AreMarkedFrom, AreMarkedToo};
 
@@ -134,6 +134,7 @@ fn mark_last(
 
 /// Whether the arguments of a line may have the letters from `from` to `to`. Where they may, the cells that they demand
 /// there are marked, and else nothing is; those that begin at `begin`, which is no later, are marked in their rows.
+#[inline(never)]
 fn mark_line(
     lines: &Lines<'_>,
     line: Line<'_>,
@@ -282,6 +283,54 @@ fn mark_arguments(
     is_laid
 }
 
+/// Marks what several arguments demand that are laid from `from` to `to`, along their line if they have one; those that
+/// begin at `begin`, which is no later, are marked in their rows. In most cases the line has all of the arguments.
+#[inline(always)]
+fn mark_several(
+    lines: &Lines<'_>,
+    owner: Owner,
+    line: Option<Line<'_>>,
+    arguments: &[Arg],
+    begin: u16,
+    from: u16,
+    to: u16,
+    tails: &mut Tails,
+    marks: &mut Marks<'_>,
+)
+    requires owner { IsTail lines.now (tail_with owner (length arguments.now)) arguments.now }
+    requires line { IfSome line (λ line. IsLine lines.now (drop line.first arguments.now) line) }
+    requires known { AllByRecursion (IsKnown lines.now.grammar) arguments.now }
+    requires few { length arguments.now ≤ 4 }
+    requires begin { begin ≤ from }
+    requires span { IsSpan lines.now.word from to }
+    requires same_problem { marks.old.problem ≡ lines.now }
+    requires noted { AreTrue lines.now marks.old tails.old }
+    requires counted { (cell : Cell) → Demands lines.now arguments.now from to cell
+        → IsCounted lines.now.grammar (length lines.now.word) cell }
+    ensures marked { AreMarkedFrom begin marks.old marks.new (Demands lines.now arguments.now from to) }
+    ensures noted { AreTrue lines.now marks.new tails.new }
+{
+    let ahead = line.map_or(0, |line| line.first);
+    line_begins_here();
+    if let Some(line) = line_here(line.as_ref(), ahead) {
+        mark_line(lines, *line, arguments, begin, from, to, marks);
+        return;
+    }
+    let owner = Some(owner);
+    mark_arguments(
+        lines,
+        owner,
+        line.as_ref(),
+        ahead,
+        arguments,
+        begin,
+        from,
+        to,
+        tails,
+        marks,
+    );
+}
+
 /// Marks what an alternative demands on a cell whose first letters its tokens in front have up to `from`; those that
 /// begin where the cell begins are marked in their rows.
 #[inline(never)]
@@ -312,16 +361,14 @@ fn mark_others(
             mark_last(lines, argument, cell.from, from, cell.to, marks);
         }
         Way::Several(line) => {
-            let ahead = line.map_or(0, |line| line.first);
             let owner = Owner {
                 rule: cell.rule,
                 alt,
             };
-            mark_arguments(
+            mark_several(
                 lines,
-                Some(owner),
-                line.as_ref(),
-                ahead,
+                owner,
+                line,
                 alternative.others,
                 cell.from,
                 from,
@@ -386,15 +433,17 @@ pub fn mark_children_noting(lines: &Lines<'_>, cell: Cell, tails: &mut Tails, ma
     lines.problem().admissible();
     arguments_are_few_and_known();
     alternatives_fit();
-    let alternatives = lines.alternatives(cell.rule);
-    for number in 0..alternatives.len() {
+    let candidates = lines.candidates(cell);
+    let mut number = candidates.next(0);
+    while number < candidates.alternatives.len() {
         mark_alternative(
             lines,
             cell,
-            &alternatives[number],
+            &candidates.alternatives[number],
             number as u8,
             tails,
             marks,
         );
+        number = candidates.next(number + 1);
     }
 }

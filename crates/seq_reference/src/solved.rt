@@ -9,7 +9,7 @@ ghost use Rattle.cell_tables.specs.Marks.{IsMarkedInRow};
 
 use adp_model::laws::demand::demanded_cells_are_counted;
 use adp_model::{Answer, Answers, Cell};
-use cell_answers::{Scores, cell_answer};
+use cell_answers::{Scores, kept_answer};
 use cell_tables::Marks;
 use split_lines::Lines;
 use std::marker::Model;
@@ -99,7 +99,7 @@ impl<'a> Answers for Solved<'a> {
         self.lines.problem().admissible();
         demanded_cells_are_counted();
         if self.marks.is_marked_in_row(cell) {
-            Some(cell_answer(&self.lines, &self.scores, cell))
+            Some(kept_answer(&self.lines, &self.scores, cell))
         } else {
             None
         }

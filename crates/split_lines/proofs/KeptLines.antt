@@ -1,5 +1,6 @@
 -- Lists of tokens under their numbers, and what is kept of alternatives, as both grow.
-use Rattle.std.proofs.Common.{◌≡◌, ℕ, ◌+◌, ◌<◌, Option, Some, None, Vec, Global, List, [], ◌∷◌, ◌++◌, length, drop, get_or, refl, sym, ap, subst, ◌∙◌, inl, inr, arith}
+use Rattle.std.proofs.Common.{◌≡◌, ℕ, ◌+◌, ◌<◌, Option, Some, None, List, [], ◌∷◌, ◌++◌, length, get_or, refl, sym, ap, subst, ◌∙◌, inl, inr, arith}
+use Rattle.std.specs.Prelude.{IfSome}
 use Rattle.std.proofs.lemmas.Bool.{cases_lt}
 use Rattle.std.proofs.lemmas.List.{get_or_past, get_or_append_left, get_or_push, length_push}
 use Rattle.adp_model.specs.declared.grammar.Arg.{Arg}
@@ -9,10 +10,10 @@ use Rattle.adp_model.specs.PosedProblem.{PosedProblem}
 use Rattle.adp_model.specs.Parts.{alternatives_of, arguments_of}
 use Rattle.split_lines.specs.declared.kept.KeptAlternative.{KeptAlternative}
 use Rattle.split_lines.specs.declared.lines.KeptLine.{KeptLine}
+use Rattle.split_lines.specs.declared.lines.KeptRule.{KeptRule}
 use Rattle.split_lines.specs.declared.lines.Middle.{Middle}
 use Rattle.split_lines.specs.Matching.{AreMatches}
-use Rattle.split_lines.specs.Lines.{parts_by}
-use Rattle.split_lines.specs.LinesFields.{AreMiddles, HasAllOf, IsNumberOf, IsKept, IsKeptOrNone, IsKeptOf, AreKept, AreKeptOfRules}
+use Rattle.split_lines.specs.LinesFields.{AreMiddles, HasAllOf, IsNumberOf, IsMiddle, IsKeptOrNone, IsKeptOf, AreKept, IsKeptRule, AreKeptRules}
 use Rattle.split_lines.proofs.Growing.{each_more}
 
 -- one more list of tokens
@@ -46,11 +47,15 @@ number_still old new tokens number longer is = record {
   tokens_are = λ d. ap (λ (it : Middle). it.tokens.now) (longer.same number d is.within) ∙ is.tokens_are d;
 }
 
+middle_still : (p : PosedProblem) (old new : List Middle) (tokens : List Arg) (number : Option ℕ) → HasAllOf old new → IsMiddle p old tokens number → IsMiddle p new tokens number
+middle_still p old new tokens None longer none = none
+middle_still p old new tokens (Some number) longer is = number_still old new tokens number longer is
+
 pub line_still : (p : PosedProblem) (old new : List Middle) (arguments : List Arg) (line : Option KeptLine) → HasAllOf old new → IsKeptOrNone p old arguments line → IsKeptOrNone p new arguments line
 line_still p old new arguments None longer none = none
 line_still p old new arguments (Some line) longer kept = record {
   has_line = kept.has_line;
-  middle = number_still old new _ line.middle longer kept.middle;
+  middle = middle_still p old new _ line.middle longer kept.middle;
   tail = kept.tail;
   before = kept.before;
   behind = kept.behind;
@@ -71,17 +76,19 @@ one_alternative_more p middles rule count kept one are now = record {
   are = each_more (λ alternative it. IsKeptOf p middles rule alternative it) kept count one are.each are.are now;
 }
 
--- the alternatives of one more rule
-pub one_rule_more : (p : PosedProblem) (middles : List Middle) (count : ℕ) (lists : List (Vec KeptAlternative Global)) (list : Vec KeptAlternative Global) → AreKeptOfRules p middles count lists → AreKept p middles count (length (alternatives_of p.grammar count)) list.items → AreKeptOfRules p middles (count + 1) (lists ++ list ∷ [])
-one_rule_more p middles count lists list are now = record {
-  each = length_push lists list ∙ ap (λ n. n + 1) are.each;
-  are = each_more (λ rule (it : Vec KeptAlternative Global). AreKept p middles rule (length (alternatives_of p.grammar rule)) it.items) lists count list are.each are.are now;
+-- what is kept of one more rule
+pub one_rule_more : (p : PosedProblem) (middles : List Middle) (count : ℕ) (rules : List KeptRule) (it : KeptRule) → AreKeptRules p middles count rules → IsKeptRule p middles count it → AreKeptRules p middles (count + 1) (rules ++ it ∷ [])
+one_rule_more p middles count rules it are now = record {
+  each = length_push rules it ∙ ap (λ n. n + 1) are.each;
+  are = each_more (λ rule it. IsKeptRule p middles rule it) rules count it are.each are.are now;
 }
 
-pub rules_still : (p : PosedProblem) (old new : List Middle) (count : ℕ) (lists : List (Vec KeptAlternative Global)) → HasAllOf old new → AreKeptOfRules p old count lists → AreKeptOfRules p new count lists
-rules_still p old new count lists longer are = record {
+pub rules_still : (p : PosedProblem) (old new : List Middle) (count : ℕ) (rules : List KeptRule) → HasAllOf old new → AreKeptRules p old count rules → AreKeptRules p new count rules
+rules_still p old new count rules longer are = record {
   each = are.each;
-  are = λ rule d l. alternatives_still p old new rule (length (alternatives_of p.grammar rule)) (get_or lists rule d).items longer (are.are rule d l);
+  are = λ rule d l.
+      let it = are.are rule d l in
+      record { alternatives = alternatives_still p old new rule (length (alternatives_of p.grammar rule)) (get_or rules rule d).alternatives.items longer it.alternatives; beginnings = it.beginnings };
 }
 
 -- a rule that has alternatives is one of the grammar's
@@ -94,23 +101,26 @@ rule_there grammar rule alternative l =
           absurd (omega arith)
     ]
 
--- what is kept of the alternatives of a rule
-pub kept_of_rule : (p : PosedProblem) (middles : List Middle) (lists : List (Vec KeptAlternative Global)) (rule : ℕ) (list : Vec KeptAlternative Global) → rule < length p.grammar.rules → AreKeptOfRules p middles (length p.grammar.rules) lists → list ≡ get_or lists rule list → AreKept p middles rule (length (alternatives_of p.grammar rule)) list.items
-kept_of_rule p middles lists rule list l are is =
-    let K : Vec KeptAlternative Global → Type 0 = λ it. AreKept p middles rule (length (alternatives_of p.grammar rule)) it.items in
-    subst K (sym is) (are.are rule list l)
+-- what is kept of a rule
+pub kept_of_rule : (p : PosedProblem) (middles : List Middle) (rules : List KeptRule) (rule : ℕ) (it : KeptRule) → rule < length p.grammar.rules → AreKeptRules p middles (length p.grammar.rules) rules → it ≡ get_or rules rule it → IsKeptRule p middles rule it
+kept_of_rule p middles rules rule it l are is = subst (IsKeptRule p middles rule) (sym is) (are.are rule it l)
 
 -- what is kept of the line of an alternative
-pub kept_at : (p : PosedProblem) (middles : List Middle) (lists : List (Vec KeptAlternative Global)) (rule alternative : ℕ) (list : Vec KeptAlternative Global) (kept : KeptAlternative) → alternative < length (alternatives_of p.grammar rule) → AreKeptOfRules p middles (length p.grammar.rules) lists → list ≡ get_or lists rule list → kept ≡ get_or list.items alternative kept → IsKeptOrNone p middles (arguments_of p.grammar rule alternative) kept.line
-kept_at p middles lists rule alternative list kept l are list_is kept_is =
-    let of_rule = kept_of_rule p middles lists rule list (rule_there p.grammar rule alternative l) are list_is in
+pub kept_at : (p : PosedProblem) (middles : List Middle) (rules : List KeptRule) (rule alternative : ℕ) (it : KeptRule) (kept : KeptAlternative) → alternative < length (alternatives_of p.grammar rule) → AreKeptRules p middles (length p.grammar.rules) rules → it ≡ get_or rules rule it → kept ≡ get_or it.alternatives.items alternative kept → IsKeptOrNone p middles (arguments_of p.grammar rule alternative) kept.line
+kept_at p middles rules rule alternative it kept l are it_is kept_is =
+    let of_rule = kept_of_rule p middles rules rule it (rule_there p.grammar rule alternative l) are it_is in
     let L : KeptAlternative → Type 0 = λ it. IsKeptOrNone p middles (arguments_of p.grammar rule alternative) it.line in
-    subst L (sym kept_is) (of_rule.are alternative kept l).line
+    subst L (sym kept_is) (of_rule.alternatives.are alternative kept l).line
 
--- where the middle of a kept line matches
-pub middle_at : (p : PosedProblem) (middles : List Middle) (arguments : List Arg) (line : KeptLine) (middle : Middle) → AreMiddles p middles → IsKept p middles arguments line → middle ≡ get_or middles line.middle middle → AreMatches p (parts_by (drop line.first arguments) line.between).middle middle.matches
-middle_at p middles arguments line middle are kept is =
+-- where the tokens match that a list is of
+pub middle_at : (p : PosedProblem) (middles : List Middle) (tokens : List Arg) (number : ℕ) (middle : Middle) → AreMiddles p middles → IsNumberOf middles tokens number → middle ≡ get_or middles number middle → AreMatches p tokens middle.matches
+middle_at p middles tokens number middle are of is =
     let M : Middle → Type 0 = λ it. AreMatches p it.tokens.now it.matches in
-    let here : M middle = subst M (sym is) (are line.middle middle kept.middle.within) in
-    let tokens_are : middle.tokens.now ≡ (parts_by (drop line.first arguments) line.between).middle = ap (λ (it : Middle). it.tokens.now) is ∙ kept.middle.tokens_are middle in
+    let here : M middle = subst M (sym is) (are number middle of.within) in
+    let tokens_are : middle.tokens.now ≡ tokens = ap (λ (it : Middle). it.tokens.now) is ∙ of.tokens_are middle in
     subst (λ tokens. AreMatches p tokens middle.matches) tokens_are here
+
+-- the number of a list that there is
+pub middle_within : (p : PosedProblem) (middles : List Middle) (tokens : List Arg) (number : Option ℕ) → IsMiddle p middles tokens number → IfSome number (λ number. number < length middles)
+middle_within p middles tokens None none = tt
+middle_within p middles tokens (Some number) of = of.within

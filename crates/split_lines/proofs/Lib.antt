@@ -1,4 +1,5 @@
 pub mod BitPositions
+pub mod OpeningBits
 pub mod ClassFacts
 pub mod Dividing
 pub mod ExtentPositions

@@ -42,7 +42,8 @@ rest_of : (xs : List ℕ) (letter : ℕ) → slice_get xs 0 ≡ Some letter → 
 rest_of [] letter e = absurd cc
 rest_of (x ∷ xs) letter e = let same : x ≡ letter = cc in ap (λ it. it ∷ []) same
 
-within_word : (word : List ℕ) (from letter : ℕ) → slice_get word from ≡ Some letter → from < length word
+-- a letter stands within the word
+pub within_word : (word : List ℕ) (from letter : ℕ) → slice_get word from ≡ Some letter → from < length word
 within_word [] from letter e = absurd cc
 within_word (x ∷ word) zero letter e = omega arith
 within_word (x ∷ word) (suc from) letter e = let l = within_word word from letter e in omega arith
@@ -99,7 +100,7 @@ pub alternative_summed : FurtherAddNothing → (p : PosedProblem) (rule alternat
     → all ≡ arguments_of p.grammar rule alternative → length all ≤ length lowered.factors → n ≤ length all → kept.front.now ≡ take n all → kept.others.now ≡ drop n all
     → term ≡ term_of p rule alternative → IsLowered term lowered
     → sum.constant ≡ turned (algebra_of p).goal lowered.constant → take (length lowered.factors) sum.factors ≡ map (turned (algebra_of p).goal) lowered.factors
-    → (sum.weighs ≡ false → AreWorthless kept.front.now (take (length kept.front.now) sum.factors)) → IsSummed p rule alternative kept sum
+    → (kept.weighs ≡ false → AreWorthless kept.front.now (take (length kept.front.now) sum.factors)) → IsSummed p rule alternative kept sum
 alternative_summed law p rule alternative kept sum term lowered all n all_is enough within front_is others_is term_is is constant factors worthless =
     let goal = (algebra_of p).goal in
     let count = length (arguments_of p.grammar rule alternative) in

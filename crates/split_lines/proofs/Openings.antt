@@ -1,6 +1,6 @@
 -- Whether a cell has a split by an alternative, as its length and the tokens in front tell.
-use Rattle.std.proofs.Common.{◌≡◌, ℕ, suc, ◌-◌, ◌<◌, ◌≤◌, Option, Some, None, List, [], ◌∷◌, ◌++◌, length, drop, refl, sym, ap, subst, ◌∙◌, arith, length-append}
-use Rattle.std.specs.Prelude.{MatchOption}
+use Rattle.std.proofs.Common.{◌≡◌, ℕ, suc, ◌-◌, ◌<◌, ◌≤◌, Option, Some, None, List, [], ◌∷◌, ◌++◌, length, drop, slice_get, refl, sym, ap, subst, ◌∙◌, arith, length-append}
+use Rattle.std.specs.Prelude.{IfSome, MatchOption}
 use Rattle.std.specs.List.{AllByRecursion}
 use Rattle.adp_model.specs.declared.cell.Cell.{Cell}
 use Rattle.adp_model.specs.declared.grammar.Arg.{Arg}
@@ -10,10 +10,11 @@ use Rattle.adp_model.specs.Splits.{ends_by, place, FitsSpan, IsViable}
 use Rattle.viable_splits.specs.Placing.{Cover}
 use Rattle.split_lines.specs.declared.kept.KeptAlternative.{KeptAlternative}
 use Rattle.split_lines.specs.Ends.{IsFrontTold}
-use Rattle.split_lines.specs.Kept.{AreInFront, IsAlternative}
+use Rattle.split_lines.specs.Kept.{AreInFront, BeginWith, IsAlternative}
 use Rattle.split_lines.specs.Ways.{MaySpan, IsClosed, IsOpening}
 use Rattle.split_lines.proofs.Dividing.{cover_forward, cover_parts}
 use Rattle.split_lines.proofs.Lists.{empty_without}
+use Rattle.split_lines.proofs.MakingReady.{letter_stands}
 
 -- ---- the arguments of a viable split have the letters of the cell
 
@@ -63,6 +64,14 @@ module _ (p : PosedProblem) (kept : KeptAlternative) (in_front : AreInFront p ke
             let last : parts.0 ≡ cell.to = subst (λ others. Cover p others parts.0 cell.to) (empty_without kept.others.now none) parts.2 in
             sym last ∙ in_front.letters cell.from parts.0 parts.1,
       )
+
+  -- where another letter stands than that with which the tokens in front begin, they don't match
+  pub closed_at_other_letters : (letter : ℕ) → kept.first ≡ Some letter → (slice_get p.word cell.from ≡ Some letter → ⊥) → IsClosed p kept cell
+  closed_at_other_letters letter is other =
+      closed_without (λ cover.
+      let parts = cover_parts p kept.front.now kept.others.now cell.from cell.to cover in
+      let F : Option ℕ → Type 0 = λ first. IfSome first (BeginWith kept.front.now) in
+      other (letter_stands p kept.front.now letter cell.from parts.0 (subst F is in_front.first) parts.1))
 
   -- where the tokens in front end tells the rest
   pub opened_by_front : cell.to ≤ 4000 → MaySpan kept cell.from cell.to → (found : Option ℕ) → IsFrontTold p kept.front.now cell.from cell.to found → MatchOption found (IsClosed p kept cell) (IsOpening p kept cell)

@@ -63,12 +63,12 @@ pub record IsScoredBy (p : PosedProblem) (rule alternative : ℕ) (constant : �
   pub low : (numbers : List ℕ) → length numbers ≡ length (arguments_of p.grammar rule alternative)
       → nat_abs constant + weighted_total factors numbers ≤ magnitude (term_of p rule alternative) numbers
 
--- the sum scores the alternative, and where it says that the tokens in front weigh nothing they add nothing
+-- the sum scores the alternative, and where it is kept that the tokens in front weigh nothing they add nothing
 pub record IsSummed (p : PosedProblem) (rule alternative : ℕ) (kept : KeptAlternative) (sum : WeightedSum) : Type 0
   where
     pub scored : IsScoredBy p rule alternative sum.constant (factors_in_front kept sum ++ factors_behind kept sum)
     pub front_each : length (factors_in_front kept sum) ≡ length kept.front.now
-    pub worthless : sum.weighs ≡ false → AreWorthless kept.front.now (factors_in_front kept sum)
+    pub worthless : kept.weighs ≡ false → AreWorthless kept.front.now (factors_in_front kept sum)
 
 -- the alternative is scored in this way: by a sum, or by its term
 abbrev pub IsScored : PosedProblem → ℕ → ℕ → KeptAlternative → Scoring → Type 0

@@ -1,3 +1,4 @@
+pub mod Beginnings
 pub mod Begins
 pub mod ClassFields
 pub mod Classes

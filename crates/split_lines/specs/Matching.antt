@@ -20,6 +20,10 @@ fixed_length (Run class low high) = 0
 abbrev pub HaveLetters : PosedProblem → List Arg → ℕ → Type 0
 HaveLetters p tokens letters = (from to : ℕ) → Cover p tokens from to → to ≡ from + letters
 
+-- nowhere in the word do the tokens match
+abbrev pub MatchNowhere : PosedProblem → List Arg → Type 0
+MatchNowhere p tokens = (from to : ℕ) → Cover p tokens from to → ⊥
+
 -- the positions of the word before `past` at which the tokens match, in order
 pub record AreMatchPositions (p : PosedProblem) (tokens : List Arg) (letters past : ℕ) (positions : List ℕ)
     : Type 0 where

@@ -8,6 +8,8 @@ ghost use Rattle.adp_model.specs.PosedProblem.{IsSpan};
 ghost use Rattle.adp_model.specs.Parts.{alternatives_of};
 ghost use Rattle.adp_model.specs.ProblemFields.{greatest_score, most_letters};
 ghost use Rattle.viable_splits.specs.Placing.{Cover};
+ghost use Rattle.split_lines.specs.declared.kept.Scoring.TheVariants.{Sum};
+ghost use Rattle.split_lines.specs.declared.kept.WeightedSum.{WeightedSum as DeclaredSum};
 ghost use Rattle.score_numbers.specs.Turned.{turned};
 ghost use Rattle.score_numbers.specs.Worthless.{AreWorthless};
 ghost use Rattle.split_lines.specs.Laid.{IsFixed};
@@ -40,6 +42,8 @@ pub struct KeptAlternative<'a> {
     pub alone: bool,
     /// The class of the letter that they are, where they are one letter of a class and nothing more.
     pub class: Option<u32>,
+    /// Whether they may add something to a total.
+    pub weighs: bool,
     /// How its splits are scored.
     pub scoring: Scoring<'a>,
     /// The lengths that the alternative allows.
@@ -82,8 +86,6 @@ pub struct WeightedSum {
     pub constant: i64,
     /// The factor of each argument in the total; behind them stands 0.
     pub factors: [i64; 4],
-    /// Whether the tokens in front may add something to a total.
-    pub weighs: bool,
 }
 
 impl WeightedSum {
@@ -163,21 +165,29 @@ fn class_of(tokens: &[Arg]) -> Option<u32>
     }
 }
 
-/// The sum that a term is lowered to, turned, where these tokens stand in front of its arguments.
-fn weighted_sum(goal: Goal, term: &LinearForm, front: &[Arg]) -> WeightedSum
-    requires front { length front.now ≤ 4 }
+/// The sum that a term is lowered to, turned.
+fn weighted_sum(goal: Goal, term: &LinearForm) -> WeightedSum
     requires constant { nat_abs term.now.constant ≤ greatest_score }
     requires factors { (k : ℕ) → k < length term.now.factors
         → nat_abs (slice_index_or term.now.factors k (pos 0)) ≤ greatest_score }
     ensures constant { result.constant ≡ turned goal term.now.constant }
     ensures factors { take (length term.now.factors) result.factors ≡ map (turned goal) term.now.factors }
-    ensures worthless { result.weighs ≡ false → AreWorthless front.now (take (length front.now) result.factors) }
 {
-    let factors = turned_factors(goal, &term.factors);
     WeightedSum {
         constant: turned(goal, term.constant),
-        factors,
-        weighs: !are_worthless(front, &factors[..front.len()]),
+        factors: turned_factors(goal, &term.factors),
+    }
+}
+
+/// Whether tokens in front of the arguments of an alternative that is scored in this way may add something to a total.
+fn may_weigh(front: &[Arg], scoring: &Scoring<'_>) -> bool
+    requires { length front.now ≤ 4 }
+    ensures { (sum : DeclaredSum) → scoring.now ≡ Sum sum → result ≡ false
+        → AreWorthless front.now (take (length front.now) sum.factors) }
+{
+    match scoring {
+        Scoring::Sum(sum) => !are_worthless(front, &sum.factors[..front.len()]),
+        Scoring::Term(_) => true,
     }
 }
 
@@ -221,7 +231,7 @@ pub fn kept_alternative<'a>(
     let number = front_length(arguments);
     let (front, others) = (&arguments[..number], &arguments[number..]);
     let scoring = match lowered(term) {
-        Some(lowered) => Scoring::Sum(weighted_sum(goal, &lowered, front)),
+        Some(lowered) => Scoring::Sum(weighted_sum(goal, &lowered)),
         None => Scoring::Term(term),
     };
     KeptAlternative {
@@ -231,6 +241,7 @@ pub fn kept_alternative<'a>(
         first: first_letter(front),
         alone: are_one_letter(front),
         class: class_of(front),
+        weighs: may_weigh(front, &scoring),
         scoring,
         lengths: lengths_of(problem.alternative(rule, alt)),
         line,

@@ -3,6 +3,7 @@
 //! of fixed length match, and each alternative with its tokens in front and its line.
 #![tactic(auto)]
 
+mod beginnings;
 mod classes;
 mod extents;
 mod kept;
@@ -14,6 +15,7 @@ mod spans;
 mod tokens;
 mod ways;
 
+pub use beginnings::Candidates;
 pub use kept::{KeptAlternative, Lengths, Scoring, WeightedSum};
 pub use laws::{line_begins_here, line_begins_later};
 pub use lines::{Boundary, Line, Lines, line_here};

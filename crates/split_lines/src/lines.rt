@@ -6,7 +6,7 @@ ghost use Rattle.std.specs.Option.{option_copied};
 ghost use Rattle.std.specs.List.{AllByRecursion};
 ghost use Rattle.adp_model.specs.declared.grammar.Arg.{Arg as Argument};
 ghost use Rattle.adp_model.specs.Parts.{alternatives_of, arguments_of, letters_of};
-ghost use Rattle.adp_model.specs.PosedProblem.{IsSpan};
+ghost use Rattle.adp_model.specs.PosedProblem.{IsSpan, PosedProblem};
 ghost use Rattle.adp_model.specs.Splits.{FitsSpan, IsViable};
 ghost use Rattle.adp_model.specs.Tokens.{letters_between, total_weight};
 ghost use Rattle.adp_model.specs.Walk.{IsFirstVisited, IsNextVisited, IsLastVisited};
@@ -20,16 +20,19 @@ ghost use Rattle.split_lines.specs.Flags.{AreBitsAmong};
 ghost use Rattle.score_numbers.specs.Limits.{AreLimited};
 ghost use Rattle.split_lines.specs.Lines.{IsLine, IsLastOpen, HasLine, LeavesPosition, parts_by};
 ghost use Rattle.split_lines.specs.Ways.{IsClosed, IsOpening, IsWay};
-ghost use Rattle.split_lines.specs.LinesFields.{AreMiddles, HasAllOf, IsNumberOf, IsKeptOrNone, AreKept};
+ghost use Rattle.split_lines.specs.LinesFields.{AreMiddles, AreNowhere, HasAllOf, IsKeptOrNone, IsKeptRule, IsMiddle};
+ghost use Rattle.split_lines.specs.Beginnings.{IsCandidate};
+ghost use Rattle.split_lines.specs.Matching.{AreMatches};
 
+use crate::beginnings::{Beginnings, Candidates};
 use crate::classes::ClassTables;
 use crate::extents::{Extent, extent_of};
 use crate::kept::{KeptAlternative, kept_alternative, opening};
-use crate::matches::{Matches, covers, fixed_letters};
+use crate::matches::{Matches, covers, fixed_letters, match_nowhere};
 use crate::spans;
-use crate::tokens::{first_letter, is_fixed};
+use crate::tokens::{first_letter, is_fixed, letter_at};
 use crate::ways::Way;
-use adp_model::laws::well_formed::arguments_are_few_and_known;
+use adp_model::laws::well_formed::{alternatives_fit, arguments_are_few_and_known};
 use adp_model::{Arg, Cell, Problem};
 use std::alloc::{AllocError, Global};
 use std::marker::Model;
@@ -78,7 +81,7 @@ pub struct Middle<'a> {
     pub matches: Matches,
 }
 
-/// A line as it is kept: with the number of the list of its middle.
+/// A line as it is kept: with the number of the list of its middle, unless that matches nowhere.
 #[derive(Clone, Copy)]
 pub struct KeptLine {
     pub first: u8,
@@ -86,7 +89,14 @@ pub struct KeptLine {
     pub tail: u16,
     pub before: Extent,
     pub behind: Extent,
-    pub middle: usize,
+    pub middle: Option<usize>,
+}
+
+/// What is kept of a rule: its alternatives, and which of them may begin with a letter.
+#[derive(Drop)]
+pub struct KeptRule<'a> {
+    pub alternatives: Vec<KeptAlternative<'a>>,
+    pub beginnings: Beginnings,
 }
 
 /// The number of the last argument of open length.
@@ -132,25 +142,29 @@ fn are_same(tokens: &[Arg], others: &[Arg]) -> bool
     is_same(&tokens[0], &others[0]) && are_same(&tokens[1..], &others[1..])
 }
 
-/// The number of the list of these tokens, which is put at the end, unless it is found among the first ones.
+/// The number of the list of these tokens, which is put at the end, unless it is found among the first ones; `None`
+/// where they match nowhere.
 fn number_of<'a>(
     alloc: Global,
     tables: &ClassTables<'_>,
     tokens: &'a [Arg],
     middles: &mut Vec<Middle<'a>>,
-) -> Result<usize, AllocError>
+) -> Result<Option<usize>, AllocError>
     requires known { AllByRecursion (IsKnown tables.now.grammar) tokens.now }
     requires fixed { AllByRecursion IsFixed tokens.now }
     requires middles { AreMiddles tables.now middles.old.items }
     ensures middles { IfOk result (λ _. AreMiddles tables.now middles.new.items) }
     ensures kept { IfOk result (λ _. HasAllOf middles.old.items middles.new.items) }
-    ensures number { IfOk result (IsNumberOf middles.new.items tokens.now) }
+    ensures number { IfOk result (IsMiddle tables.now middles.new.items tokens.now) }
 {
+    if match_nowhere(tables, tokens) {
+        return Ok(None);
+    }
     let first = first_letter(tokens);
     for number in 0..middles.len().min(MOST_COMPARED) {
         let middle = &middles[number];
         if middle.first == first && are_same(middle.tokens, tokens) {
-            return Ok(number);
+            return Ok(Some(number));
         }
     }
     let matches = Matches::new(alloc, tables, tokens)?;
@@ -160,7 +174,7 @@ fn number_of<'a>(
         first,
         matches,
     })?;
-    Ok(number)
+    Ok(Some(number))
 }
 
 /// The line of these arguments, as it is kept.
@@ -193,30 +207,51 @@ fn kept_line<'a>(
     }))
 }
 
-/// The alternatives of a rule, as they are kept.
-fn kept_alternatives<'a>(
+/// Where the tokens of a middle match: at the list of this number, or nowhere.
+#[inline(always)]
+fn matches_of<'l>(
+    middles: &'l [Middle<'_>],
+    nowhere: &'l Matches,
+    number: Option<usize>,
+) -> &'l Matches
+    requires { IfSome number (λ number. number < length middles.now) }
+    ensures { (p : PosedProblem) (tokens : List Argument) → AreMiddles p middles.now → AreNowhere p nowhere.now
+        → IsMiddle p middles.now tokens number → AreMatches p tokens result.now }
+{
+    match number {
+        Some(number) => &middles[number].matches,
+        None => nowhere,
+    }
+}
+
+/// What is kept of a rule.
+fn kept_rule<'a>(
     alloc: Global,
     tables: &ClassTables<'a>,
     rule: u32,
     middles: &mut Vec<Middle<'a>>,
-) -> Result<Vec<KeptAlternative<'a>>, AllocError>
+) -> Result<KeptRule<'a>, AllocError>
     requires rule { rule < length tables.now.grammar.rules }
     requires middles { AreMiddles tables.now middles.old.items }
     ensures middles { IfOk result (λ _. AreMiddles tables.now middles.new.items) }
     ensures longer { IfOk result (λ _. HasAllOf middles.old.items middles.new.items) }
-    ensures kept { IfOk result
-        (λ kept. AreKept tables.now middles.new.items rule
-        (length (alternatives_of tables.now.grammar rule)) kept.items) }
+    ensures kept { IfOk result (IsKeptRule tables.now middles.new.items rule) }
 {
     let problem = tables.problem();
     let count = problem.alternatives(rule).len();
-    let mut kept = Vec::with_capacity(alloc, count)?;
+    let mut alternatives = Vec::with_capacity(alloc, count)?;
+    let mut beginnings = Beginnings::none();
     for number in 0..count {
         let alt = number as u8;
         let line = kept_line(alloc, tables, problem.arguments(rule, alt), middles)?;
-        kept.push(kept_alternative(problem, rule, alt, line))?;
+        let kept = kept_alternative(problem, rule, alt, line);
+        beginnings.add(alt, kept.first);
+        alternatives.push(kept)?;
     }
-    Ok(kept)
+    Ok(KeptRule {
+        alternatives,
+        beginnings,
+    })
 }
 
 /// Whether tokens of fixed length match the letters from `from` to `to`; in most cases there are none.
@@ -247,9 +282,9 @@ pub fn line_here<'s, 'l>(line: Option<&'s Line<'l>>, ahead: u8) -> Option<&'s Li
 #[derive(Drop)]
 pub struct Lines<'a> {
     tables: ClassTables<'a>,
+    nowhere: Matches,
     middles: Vec<Middle<'a>>,
-    /// For each rule, for each of its alternatives.
-    alternatives: Vec<Vec<KeptAlternative<'a>>>,
+    rules: Vec<KeptRule<'a>>,
 }
 
 impl<'a> Model for Lines<'a> {
@@ -277,17 +312,19 @@ impl<'a> Lines<'a> {
     {
         problem.admissible();
         let tables = ClassTables::new(alloc, problem)?;
+        let nowhere = Matches::nowhere(alloc, problem)?;
         let mut middles = Vec::new(alloc);
         let count = problem.grammar.rules.as_slice().len();
-        let mut alternatives = Vec::with_capacity(alloc, count)?;
+        let mut rules = Vec::with_capacity(alloc, count)?;
         for rule in 0..count {
-            let kept = kept_alternatives(alloc, &tables, rule as u32, &mut middles)?;
-            alternatives.push(kept)?;
+            let kept = kept_rule(alloc, &tables, rule as u32, &mut middles)?;
+            rules.push(kept)?;
         }
         Ok(Lines {
             tables,
+            nowhere,
             middles,
-            alternatives,
+            rules,
         })
     }
 
@@ -306,14 +343,14 @@ impl<'a> Lines<'a> {
             ((first between : ℕ) → HasLine (drop first (arguments_of self.now.grammar rule alt)) between → ⊥)
             (λ line. IsLine self.now (drop line.first (arguments_of self.now.grammar rule alt)) line) }
     {
-        let kept = self.alternatives[rule as usize][alt as usize].line?;
+        let kept = self.rules[rule as usize].alternatives[alt as usize].line?;
         Some(Line {
             first: kept.first,
             between: kept.between,
             tail: kept.tail,
             before: kept.before,
             behind: kept.behind,
-            middle: &self.middles[kept.middle].matches,
+            middle: matches_of(&self.middles, &self.nowhere, kept.middle),
         })
     }
 
@@ -326,7 +363,30 @@ impl<'a> Lines<'a> {
             → IsAlternative self.now rule alternative (slice_index_or result.now alternative d) }
     {
         let _ = &self.tables;
-        &self.alternatives[rule as usize]
+        &self.rules[rule as usize].alternatives
+    }
+
+    /// The alternatives of the cell's rule, and which of them may begin where the cell does. Takes constant time and no
+    /// memory.
+    #[inline(always)]
+    pub fn candidates(&self, cell: Cell) -> Candidates<'_>
+        requires { cell.rule < length self.now.grammar.rules }
+        ensures each { length result.alternatives.now ≡ length (alternatives_of self.now.grammar cell.rule) }
+        ensures few { length result.alternatives.now ≤ 64 }
+        ensures are { (alternative : ℕ) (d : KeptAlternative) → alternative < length result.alternatives.now
+            → IsAlternative self.now cell.rule alternative (slice_index_or result.alternatives.now alternative d) }
+        ensures others { (alternative : ℕ) (d : KeptAlternative) → alternative < length result.alternatives.now
+            → (IsCandidate result alternative → ⊥)
+            → IsClosed self.now (slice_index_or result.alternatives.now alternative d) cell }
+    {
+        self.problem().admissible();
+        alternatives_fit();
+        let rule = &self.rules[cell.rule as usize];
+        let letter = letter_at(self.problem().letters(), cell.from as usize);
+        Candidates {
+            alternatives: &rule.alternatives,
+            bits: rule.beginnings.bits_at(letter),
+        }
     }
 
     /// Where the tokens in front of an alternative end on a cell; `None` where they don't match there, or where the

@@ -1,6 +1,7 @@
 //! Where tokens of fixed length match.
 
 ghost use Rattle.std.specs.Prelude.{◌≡◌, ◌↔◌, ℕ, ◌+◌, ◌^◌, ◌<◌, ◌≤◌, IfOk, IfSome, IsTrue, List, length};
+ghost use Rattle.std.specs.Bool.{OnTrue};
 ghost use Rattle.std.specs.List.{AllAdjacentBelow, AllByRecursion, Contains};
 ghost use Rattle.adp_model.specs.declared.grammar.Arg.{Arg as Argument};
 ghost use Rattle.adp_model.specs.PosedProblem.{IsSpan};
@@ -10,7 +11,7 @@ ghost use Rattle.split_lines.specs.Kept.{BeginWith};
 ghost use Rattle.split_lines.specs.Laid.{IsFixed};
 ghost use Rattle.split_lines.specs.Flags.{AreBits};
 ghost use Rattle.score_numbers.specs.Limits.{AreLimited};
-ghost use Rattle.split_lines.specs.Matching.{fixed_length, HaveLetters, AreCounts, AreLimitsOf, AreMatches};
+ghost use Rattle.split_lines.specs.Matching.{fixed_length, HaveLetters, AreCounts, AreLimitsOf, AreMatches, MatchNowhere};
 
 use crate::classes::ClassTables;
 use crate::spans::token_end;
@@ -120,21 +121,45 @@ fn bits_of(
     Ok(bits)
 }
 
+/// Whether tokens match nowhere in the word. Of tokens that don't begin with a literal it isn't told.
+pub fn match_nowhere(tables: &ClassTables<'_>, tokens: &[Arg]) -> bool
+    requires known { AllByRecursion (IsKnown tables.now.grammar) tokens.now }
+    requires fixed { AllByRecursion IsFixed tokens.now }
+    ensures { OnTrue result (MatchNowhere tables.now tokens.now) }
+{
+    let Some(letter) = first_letter(tokens) else {
+        return false;
+    };
+    let problem = tables.problem();
+    let word = problem.letters();
+    if !occurs(word, letter) {
+        return true;
+    }
+    problem.admissible();
+    let width = fixed_letters(problem, tokens);
+    for position in 0..(word.len() + 1).saturating_sub(width) {
+        if cover_there(tables, tokens, Some(letter), position, position + width) {
+            return false;
+        }
+    }
+    true
+}
+
 impl Matches {
-    /// Where tokens of so many letters match that match nowhere.
-    fn nowhere(alloc: Global, problem: &Problem<'_>, letters: u16) -> Result<Matches, AllocError>
-        ensures { IfOk result (λ matches. (tokens : List Argument) → HaveLetters problem.now tokens letters
-            → ((from to : ℕ) → Cover problem.now tokens from to → ⊥) → AreMatches problem.now tokens matches) }
+    /// Where tokens match that match nowhere.
+    pub fn nowhere(alloc: Global, problem: &Problem<'_>) -> Result<Matches, AllocError>
+        ensures { IfOk result (λ matches. (tokens : List Argument) → MatchNowhere problem.now tokens
+            → AreMatches problem.now tokens matches) }
     {
         problem.admissible();
         let count = problem.letters().len() + 1;
         Ok(Matches {
-            letters,
+            letters: 0,
             positions: Vec::new(alloc),
             before: vec![in alloc; 0; count + 1]?,
             limits: limits_of(alloc, count, &[])?,
             here: bits_of(alloc, count, &[], 0)?,
-            behind: bits_of(alloc, count, &[], letters)?,
+            behind: bits_of(alloc, count, &[], 0)?,
         })
     }
 
@@ -153,11 +178,6 @@ impl Matches {
         let len = problem.letters().len();
         let width = fixed_letters(problem, tokens);
         let first = first_letter(tokens);
-        if let Some(letter) = first {
-            if !occurs(problem.letters(), letter) {
-                return Matches::nowhere(alloc, problem, width as u16);
-            }
-        }
         let mut positions = Vec::new(alloc);
         let mut before = Vec::with_capacity(alloc, len + 2)?;
         for position in 0..len + 1 {

@@ -42,6 +42,17 @@ pub fn first_letter(tokens: &[Arg]) -> Option<u8>
     }
 }
 
+/// The letter that stands at the position, where there is one.
+#[inline(always)]
+pub fn letter_at(word: &[u8], position: usize) -> Option<u8>
+    ensures { result ≡ slice_get word.now position }
+{
+    match word.get(position) {
+        Some(letter) => Some(*letter),
+        None => None,
+    }
+}
+
 /// Whether the letter stands at the position.
 #[inline(always)]
 pub fn stands(word: &[u8], position: usize, letter: u8) -> bool

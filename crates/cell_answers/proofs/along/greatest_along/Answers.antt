@@ -19,14 +19,14 @@ whole c = opened_whole c.args.lines.now c.args.scores.now c.args.arguments.now c
 tail : (c : After-greatest_front) → IsTail c.args.lines.now c.in_ok-opened.opened c.args.to
 tail c = opened_tail c.args.lines.now c.args.scores.now c.args.arguments.now c.args.factors.now c.args.from c.args.to (laid c) c.in_ok-opened.opened c.in_ok-opened.ensures
 
-pub fixed_total-requires-clause-weighted : goal.fixed_total-requires-clause-weighted
-fixed_total-requires-clause-weighted c = (tail (goal.at.fixed_total-requires-clause-weighted c).After-greatest_front).weighted
+pub between_total-behind-requires-clause-weighted : goal.between_total-behind-requires-clause-weighted
+between_total-behind-requires-clause-weighted c = (tail (goal.at.between_total-behind-requires-clause-weighted c).After-greatest_front).weighted
 
-pub fixed_total-requires-clause-covers : goal.fixed_total-requires-clause-covers
-fixed_total-requires-clause-covers c = (tail (goal.at.fixed_total-requires-clause-covers c).After-greatest_front).covers
+pub between_total-behind-requires-clause-covers : goal.between_total-behind-requires-clause-covers
+between_total-behind-requires-clause-covers c = (tail (goal.at.between_total-behind-requires-clause-covers c).After-greatest_front).covers
 
-pub fixed_total-requires-clause-low : goal.fixed_total-requires-clause-low
-fixed_total-requires-clause-low c = (tail (goal.at.fixed_total-requires-clause-low c).After-greatest_front).low
+pub between_total-behind-requires-clause-low : goal.between_total-behind-requires-clause-low
+between_total-behind-requires-clause-low c = (tail (goal.at.between_total-behind-requires-clause-low c).After-greatest_front).low
 
 pub returns-in_err-front : goal.returns-in_err-front
 returns-in_err-front c =
@@ -46,22 +46,22 @@ pub overflow_add-result : goal.overflow_add-result
 overflow_add-result c =
     let at = (goal.at.overflow_add-result c).After-greatest_front in
     let line = c.in_ok-opened.opened in
-    let low = whole_low c.args.lines.now c.args.scores.now line.arguments line.from c.args.to line.boundary (whole at) (sound at) c.in_ok-front.front c.fixed_total.result c.in_ok-front.ensures.0 c.fixed_total.ensures in
+    let low = whole_low c.args.lines.now c.args.scores.now line.arguments line.from c.args.to line.boundary (whole at) (sound at) c.in_ok-front.front c.between_total-behind.result c.in_ok-front.ensures.0 c.between_total-behind.ensures in
     let fits_front : FitsSigned w64 c.in_ok-front.front = search rules in
-    let fits_tail : FitsSigned w64 c.fixed_total.result = search rules in
-    simp to_z-of_z (fits_below (c.in_ok-front.front +ℤ c.fixed_total.result) low)
+    let fits_tail : FitsSigned w64 c.between_total-behind.result = search rules in
+    simp to_z-of_z (fits_below (c.in_ok-front.front +ℤ c.between_total-behind.result) low)
 
 pub returns : goal.returns
 returns c =
     let at = (goal.at.returns c).After-greatest_front in
     let p = c.args.lines.now in
     let line = c.in_ok-opened.opened in
-    let low = whole_low p c.args.scores.now line.arguments line.from c.args.to line.boundary (whole at) (sound at) c.in_ok-front.front c.fixed_total.result c.in_ok-front.ensures.0 c.fixed_total.ensures in
+    let low = whole_low p c.args.scores.now line.arguments line.from c.args.to line.boundary (whole at) (sound at) c.in_ok-front.front c.between_total-behind.result c.in_ok-front.ensures.0 c.between_total-behind.ensures in
     let fits_front : FitsSigned w64 c.in_ok-front.front = search rules in
-    let fits_tail : FitsSigned w64 c.fixed_total.result = search rules in
-    let fits_sum : FitsSigned w64 (c.in_ok-front.front +ℤ c.fixed_total.result) = fits_below (c.in_ok-front.front +ℤ c.fixed_total.result) low in
-    let found : IsGreatestOf (HasTotal p (HasBestScore p) c.args.arguments.now c.args.factors.now c.args.from c.args.to) (Some (c.in_ok-front.front +ℤ c.fixed_total.result)) =
+    let fits_tail : FitsSigned w64 c.between_total-behind.result = search rules in
+    let fits_sum : FitsSigned w64 (c.in_ok-front.front +ℤ c.between_total-behind.result) = fits_below (c.in_ok-front.front +ℤ c.between_total-behind.result) low in
+    let found : IsGreatestOf (HasTotal p (HasBestScore p) c.args.arguments.now c.args.factors.now c.args.from c.args.to) (Some (c.in_ok-front.front +ℤ c.between_total-behind.result)) =
     opened_holds p c.args.scores.now c.args.arguments.now c.args.factors.now c.args.from c.args.to (laid at) line c.in_ok-opened.ensures
-    (λ arguments factors from. IsGreatestOf (HasTotal p (HasBestScore p) arguments factors from c.args.to) (Some (c.in_ok-front.front +ℤ c.fixed_total.result)))
-    (greatest_whole p c.args.scores.now line.arguments line.from c.args.to line.boundary (whole at) c.in_ok-front.front c.fixed_total.result c.in_ok-front.ensures c.fixed_total.ensures) in
+    (λ arguments factors from. IsGreatestOf (HasTotal p (HasBestScore p) arguments factors from c.args.to) (Some (c.in_ok-front.front +ℤ c.between_total-behind.result)))
+    (greatest_whole p c.args.scores.now line.arguments line.from c.args.to line.boundary (whole at) c.in_ok-front.front c.between_total-behind.result c.in_ok-front.ensures c.between_total-behind.ensures) in
     simp to_z-of_z found

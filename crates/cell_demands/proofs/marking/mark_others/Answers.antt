@@ -44,8 +44,8 @@ pub returns-in-Last-clause-noted : goal.returns-in-Last-clause-noted
 returns-in-Last-clause-noted c =
     true_from c.args.lines.now c.args.cell.from c.args.marks.now c.mark_last.new.marks (Demands c.args.lines.now (c.in-Last.argument.now ∷ []) c.args.from c.args.cell.to) c.mark_last.ensures.marked c.args.tails.now c.requires.noted
 
-pub mark_arguments-requires-clause-owner : goal.mark_arguments-requires-clause-owner
-mark_arguments-requires-clause-owner c = record {
+pub mark_several-requires-clause-owner : goal.mark_several-requires-clause-owner
+mark_several-requires-clause-owner c = record {
   before = c.args.alternative.now.front.now;
   arguments_are = c.requires.alternative.arguments;
   count = refl;

@@ -53,7 +53,7 @@ returns-clause-alternative c =
           w.weighted_sum.ensures.factors ∙ ap (λ goal. map (turned goal) lowered.factors) goal_is in
           by_sum p c.args.rule c.args.alt _ c.match-lowered.scoring w.weighted_sum.result w.scoring-is
           (alternative_summed law p c.args.rule c.args.alt _ w.weighted_sum.result c.term-term.result.now lowered all n are.arguments (omega (arith, four, are.few))
-          c.front_length-number.ensures.within refl (take_rest all n) term_is w.in-Some.ensures.exact constant factors w.weighted_sum.ensures.worthless)
+          c.front_length-number.ensures.within refl (take_rest all n) term_is w.in-Some.ensures.exact constant factors (c.may_weigh.ensures w.weighted_sum.result w.scoring-is))
       | in-None w ↦ by_term p c.args.rule c.args.alt _ c.match-lowered.scoring c.term-term.result w.scoring-is term_is
     ] in
     alternative_kept p c.args.rule c.args.alt _ all n are.arguments are.few are.known c.front_length-number.ensures.within c.front_length-number.ensures.fixed

@@ -10,7 +10,7 @@ use Rattle.split_lines.specs.Laid.{IsFixed}
 use Rattle.split_lines.specs.Lines.{HasLine}
 use Rattle.split_lines.specs.Extents.{IsExtent}
 use Rattle.split_lines.specs.Matching.{HaveLetters}
-use Rattle.split_lines.specs.LinesFields.{IsNumberOf}
+use Rattle.split_lines.specs.LinesFields.{IsMiddle}
 use Rattle.split_lines.proofs.LineFacts.{middle_taken, tail_taken}
 use Rattle.split_lines.proofs.lines.kept_line.Goals as goal
 
@@ -112,7 +112,7 @@ returns-clause-line c =
     let p = c.args.tables.now in
     let several = c.in-Some.ensures.several in
     let long = length-drop first all in
-    let N : List Arg → Type 0 = λ tokens. IsNumberOf c.number_of.new.middles.items tokens c.in_ok-middle.middle in
+    let N : List Arg → Type 0 = λ tokens. IsMiddle p c.number_of.new.middles.items tokens c.in_ok-middle.middle in
     let H : PosedProblem → List Arg → Type 0 = λ p tokens. HaveLetters p tokens c.fixed_letters-tail.result in
     let first_is = read_behind all first 0 first c.index-arguments-first.result (omega arith) (omega arith) c.index-arguments-first.is in
     let second_is = read_behind all first (between + 1) (first + between + 1) c.index-arguments-second.result (omega arith) (omega arith) c.index-arguments-second.is in

@@ -1,5 +1,4 @@
-use Rattle.std.proofs.Common.{◌≡◌, ℕ, ◌+◌, ◌<◌, ◌≤◌, Option, Some, Result, Ok, Err, IfOk, Vec, Global, List, [], ◌∷◌, ◌++◌, length, get_or, slice_get, ap, sym, subst, ◌∙◌, arith}
-use Rattle.std.specs.Prelude.{IfSome}
+use Rattle.std.proofs.Common.{◌≡◌, ℕ, ◌+◌, ◌<◌, ◌≤◌, Vec, Global, List, [], ◌∷◌, ◌++◌, length, get_or, ap, sym, subst, ◌∙◌, arith}
 use Rattle.std.specs.List.{Contains}
 use Rattle.std.proofs.lemmas.Bool.{false≢true}
 use Rattle.std.proofs.lemmas.List.{length_push}
@@ -7,10 +6,7 @@ use Rattle.adp_model.specs.declared.grammar.Arg.{Arg}
 use Rattle.adp_model.specs.PosedProblem.{PosedProblem}
 use Rattle.viable_splits.specs.Placing.{Cover}
 use Rattle.split_lines.specs.Flags.{AreBits}
-use Rattle.split_lines.specs.declared.matches.Matches.{Matches}
-use Rattle.split_lines.specs.Kept.{BeginWith}
-use Rattle.split_lines.specs.Matching.{HaveLetters, AreMatchPositions, AreCounts, AreLimitsOf, AreMatches}
-use Rattle.split_lines.proofs.MakingReady.{letter_stands}
+use Rattle.split_lines.specs.Matching.{HaveLetters, AreMatchPositions, AreCounts, AreLimitsOf}
 use Rattle.split_lines.proofs.Matched.{no_counts, one_count_more, one_position_more, no_positions, positions_below, one_match_more, no_match_there}
 use Rattle.split_lines.proofs.TokenSpans.{cover_within}
 use Rattle.split_lines.proofs.matches.Matches.new.Goals as goal
@@ -116,26 +112,3 @@ bits_of-requires-2-clause-within c = λ position there.
     let found = (c.loop-position.invariant.positions.exact position).0 (subst C c.deref-3.ensures.value there) in
     let within = cover_within p c.args.tokens.now position (position + c.fixed_letters-width.result) (omega (arith, found.0, len_is)) found.1 in
     omega (arith, within, len_is)
-
--- ---- tokens that begin with a letter that the word lacks
-
-taken : {E : Type 0} (result : Result Matches E) (p : PosedProblem) (tokens : List Arg) (letters : ℕ)
-    → IfOk result (λ matches. (tokens : List Arg) → HaveLetters p tokens letters → ((from to : ℕ) → Cover p tokens from to → ⊥) → AreMatches p tokens matches)
-    → HaveLetters p tokens letters → ((from to : ℕ) → Cover p tokens from to → ⊥) → IfOk result (AreMatches p tokens)
-taken (Ok matches) p tokens letters made have none = made tokens have none
-taken (Err error) p tokens letters made have none = tt
-
-pub returns-then-not-occurs : goal.returns-then-not-occurs
-returns-then-not-occurs c =
-    let p = c.args.tables.now in
-    let tokens = c.args.tokens.now in
-    let width = c.fixed_letters-width.result in
-    let F : Option ℕ → Type 0 = λ first. IfSome first (BeginWith tokens) in
-    let begins : BeginWith tokens c.in-Some.letter = subst F c.in-Some.is c.first_letter-first.ensures in
-    let word_is : c.letters.result.now ≡ p.word = c.letters.ensures.word ∙ ap (λ (p : PosedProblem). p.word) c.problem-problem.ensures in
-    let S : List ℕ → ℕ → Type 0 = λ word from. slice_get word from ≡ Some c.in-Some.letter in
-    let none : (from to : ℕ) → Cover p tokens from to → ⊥ = λ from to cover.
-    c.occurs.ensures c.if-not-occurs.true from (subst (λ word. S word from) (sym word_is) (letter_stands p tokens c.in-Some.letter from to begins cover)) in
-    let R : PosedProblem → Type 0 = λ p. IfOk c.nowhere.result (λ matches. (tokens : List Arg) → HaveLetters p tokens width → ((from to : ℕ) → Cover p tokens from to → ⊥) → AreMatches p tokens matches) in
-    let H : PosedProblem → Type 0 = λ p. HaveLetters p tokens width in
-    taken c.nowhere.result p tokens width (subst R c.problem-problem.ensures c.nowhere.ensures) (subst H c.problem-problem.ensures c.fixed_letters-width.ensures.letters) none
