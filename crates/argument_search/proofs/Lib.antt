@@ -13,3 +13,5 @@ pub mod LineHere
 pub mod SkipSteps
 pub mod Demanded
 pub mod NotedArguments
+pub mod OnlySplits
+pub mod Entries

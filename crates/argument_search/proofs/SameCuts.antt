@@ -15,7 +15,7 @@ use Rattle.argument_search.proofs.LineSplits.{AreAt, tail_cover}
 length-letters : (word : List ℕ) (from to : ℕ) → IsSpan word from to → length (letters_between word from to) ≡ to - from
 length-letters word from to span = simp (length-take, length-drop) (omega (arith, span.in_order, span.in_word))
 
-one_end : (p : PosedProblem) (token : Arg) (from end other : ℕ) → IsFixed token → FitsSpan p (on_span token from end)
+pub one_end : (p : PosedProblem) (token : Arg) (from end other : ℕ) → IsFixed token → FitsSpan p (on_span token from end)
     → FitsSpan p (on_span token from other) → end ≡ other
 one_end p (Rule rule) from end other fixed fits fits' = absurd fixed
 one_end p (Literal text) from end other fixed fits fits' =

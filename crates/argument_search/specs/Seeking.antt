@@ -1,13 +1,15 @@
 -- The next argument whose cell isn't noted, in the order of a walk.
-use Rattle.std.specs.Prelude.{◌≡◌, ◌⊎◌, ℕ, ◌≤◌, true, false, Some, List, length}
+use Rattle.std.specs.Prelude.{◌≡◌, ◌⊎◌, ℕ, ◌<◌, ◌≤◌, true, false, Some, List, [], ◌∷◌, length}
 use Rattle.adp_model.specs.declared.cell.Cell.{Cell}
+use Rattle.adp_model.specs.declared.grammar.Arg.{Arg}
 use Rattle.adp_model.specs.PosedProblem.{PosedProblem}
-use Rattle.adp_model.specs.Parts.{alternatives_of}
+use Rattle.adp_model.specs.Parts.{alternatives_of, arguments_of}
 use Rattle.memo_model.specs.declared.visit.Position.{Position}
 use Rattle.memo_model.specs.declared.visit.Visit.{Visit}
 use Rattle.adp_model.specs.SplitArguments.{SplitArgument, AsksFor, IsSplitArgument}
 use Rattle.memo_model.specs.Visits.{argument_at, turned_number, is_before, is_behind}
-use Rattle.adp_model.specs.Walk.{IsVisitedBefore}
+use Rattle.adp_model.specs.Walk.{IsVisitedBefore, IsFirstVisited}
+use Rattle.split_lines.specs.declared.kept.KeptAlternative.{KeptAlternative}
 
 -- the walk, at another position
 abbrev pub moved_to : Visit → Position → Visit
@@ -31,6 +33,22 @@ AreNotedBehind p Noted cell alternative turns before =
     (cuts : List ℕ) (number : ℕ) (child : Cell) → IsVisitedBefore cell turns before cuts
     → AsksFor p (record { cell = cell; alternative = alternative; cuts = cuts; number = number }) child
     → Noted child
+
+-- the alternative is a token of fixed length, in front, and one more argument
+pub record IsTokenAndArgument (kept : KeptAlternative) : Type 0 where
+  pub token : Arg
+  pub argument : Arg
+  pub front : kept.front.now ≡ token ∷ []
+  pub others : kept.others.now ≡ argument ∷ []
+
+-- the position is in the split of the alternative that is visited first, and no argument before it asks for a cell
+pub record IsEntry (p : PosedProblem) (cell : Cell) (alternative : ℕ) (turns : List ℕ) (position : Position) : Type 0
+  where
+    pub here : position.alternative ≡ alternative
+    pub first : IsFirstVisited p cell alternative turns position.cuts
+    pub within : position.number < length (arguments_of p.grammar cell.rule alternative)
+    pub tokens : (number : ℕ) (child : Cell) → number < position.number
+        → AsksFor p (record { cell = cell; alternative = alternative; cuts = position.cuts; number = number }) child → ⊥
 
 -- behind the walk's position the argument there is the next one, but for some whose cells are noted
 pub record IsNextLeft (p : PosedProblem) (Noted : Cell → Type 0) (visit : Visit) (position : Position) : Type 0 where

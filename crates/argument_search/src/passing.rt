@@ -1,6 +1,6 @@
 //! Alternatives all of whose cells are noted.
 
-ghost use Rattle.std.specs.Prelude.{◌≡◌, ℕ, ◌<◌, ◌≤◌, IfSome, true, drop, length};
+ghost use Rattle.std.specs.Prelude.{◌≡◌, ℕ, ◌<◌, ◌≤◌, IfSome, MatchOption, true, drop, length};
 ghost use Rattle.std.specs.Bool.{OnTrue};
 ghost use Rattle.std.specs.List.{AllByRecursion};
 ghost use Rattle.std.specs.Option.{option_copied};
@@ -11,6 +11,7 @@ ghost use Rattle.adp_model.specs.WellFormed.{IsKnown};
 ghost use Rattle.split_lines.specs.Kept.{IsAlternative};
 ghost use Rattle.split_lines.specs.Laid.{IsCellOf};
 ghost use Rattle.split_lines.specs.Lines.{IsLine};
+ghost use Rattle.split_lines.specs.Ways.{IsOpening};
 ghost use Rattle.argument_search.specs.declared.passing.Depth.TheVariants.{OneLine};
 ghost use Rattle.argument_search.specs.Seeking.{AreAllNoted};
 ghost use Rattle.argument_search.specs.Skipping.{AreNotedIfLaid, AreNotedOn};
@@ -187,6 +188,45 @@ fn are_others_noted<N: NotedCells>(
     }
 }
 
+/// What is kept of an alternative.
+pub(crate) fn kept<'s, 'a>(lines: &'s Lines<'a>, rule: u32, alt: u8) -> &'s KeptAlternative<'a>
+    requires { alt < length (alternatives_of lines.now.grammar rule) }
+    ensures { IsAlternative lines.now rule alt result.now }
+{
+    lines.problem().admissible();
+    alternatives_fit();
+    &lines.alternatives(rule)[alt as usize]
+}
+
+/// Where the tokens in front of an alternative end on a cell, unless each cell that its splits ask for is noted, as far
+/// as the depth lets it be told.
+#[inline(always)]
+pub(crate) fn end_in_front<N: NotedCells>(
+    lines: &Lines<'_>,
+    noted: &N,
+    cell: Cell,
+    alternative: &KeptAlternative<'_>,
+    alt: u8,
+    depth: Depth,
+) -> Option<u16>
+    requires span { IsSpan lines.now.word cell.from cell.to }
+    requires in_range { alt < length (alternatives_of lines.now.grammar cell.rule) }
+    requires alternative { IsAlternative lines.now cell.rule alt alternative.now }
+    ensures { MatchOption result (AreAllNoted lines.now (N.is_noted noted.now) cell alt)
+        (IsOpening lines.now alternative.now cell) }
+{
+    lines.problem().admissible();
+    alternatives_fit();
+    arguments_are_few_and_known();
+    let Some(end) = lines.opening(alternative, cell) else {
+        return None;
+    };
+    if are_others_noted(lines, noted, cell, alternative, alt, depth, end) {
+        return None;
+    }
+    Some(end)
+}
+
 /// Whether each cell that the splits of an alternative ask for is noted, as far as the depth lets it be told.
 pub(crate) fn are_all_noted<N: NotedCells>(
     lines: &Lines<'_>,
@@ -199,12 +239,9 @@ pub(crate) fn are_all_noted<N: NotedCells>(
     requires alternative { alt < length (alternatives_of lines.now.grammar cell.rule) }
     ensures { OnTrue result (AreAllNoted lines.now (N.is_noted noted.now) cell alt) }
 {
-    lines.problem().admissible();
-    alternatives_fit();
-    arguments_are_few_and_known();
-    let alternative = &lines.alternatives(cell.rule)[alt as usize];
-    match lines.opening(alternative, cell) {
-        Some(end) => are_others_noted(lines, noted, cell, alternative, alt, depth, end),
+    let alternative = kept(lines, cell.rule, alt);
+    match end_in_front(lines, noted, cell, alternative, alt, depth) {
+        Some(_) => false,
         None => true,
     }
 }

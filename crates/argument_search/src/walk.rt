@@ -1,19 +1,20 @@
 //! The walk over the arguments of a cell's splits, in the order of a visit.
 
-ghost use Rattle.std.specs.Prelude.{◌≡◌, ◌+◌, ◌-◌, ◌<◌, ◌≤◌, MatchOption, ◌∷◌, length, slice_index};
-ghost use Rattle.std.specs.Bool.{OnTrue, OnFalse};
+ghost use Rattle.std.specs.Prelude.{◌≡◌, ℕ, ◌+◌, ◌-◌, ◌<◌, ◌≤◌, IfSome, MatchOption, List, ◌∷◌, length, slice_index};
+ghost use Rattle.std.specs.Bool.{OnTrue};
 ghost use Rattle.std.specs.List.{AllByRecursion};
 ghost use Rattle.adp_model.specs.declared.cell.Cell.{Cell as AnyCell};
 ghost use Rattle.adp_model.specs.PosedProblem.{IsSpan};
 ghost use Rattle.adp_model.specs.Parts.{alternatives_of};
-ghost use Rattle.adp_model.specs.Splits.{ends_by};
+ghost use Rattle.adp_model.specs.Splits.{ends_by, IsViable};
 ghost use Rattle.adp_model.specs.SplitArguments.{IsSplitArgument, AsksFor};
 ghost use Rattle.memo_model.specs.Visits.{argument_at, turned_number, IsWalk};
-ghost use Rattle.adp_model.specs.Walk.{IsFirstVisited};
-ghost use Rattle.argument_search.specs.Seeking.{AreAllNoted, IsFirstLeft, IsNextLeft, IsNoneLeft, IsNoneSought, turned_of};
+ghost use Rattle.split_lines.specs.Kept.{IsAlternative};
+ghost use Rattle.split_lines.specs.Ways.{IsOpening};
+ghost use Rattle.argument_search.specs.Seeking.{AreAllNoted, AreNotedBehind, IsEntry, IsFirstLeft, IsNextLeft, IsNoneLeft, IsNoneSought, IsTokenAndArgument, turned_of};
 
 use crate::noted_cells::NotedCells;
-use crate::passing::{Depth, are_all_noted};
+use crate::passing::{Depth, are_all_noted, end_in_front, kept};
 use crate::positions::{at_number, end_of, first_of, start_of};
 use crate::skipping::reached;
 use adp_model::laws::splits::ranks_tell_splits_apart;
@@ -21,7 +22,7 @@ use adp_model::laws::well_formed::alternatives_fit;
 use adp_model::{Arg, Cell, Problem};
 use memo_model::{Position, Visit};
 use random_orders::rotated;
-use split_lines::Lines;
+use split_lines::{KeptAlternative, Lines};
 use viable_splits::Cuts;
 
 /// The alternative that is visited behind so many others where the visit begins with `first`.
@@ -35,8 +36,39 @@ fn alternative_behind(first: u32, count: u32, turned: u32) -> u32
     rotated(first, count, turned)
 }
 
-/// Whether an alternative has a viable split of the cell, unless all cells that its splits ask for are seen to be
-/// noted; if so, `cuts` are then the one that is visited first.
+/// The second argument of the one viable split that an alternative has where it is a token and an argument of open
+/// length, which has the letters behind the token's `end`.
+fn only_split(
+    lines: &Lines<'_>,
+    cell: Cell,
+    alternative: &KeptAlternative<'_>,
+    alt: u8,
+    end: u16,
+) -> Option<Position>
+    requires span { IsSpan lines.now.word cell.from cell.to }
+    requires in_range { alt < length (alternatives_of lines.now.grammar cell.rule) }
+    requires alternative { IsAlternative lines.now cell.rule alt alternative.now }
+    requires opening { IsOpening lines.now alternative.now cell end }
+    ensures { IfSome result (λ at. (turns : List ℕ) → IsEntry lines.now cell alt turns at) }
+{
+    let [_token] = alternative.front else {
+        return None;
+    };
+    let [argument] = alternative.others else {
+        return None;
+    };
+    if !lines.fits(argument, end, cell.to) {
+        return None;
+    }
+    Some(Position {
+        alternative: alt,
+        cuts: [end, cell.to, cell.to],
+        number: 1,
+    })
+}
+
+/// An argument of the split of an alternative that is visited first, with tokens alone before it; `None` where there is
+/// no viable split, or where all cells that the splits ask for are seen to be noted.
 fn first_left<N: NotedCells>(
     lines: &Lines<'_>,
     problem: &Problem<'_>,
@@ -44,19 +76,28 @@ fn first_left<N: NotedCells>(
     cell: Cell,
     alt: u8,
     turns: [u32; 3],
-    cuts: &mut Cuts,
-) -> bool
+) -> Option<Position>
     requires same { lines.now ≡ problem.now }
     requires span { IsSpan problem.now.word cell.from cell.to }
     requires alternative { alt < length (alternatives_of problem.now.grammar cell.rule) }
     requires turns { AllByRecursion (λ turn. turn ≤ cell.to - cell.from) turns }
-    ensures first { OnTrue result (IsFirstVisited problem.now cell alt turns cuts.new.at) }
-    ensures none { OnFalse result (AreAllNoted problem.now (N.is_noted noted.now) cell alt) }
+    ensures { MatchOption result (AreAllNoted problem.now (N.is_noted noted.now) cell alt)
+        (IsEntry problem.now cell alt turns) }
 {
-    if are_all_noted(lines, noted, cell, alt, Depth::Whole) {
-        return false;
+    problem.admissible();
+    alternatives_fit();
+    let alternative = kept(lines, cell.rule, alt);
+    let Some(end) = end_in_front(lines, noted, cell, alternative, alt, Depth::Whole) else {
+        return None;
+    };
+    if let Some(at) = only_split(lines, cell, alternative, alt, end) {
+        return Some(at);
     }
-    lines.first_viable(cell, alt, turns, cuts)
+    let mut cuts = Cuts { at: [0; 3], turns };
+    if lines.first_viable(cell, alt, turns, &mut cuts) {
+        return Some(first_of(alt, cuts.at));
+    }
+    None
 }
 
 /// The first argument of the alternatives that the visit comes to from this turned number on, but for alternatives
@@ -79,19 +120,10 @@ fn first_from<N: NotedCells>(
     ranks_tell_splits_apart();
     let count = problem.alternatives(visit.cell.rule).len() as u32;
     let turns = visit.turns;
-    let mut cuts = Cuts { at: [0; 3], turns };
     for number in turned..count {
         let alternative = alternative_behind(visit.first, count, number) as u8;
-        if first_left(
-            lines,
-            problem,
-            noted,
-            visit.cell,
-            alternative,
-            turns,
-            &mut cuts,
-        ) {
-            return Some(first_of(alternative, cuts.at));
+        if let Some(at) = first_left(lines, problem, noted, visit.cell, alternative, turns) {
+            return Some(at);
         }
     }
     None
@@ -118,6 +150,37 @@ fn first_behind<N: NotedCells>(
     first_from(lines, problem, noted, visit, turned + 1)
 }
 
+/// Whether an alternative has one viable split at most, as a token and one more argument have.
+fn has_one_split(alternative: &KeptAlternative<'_>) -> bool
+    ensures { OnTrue result (IsTokenAndArgument alternative.now) }
+{
+    let [_token] = alternative.front else {
+        return false;
+    };
+    let [_argument] = alternative.others else {
+        return false;
+    };
+    true
+}
+
+/// Whether each cell is noted that the splits of an alternative ask for which are visited behind these cuts, as far as
+/// the depth lets it be told.
+fn are_later_noted<N: NotedCells>(
+    lines: &Lines<'_>,
+    noted: &N,
+    cell: Cell,
+    at: Position,
+    depth: Depth,
+) -> bool
+    requires span { IsSpan lines.now.word cell.from cell.to }
+    requires viable { IsViable lines.now cell at.alternative at.cuts }
+    ensures { OnTrue result ((turns : List ℕ)
+        → AreNotedBehind lines.now (N.is_noted noted.now) cell at.alternative turns at.cuts) }
+{
+    has_one_split(kept(lines, cell.rule, at.alternative))
+        || are_all_noted(lines, noted, cell, at.alternative, depth)
+}
+
 /// The argument that the visit comes to next, but for some whose cells are noted: those of whole alternatives, and
 /// those along a line of splits. The rest of the alternative at hand is passed over where its cells are seen to be
 /// noted at this depth. Takes no memory.
@@ -141,9 +204,7 @@ pub(crate) fn next_position<N: NotedCells>(
     alternatives_fit();
     ranks_tell_splits_apart();
     let count = problem.arguments(visit.cell.rule, at.alternative).len();
-    if at.number as usize + 1 == count
-        && are_all_noted(lines, noted, visit.cell, at.alternative, depth)
-    {
+    if at.number as usize + 1 == count && are_later_noted(lines, noted, visit.cell, at, depth) {
         return first_behind(lines, problem, noted, visit, at.alternative);
     }
     if reached(lines, problem, noted, visit, &mut at) {

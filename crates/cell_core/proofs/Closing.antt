@@ -15,6 +15,7 @@ use Rattle.cell_core.specs.Working.{frames_of, all_frames, with_top, HasRoom, Is
 use Rattle.cell_core.specs.FrameChanges.{standing, EndsPublication, IsFrameGone}
 use Rattle.cell_core.proofs.Worked.{IsAt, IsWorking, IsStepped, publish_next_sound, publish_end_sound, publish_next_left, publish_end_left}
 use Rattle.cell_core.proofs.Changes.{frame_gone}
+use Rattle.cell_core.proofs.Stepped.{with_parts}
 
 -- the work with another number of wins
 abbrev pub with_wins : {Probe : Type 0} → Work Probe → ℕ → Work Probe
@@ -41,6 +42,19 @@ on_with_a_top {Probe} work work' score closed e f = go closed.next
         → ⊥
     go (inl next) = none-some next.0 (sym f ∙ next.1)
     go (inr end) = false≢true (sym e ∙ end.2)
+
+-- what was on top doesn't matter
+pub closed_under : {Probe : Type 0} (work work' : Work Probe) (top : Option (Frame Probe)) (score : Option ℤ)
+    → IsClosed (with_parts work work.hand top) work' score → IsClosed work work' score
+closed_under work work' top score closed = record {
+  hand = closed.hand;
+  ready = closed.ready;
+  capacity = closed.capacity;
+  opened = closed.opened;
+  wins = closed.wins;
+  moves = closed.moves;
+  next = closed.next;
+}
 
 module _ {Pass Probe : Type 0} {memo : Meaning Pass Probe} {p : PosedProblem} {Noted : Cell → Type 0}
     {pass pass' : Pass} {work' : Work Probe} {answer : Answer} {wins : ℕ} {score : Option ℤ}

@@ -55,6 +55,14 @@ impl<'a, M: Memo> Model for Machine<'a, M> {
         × IfSome machine.notes (λ notes. notes.problem ≡ machine.problem.now) };
 }
 
+/// Gives back the memory of the notes. It is kept out of the step, which would pay for it each time.
+#[inline(never)]
+fn forget(notes: &mut Option<CellNotes<'_>>)
+    ensures { notes.new ≡ None }
+{
+    *notes = None;
+}
+
 impl<'a, M: Memo> Machine<'a, M> {
     /// A machine of a problem, which works out what is shared for itself alone. Fails for want of memory alone.
     pub fn new(
@@ -100,6 +108,7 @@ impl<'a, M: Memo> Machine<'a, M> {
 
     /// Makes exactly one step of the memo, and counts it; or none where the machine has ended, and then pass and
     /// machine are as before. Takes no memory.
+    #[inline(always)]
     pub fn step<L: Ledger>(&mut self, memo: &M, pass: &mut M::Pass, steps: &mut Steps<L>) -> Turn
         requires memo { M.problem memo.now ≡ self.old.machine.problem }
         requires own { M.is_of memo.now pass.old }
@@ -149,7 +158,7 @@ impl<'a, M: Memo> Machine<'a, M> {
         if !self.work.ended {
             return Turn::Going;
         }
-        self.notes = None;
+        forget(&mut self.notes);
         Turn::Ended(self.work.score)
     }
 

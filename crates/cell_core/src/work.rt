@@ -10,7 +10,7 @@ ghost use Rattle.memo_model.specs.Memos.{HasLoaded, IsScoreOf, StayKnown};
 ghost use Rattle.memo_model.specs.Machines.{IsUnderWay};
 ghost use Rattle.rand_pcg.specs.Lcg.{Lcg};
 ghost use Rattle.random_orders.specs.Draws.{drawn_turns};
-ghost use Rattle.cell_core.specs.Working.{all_frames, with_hand, with_top, IsSound, IsOpened, IsClosed, IsFreshWork, work_left};
+ghost use Rattle.cell_core.specs.Working.{all_frames, with_hand, IsSound, IsOpened, IsClosed, IsFreshWork, work_left};
 ghost use Rattle.cell_core.specs.MachineViews.{loads_at, looked_for, LoadsAsTold};
 ghost use Rattle.cell_core.specs.FrameChanges.{standing, turn_bounds, ChangesFrames, GainsWins};
 
@@ -127,6 +127,7 @@ fn first_look<M: Memo, N: Notes>(
 
 /// Takes a probe in hand for the next argument of the top frame's visit, or finds the answer of its cell where none is
 /// left.
+#[inline(never)]
 fn advance<M: Memo, N: Notes>(
     problem: &Problem<'_>,
     notes: &N,
@@ -289,10 +290,9 @@ fn score_of(answer: Answer) -> Option<i64>
     }
 }
 
-/// Notes the score of the cell of the frame that was on top. The frame below it is on top then, or the machine has
-/// ended.
+/// Notes the score of the cell of the top frame, and takes that away. The frame below it is on top then, or the machine
+/// has ended.
 fn close<N: Notes, P: Drop>(notes: &mut N, work: &mut Work<P>, cell: Cell, score: Option<i64>)
-    requires taken { work.old.top ≡ None }
     requires demanded { IsDemanded (N.problem notes.old) cell }
     requires score { IsScoreOf (N.problem notes.old) cell score }
     ensures notes { N.problem notes.new ≡ N.problem notes.old }
@@ -304,6 +304,7 @@ fn close<N: Notes, P: Drop>(notes: &mut N, work: &mut Work<P>, cell: Cell, score
     match work.below.pop() {
         Some(next) => work.top = Some(next),
         None => {
+            work.top = None;
             work.ended = true;
             work.score = score;
         }
@@ -318,7 +319,6 @@ fn publish<M: Memo, N: Notes, L: Ledger>(
     memo: &M,
     pass: &mut M::Pass,
     work: &mut Work<M::Probe>,
-    mut top: Frame<M::Probe>,
     answer: Answer,
     steps: &mut Steps<L>,
 )
@@ -328,8 +328,7 @@ fn publish<M: Memo, N: Notes, L: Ledger>(
     requires going { work.old.ended ≡ false }
     requires no_hand { work.old.hand ≡ None }
     requires answer { work.old.ready ≡ Some answer }
-    requires taken { work.old.top ≡ None }
-    requires sound { IsSound M.meaning problem.now (N.noted notes.old) (with_top work.old top) pass.old }
+    requires sound { IsSound M.meaning problem.now (N.noted notes.old) work.old pass.old }
     ensures notes { N.problem notes.new ≡ problem.now }
     ensures own { M.is_of memo.now pass.new }
     ensures on { M.goes_on pass.old pass.new }
@@ -338,7 +337,7 @@ fn publish<M: Memo, N: Notes, L: Ledger>(
     ensures wins { GainsWins M.meaning pass.old pass.new work.old.wins work.new.wins }
     ensures moves { work.new.moves ≡ work.old.moves }
     ensures frames { ChangesFrames M.meaning problem.now pass.old pass.new
-        (standing (all_frames (with_top work.old top)) work.old.opened orders.now)
+        (standing (all_frames work.old) work.old.opened orders.now)
         (standing (all_frames work.new) work.new.opened orders.now) }
     ensures next { (work.new.ready ≡ None) → work.new.ended ≡ false → work.new.top ≢ None }
     ensures no_hand { work.new.hand ≡ None }
@@ -346,19 +345,23 @@ fn publish<M: Memo, N: Notes, L: Ledger>(
     ensures sound { IsSound M.meaning problem.now (N.noted notes.new) work.new pass.new }
     ensures lower { (m : ℕ) (arguments : List SplitArgument) → IsDemandedCount problem.now m
         → work_left M.meaning problem.now m arguments work.new pass.new
-        < work_left M.meaning problem.now m arguments (with_top work.old top) pass.old }
+        < work_left M.meaning problem.now m arguments work.old pass.old }
 {
     problem.admissible();
     heights_fall();
     demanded_cells_are_listed();
+    let Some(Frame { visit, probe }) = &mut work.top else {
+        unreachable!();
+    };
     let score = score_of(answer);
-    match memo.publish_step(pass, &mut top.probe, answer, steps) {
-        Publish::Going => work.top = Some(top),
+    let cell = visit.cell;
+    match memo.publish_step(pass, probe, answer, steps) {
+        Publish::Going => {}
         Publish::Won => {
             work.wins += 1;
-            close(notes, work, top.visit.cell, score);
+            close(notes, work, cell, score);
         }
-        Publish::Lost => close(notes, work, top.visit.cell, score),
+        Publish::Lost => close(notes, work, cell, score),
     }
 }
 
@@ -440,13 +443,10 @@ pub fn make_step<M: Memo, N: Notes, L: Ledger>(
             settle(problem, notes, memo, pass, work);
         }
         None => match work.ready {
-            Some(answer) => match work.top.take() {
-                Some(top) => {
-                    publish(problem, orders, notes, memo, pass, work, top, answer, steps);
-                    settle(problem, notes, memo, pass, work);
-                }
-                None => unreachable!(),
-            },
+            Some(answer) => {
+                publish(problem, orders, notes, memo, pass, work, answer, steps);
+                settle(problem, notes, memo, pass, work);
+            }
             None => {
                 let hand = first_look(problem, notes, memo, pass, work);
                 look(problem, orders, notes, memo, pass, work, hand, steps);

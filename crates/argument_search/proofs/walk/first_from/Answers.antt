@@ -1,8 +1,8 @@
-use Rattle.std.proofs.Common.{◌≡◌, ◌<◌, length, sym, subst, ap, arith}
-use Rattle.memo_model.specs.declared.visit.Position.{Position}
+use Rattle.std.proofs.Common.{◌≡◌, ◌<◌, length, subst, ap, arith}
 use Rattle.memo_model.specs.Visits.{turned_number}
-use Rattle.argument_search.specs.Seeking.{turned_of, IsFirstLeft}
-use Rattle.argument_search.proofs.Walks.{first_from_is, noted_more}
+use Rattle.argument_search.specs.Seeking.{turned_of}
+use Rattle.argument_search.proofs.Entries.{first_entry}
+use Rattle.argument_search.proofs.Walks.{noted_more}
 use Rattle.argument_search.proofs.walk.first_from.Goals as goal
 
 pub overflow_cast-count : goal.overflow_cast-count
@@ -24,8 +24,8 @@ overflow_cast-alternative g c =
     let below = c.alternative_behind-alternative.ensures.below in
     omega arith
 
-pub returns-then-first_left : goal.returns-then-first_left
-returns-then-first_left g c =
+pub returns-in-Some : goal.returns-in-Some
+returns-in-Some g c =
     let p = c.args.problem.now in
     let v = c.args.visit in
     let formed = c.admissible.ensures.checked.well_formed in
@@ -33,18 +33,13 @@ returns-then-first_left g c =
     let at : turned_of p v c.alternative_behind-alternative.result ≡ c.loop-number.number =
     subst (λ n. turned_number n v.first c.alternative_behind-alternative.result ≡ c.loop-number.number) e
     c.alternative_behind-alternative.ensures.turned in
-    let first = c.if-first_left.ensures.first in
-    subst (λ (to : Position). IsFirstLeft p (g.N.NotedCells.is_noted c.args.noted.now) v c.args.turned to)
-    (sym c.first_of.ensures)
-    (first_from_is p (g.N.NotedCells.is_noted c.args.noted.now) v c.requires.walk c.requires.walk.three
+    first_entry p (g.N.NotedCells.is_noted c.args.noted.now) v c.requires.walk c.requires.walk.three
     (c.ranks_tell_splits_apart.ensures p formed v.cell v.turns c.requires.span.in_order c.requires.walk.three
     c.requires.walk.turns)
-    c.args.turned c.alternative_behind-alternative.result c.first_left.new.cuts.at first
-    (c.alternatives_fit.ensures.arguments p.grammar formed v.cell.rule c.alternative_behind-alternative.result
-    first.viable.in_range)
+    c.args.turned c.alternative_behind-alternative.result c.in-Some.at c.in-Some.ensures
     (let l = c.loop-number.auto.number in omega arith)
     (λ a child here asks l m. c.loop-number.invariant.noted a child here asks l
-    (subst (λ n. turned_of p v a.alternative < n) at m)))
+    (subst (λ n. turned_of p v a.alternative < n) at m))
 
 pub loop-number-preserved : goal.loop-number-preserved
 loop-number-preserved g c =
@@ -61,5 +56,5 @@ loop-number-preserved g c =
           (c.ranks_tell_splits_apart.ensures p formed v.cell v.turns c.requires.span.in_order c.requires.walk.three
           c.requires.walk.turns)
           c.args.turned c.loop-number.number c.alternative_behind-alternative.result at
-          (omega arith) c.if-first_left.ensures.none c.loop-number.invariant.noted;
+          (omega arith) c.in_default.ensures c.loop-number.invariant.noted;
     }

@@ -3,26 +3,26 @@ use Rattle.memo_model.specs.declared.visit.Position.{Position}
 use Rattle.adp_model.specs.PosedProblem.{PosedProblem}
 use Rattle.adp_model.specs.Splits.{IsViable}
 use Rattle.adp_model.specs.Walk.{IsNextVisited}
-use Rattle.argument_search.specs.Seeking.{moved_to, turned_of, AreAllNoted, IsNextLeft}
+use Rattle.argument_search.specs.Seeking.{moved_to, turned_of, AreNotedBehind, IsNextLeft}
 use Rattle.argument_search.proofs.SeekSteps.{walk_to}
 use Rattle.argument_search.proofs.SkipSteps.{next_on, option_on, option_first}
 use Rattle.argument_search.proofs.Walks.{next_in_split, next_in_alternative, next_reached, later_from}
 use Rattle.argument_search.proofs.walk.next_position.Goals as goal
 
-pub returns-then-are_all_noted : goal.returns-then-are_all_noted
-returns-then-are_all_noted g c =
+pub returns-then-are_later_noted : goal.returns-then-are_later_noted
+returns-then-are_later_noted g c =
     let p = c.args.problem.now in
     let v = c.args.visit in
     let Noted = g.N.NotedCells.is_noted c.args.noted.now in
     let formed = c.admissible.ensures.checked.well_formed in
     let at = c.in-Some.at in
     let e = ap length c.arguments-count.ensures.arguments in
-    let all = subst (λ (q : PosedProblem). AreAllNoted q Noted v.cell at.alternative) c.requires.same
-    c.if-are_all_noted.ensures in
+    let later = subst (λ (q : PosedProblem). AreNotedBehind q Noted v.cell at.alternative v.turns at.cuts) c.requires.same
+    (c.if-are_later_noted.ensures v.turns) in
     later_from p Noted v c.requires.walk c.requires.walk.three
     (c.ranks_tell_splits_apart.ensures p formed v.cell v.turns c.requires.span.in_order c.requires.walk.three
     c.requires.walk.turns)
-    at c.in-Some.is (λ cuts number child behind asks. all cuts number child asks)
+    at c.in-Some.is later
     (omega (arith, e, c.if-at-count.true)) c.first_behind.result c.first_behind.ensures
 
 pub returns-then-reached : goal.returns-then-reached

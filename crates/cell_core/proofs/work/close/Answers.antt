@@ -21,5 +21,5 @@ returns-in-None-clause-closed g c = record {
   opened = refl;
   wins = refl;
   moves = refl;
-  next = inr (c.requires.taken, popped_end _ _ _ c.in-None.ensures.items c.in-None.ensures.cases.0 c.in-None.ensures.rest, refl, refl);
+  next = inr (refl, popped_end _ _ _ c.in-None.ensures.items c.in-None.ensures.cases.0 c.in-None.ensures.rest, refl, refl);
 }

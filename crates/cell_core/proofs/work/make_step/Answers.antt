@@ -15,20 +15,13 @@ returns-in-Some-clause-frames g c =
     (standing (all_frames c.args.work.now) c.args.work.now.opened c.args.orders.now) after)
     (sym (c.settle.ensures.stands c.look.new.orders)) c.look.ensures.frames
 
-pub returns-in-Some-take-clause-frames : goal.returns-in-Some-take-clause-frames
-returns-in-Some-take-clause-frames g c =
+pub returns-in-Some-ready-clause-frames : goal.returns-in-Some-ready-clause-frames
+returns-in-Some-ready-clause-frames g c =
     subst
-    (λ (before : Standing).
-    ChangesFrames g.M.Memo.meaning c.args.problem.now c.args.pass.now c.publish.new.pass before
-    (standing (all_frames c.settle-in-Some-take.new.work) c.settle-in-Some-take.new.work.opened c.args.orders.now))
-    (ap (λ t. standing (frames_of t c.args.work.now.below.items) c.args.work.now.opened c.args.orders.now)
-    (sym c.in-Some-take.is ∙ c.take-in-Some-ready.ensures.value))
-    (subst
     (λ (after : Standing).
     ChangesFrames g.M.Memo.meaning c.args.problem.now c.args.pass.now c.publish.new.pass
-    (standing (frames_of (Some c.in-Some-take.top) c.args.work.now.below.items) c.args.work.now.opened c.args.orders.now)
-    after)
-    (sym (c.settle-in-Some-take.ensures.stands c.args.orders.now)) c.publish.ensures.frames)
+    (standing (all_frames c.args.work.now) c.args.work.now.opened c.args.orders.now) after)
+    (sym (c.settle-in-Some-ready.ensures.stands c.args.orders.now)) c.publish.ensures.frames
 
 pub returns-in-None-ready-clause-frames : goal.returns-in-None-ready-clause-frames
 returns-in-None-ready-clause-frames g c =
@@ -91,29 +84,25 @@ publish-requires-clause-no_hand g c = c.take.ensures.after
 pub publish-requires-clause-answer : goal.publish-requires-clause-answer
 publish-requires-clause-answer g c = c.in-Some-ready.is
 
-pub publish-requires-clause-taken : goal.publish-requires-clause-taken
-publish-requires-clause-taken g c = c.take-in-Some-ready.ensures.after
-
 pub publish-requires-clause-sound : goal.publish-requires-clause-sound
 publish-requires-clause-sound g c =
     sound_by_parts g.M.Memo.meaning c.args.problem.now c.args.pass.now (g.N.Notes.noted c.args.notes.now) c.args.work.now _ _
-    (sym c.take.ensures.value ∙ c.in-None.is ∙ sym c.take.ensures.after)
-    (sym c.take-in-Some-ready.ensures.value ∙ c.in-Some-take.is) c.requires.sound
+    (sym c.take.ensures.value ∙ c.in-None.is ∙ sym c.take.ensures.after) refl c.requires.sound
 
-pub settle-requires-in-Some-take-clause-memo : goal.settle-requires-in-Some-take-clause-memo
-settle-requires-in-Some-take-clause-memo g c = c.requires.memo
+pub settle-requires-in-Some-ready-clause-memo : goal.settle-requires-in-Some-ready-clause-memo
+settle-requires-in-Some-ready-clause-memo g c = c.requires.memo
 
-pub settle-requires-in-Some-take-clause-notes : goal.settle-requires-in-Some-take-clause-notes
-settle-requires-in-Some-take-clause-notes g c = c.publish.ensures.notes
+pub settle-requires-in-Some-ready-clause-notes : goal.settle-requires-in-Some-ready-clause-notes
+settle-requires-in-Some-ready-clause-notes g c = c.publish.ensures.notes
 
-pub settle-requires-in-Some-take-clause-own : goal.settle-requires-in-Some-take-clause-own
-settle-requires-in-Some-take-clause-own g c = c.publish.ensures.own
+pub settle-requires-in-Some-ready-clause-own : goal.settle-requires-in-Some-ready-clause-own
+settle-requires-in-Some-ready-clause-own g c = c.publish.ensures.own
 
-pub settle-requires-in-Some-take-clause-sound : goal.settle-requires-in-Some-take-clause-sound
-settle-requires-in-Some-take-clause-sound g c = c.publish.ensures.sound
+pub settle-requires-in-Some-ready-clause-sound : goal.settle-requires-in-Some-ready-clause-sound
+settle-requires-in-Some-ready-clause-sound g c = c.publish.ensures.sound
 
-pub settle-requires-in-Some-take-clause-begun : goal.settle-requires-in-Some-take-clause-begun
-settle-requires-in-Some-take-clause-begun g c = λ h r e. c.publish.ensures.next r e
+pub settle-requires-in-Some-ready-clause-begun : goal.settle-requires-in-Some-ready-clause-begun
+settle-requires-in-Some-ready-clause-begun g c = λ h r e. c.publish.ensures.next r e
 
 pub first_look-hand-requires-clause-memo : goal.first_look-hand-requires-clause-memo
 first_look-hand-requires-clause-memo g c = c.requires.memo
@@ -211,46 +200,45 @@ returns-in-Some-clause-lower g c = λ m arguments counted all.
     (left_by_parts g.M.Memo.meaning c.args.problem.now c.args.pass.now m arguments c.args.work.now _ _
     (sym c.take.ensures.value ∙ c.in-Some.is) refl)
 
-pub returns-in-Some-take-clause-notes : goal.returns-in-Some-take-clause-notes
-returns-in-Some-take-clause-notes g c = c.publish.ensures.notes
+pub returns-in-Some-ready-clause-notes : goal.returns-in-Some-ready-clause-notes
+returns-in-Some-ready-clause-notes g c = c.publish.ensures.notes
 
-pub returns-in-Some-take-clause-own : goal.returns-in-Some-take-clause-own
-returns-in-Some-take-clause-own g c = c.publish.ensures.own
+pub returns-in-Some-ready-clause-own : goal.returns-in-Some-ready-clause-own
+returns-in-Some-ready-clause-own g c = c.publish.ensures.own
 
-pub returns-in-Some-take-clause-share : goal.returns-in-Some-take-clause-share
-returns-in-Some-take-clause-share g c = c.publish.ensures.share
+pub returns-in-Some-ready-clause-share : goal.returns-in-Some-ready-clause-share
+returns-in-Some-ready-clause-share g c = c.publish.ensures.share
 
-pub returns-in-Some-take-clause-known : goal.returns-in-Some-take-clause-known
-returns-in-Some-take-clause-known g c = c.publish.ensures.known
+pub returns-in-Some-ready-clause-known : goal.returns-in-Some-ready-clause-known
+returns-in-Some-ready-clause-known g c = c.publish.ensures.known
 
-pub returns-in-Some-take-clause-steps : goal.returns-in-Some-take-clause-steps
-returns-in-Some-take-clause-steps g c = c.publish.ensures.steps
+pub returns-in-Some-ready-clause-steps : goal.returns-in-Some-ready-clause-steps
+returns-in-Some-ready-clause-steps g c = c.publish.ensures.steps
 
-pub returns-in-Some-take-clause-wins : goal.returns-in-Some-take-clause-wins
-returns-in-Some-take-clause-wins g c =
-    let w = c.publish.ensures.wins in (w.0, w.1, w.2, c.settle-in-Some-take.ensures.numbers.0 ∙ w.3)
+pub returns-in-Some-ready-clause-wins : goal.returns-in-Some-ready-clause-wins
+returns-in-Some-ready-clause-wins g c =
+    let w = c.publish.ensures.wins in (w.0, w.1, w.2, c.settle-in-Some-ready.ensures.numbers.0 ∙ w.3)
 
-pub returns-in-Some-take-clause-moves : goal.returns-in-Some-take-clause-moves
-returns-in-Some-take-clause-moves g c = c.settle-in-Some-take.ensures.numbers.1 ∙ c.publish.ensures.moves
+pub returns-in-Some-ready-clause-moves : goal.returns-in-Some-ready-clause-moves
+returns-in-Some-ready-clause-moves g c = c.settle-in-Some-ready.ensures.numbers.1 ∙ c.publish.ensures.moves
 
-pub returns-in-Some-take-clause-under_way : goal.returns-in-Some-take-clause-under_way
-returns-in-Some-take-clause-under_way g c = c.settle-in-Some-take.ensures.under_way
+pub returns-in-Some-ready-clause-under_way : goal.returns-in-Some-ready-clause-under_way
+returns-in-Some-ready-clause-under_way g c = c.settle-in-Some-ready.ensures.under_way
 
-pub returns-in-Some-take-clause-sound : goal.returns-in-Some-take-clause-sound
-returns-in-Some-take-clause-sound g c = c.settle-in-Some-take.ensures.sound
+pub returns-in-Some-ready-clause-sound : goal.returns-in-Some-ready-clause-sound
+returns-in-Some-ready-clause-sound g c = c.settle-in-Some-ready.ensures.sound
 
-pub returns-in-Some-take-clause-loads : goal.returns-in-Some-take-clause-loads
-returns-in-Some-take-clause-loads g c =
+pub returns-in-Some-ready-clause-loads : goal.returns-in-Some-ready-clause-loads
+returns-in-Some-ready-clause-loads g c =
     loads_by_parts g.M.Memo.meaning c.args.problem.now c.publish.new.pass (g.M.Memo.fresh_loads c.args.memo.now) _
     false _ None _ _ c.requires.going (sym c.take.ensures.value ∙ c.in-None.is) c.in-Some-ready.is refl
 
-pub returns-in-Some-take-clause-lower : goal.returns-in-Some-take-clause-lower
-returns-in-Some-take-clause-lower g c = λ m arguments counted all.
-    falls_then _ _ _ _ (c.settle-in-Some-take.ensures.lower m arguments counted all)
+pub returns-in-Some-ready-clause-lower : goal.returns-in-Some-ready-clause-lower
+returns-in-Some-ready-clause-lower g c = λ m arguments counted all.
+    falls_then _ _ _ _ (c.settle-in-Some-ready.ensures.lower m arguments counted all)
     (c.publish.ensures.lower m arguments counted)
     (left_by_parts g.M.Memo.meaning c.args.problem.now c.args.pass.now m arguments c.args.work.now _ _
-    (sym c.take.ensures.value ∙ c.in-None.is ∙ sym c.take.ensures.after)
-    (sym c.take-in-Some-ready.ensures.value ∙ c.in-Some-take.is))
+    (sym c.take.ensures.value ∙ c.in-None.is ∙ sym c.take.ensures.after) refl)
 
 pub returns-in-None-ready-clause-notes : goal.returns-in-None-ready-clause-notes
 returns-in-None-ready-clause-notes g c = c.look-in-None-ready.ensures.notes

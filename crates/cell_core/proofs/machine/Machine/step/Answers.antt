@@ -8,7 +8,7 @@ use Rattle.memo_model.specs.StepBound.{remaining_bound}
 use Rattle.cell_core.specs.Working.{all_frames, work_left}
 use Rattle.cell_core.specs.FrameChanges.{standing, ChangesFrames, GainsWins}
 use Rattle.cell_core.specs.MachineViews.{MachineView, state_of, IsNotedIn, LoadsAsTold, looked_for, next_loads}
-use Rattle.cell_core.proofs.Stepped.{sound_from, machine_from, machine_at_end}
+use Rattle.cell_core.proofs.Stepped.{with_moves, sound_from, machine_from, machine_at_end}
 use Rattle.cell_core.proofs.machine.Machine.step.Goals as goal
 
 pub make_step-requires-clause-sound : goal.make_step-requires-clause-sound
@@ -130,8 +130,15 @@ returns-clause-known g c = c.make_step.ensures.known
 
 pub returns-clause-machine : goal.returns-clause-machine
 returns-clause-machine g c =
-    machine_at_end g.M.Memo.meaning c.self.inside.problem.now c.make_step.new.pass _ c.make_step.new.work _ c.if-not-self.false
-    c.make_step.ensures.sound c.make_step.ensures.under_way
+    subst
+    (λ notes.
+    IsMachine g.M.Memo.meaning IsNotedIn
+    (state_of c.self.inside.problem.now notes
+    (with_moves c.make_step.new.work c.saturating_add-self-inside.result))
+    c.make_step.new.pass)
+    (sym c.forget.ensures)
+    (machine_at_end g.M.Memo.meaning c.self.inside.problem.now c.make_step.new.pass _ c.make_step.new.work
+    c.saturating_add-self-inside.result c.if-not-self.false c.make_step.ensures.sound c.make_step.ensures.under_way)
 
 pub returns-clause-steps : goal.returns-clause-steps
 returns-clause-steps g c =
