@@ -14,3 +14,4 @@ pub mod Raised
 pub mod Grows
 pub mod RankedAt
 pub mod Told
+pub mod Laying

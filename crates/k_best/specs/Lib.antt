@@ -7,3 +7,4 @@ pub mod Chosen
 pub mod RankedRows
 pub mod Growing
 pub mod GrowingLists
+pub mod Heads

@@ -10,6 +10,7 @@ mod growing;
 mod grown_lists;
 mod grown_report;
 mod grown_trees;
+mod heads;
 mod list_table;
 mod listed_trees;
 mod listing;

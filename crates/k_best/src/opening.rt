@@ -1,73 +1,23 @@
 //! How a cell's list begins, with the first ranked split of each viable split, and how it grows.
 
-ghost use Rattle.std.specs.Prelude.{◌≡◌, ◌<◌, IfOk, IfSome, [], true, length};
+ghost use Rattle.std.specs.Prelude.{◌≡◌, IfOk, IfSome, [], true, length};
 ghost use Rattle.adp_model.specs.Demand.{IsDemanded};
 ghost use Rattle.adp_model.specs.PosedProblem.{IsSpan};
-ghost use Rattle.adp_model.specs.Parts.{alternatives_of};
-ghost use Rattle.first_trees.specs.Entries.{Entry as EntryValue};
 ghost use Rattle.first_trees.specs.FirstTrees.{IsAt};
 ghost use Rattle.first_trees.specs.RankedSplits.{IsRankedSplit};
-ghost use Rattle.k_best.specs.Growing.{IsGrowing, IsHeaded, IsOpened};
-ghost use Rattle.k_best.specs.GrowingLists.{AreGrowing, IsBasis, IsGrowingList, no_ranks};
+ghost use Rattle.k_best.specs.Growing.{IsGrowing, IsOpened};
+ghost use Rattle.k_best.specs.GrowingLists.{AreGrowing, IsBasis, IsGrowingList};
 ghost use Rattle.k_best.specs.RankedRows.{IsListing};
 
 use crate::entry::Entry;
 use crate::growing::{Basis, Growing, Grown};
+use crate::heads::meet_heads;
 use crate::ranked::meet_at;
+use adp_model::Cell;
 use adp_model::laws::demand::demanded_cells_are_counted;
-use adp_model::laws::splits::ranks_tell_splits_apart;
-use adp_model::{Cell, Choice};
 use first_trees::laws::{entries_are_in_strict_order, lower_ranks_come_first};
 use std::alloc::AllocError;
 use traceback::NodeAt;
-use viable_splits::Cuts;
-
-/// Puts the first ranked split of each viable split of a cell by an alternative among its first entries. Tells whether
-/// all are known.
-fn meet_heads(
-    basis: &Basis<'_, '_>,
-    grown: &Grown,
-    cell: Cell,
-    alt: u8,
-    found: &mut Vec<Entry>,
-) -> Result<bool, AllocError>
-    requires basis { IsBasis basis.now }
-    requires growing { AreGrowing basis.now.lines.now basis.now.k grown.now.lists.items }
-    requires span { IsSpan basis.now.lines.now.word cell.from cell.to }
-    requires in_range { alt < length (alternatives_of basis.now.lines.now.grammar cell.rule) }
-    requires listing { IsListing basis.now.lines.now basis.now.k cell found.old.items }
-    ensures listing { IfOk result (λ _. IsListing basis.now.lines.now basis.now.k cell found.new.items) }
-    ensures kept { IfOk result (λ _. (entry : EntryValue)
-        → IsHeaded basis.now.lines.now basis.now.k cell no_ranks found.old.items entry
-        → IsHeaded basis.now.lines.now basis.now.k cell no_ranks found.new.items entry) }
-    ensures met { IfOk result (λ are_known. are_known ≡ true → (entry : EntryValue)
-        → IsRankedSplit basis.now.lines.now basis.now.k cell entry → entry.choice.alt ≡ alt
-        → IsHeaded basis.now.lines.now basis.now.k cell no_ranks found.new.items entry) }
-{
-    let lines = basis.lines;
-    lines.problem().admissible();
-    ranks_tell_splits_apart();
-    let turns = [0; 3];
-    let mut cuts = Cuts {
-        at: [cell.to; 3],
-        turns,
-    };
-    if !lines.first_viable(cell, alt, turns, &mut cuts) {
-        return Ok(true);
-    }
-    loop {
-        let node = NodeAt {
-            cell,
-            choice: Choice { alt, cuts: cuts.at },
-        };
-        if !meet_at(basis, grown, node, &[0; 4], found)? {
-            return Ok(false);
-        }
-        if !lines.next_viable(cell, alt, &mut cuts) {
-            return Ok(true);
-        }
-    }
-}
 
 /// The list of a demanded cell as it begins. Tells whether it is known.
 pub fn meet_all_heads(
