@@ -1,5 +1,5 @@
 -- Words that are reported a group at a time, or one by one.
-use Rattle.std.proofs.Common.{◌≡◌, ℕ, zero, suc, ◌+◌, ◌<◌, ◌≤◌, List, [], ◌∷◌, ◌++◌, length, take, drop, get_or, Option, None, Result, Ok, Err, refl, sym, ap, subst, ◌∙◌, arith, length-append, length-drop}
+use Rattle.std.proofs.Common.{◌≡◌, ℕ, zero, suc, ◌+◌, ◌<◌, ◌≤◌, List, [], ◌∷◌, ◌++◌, length, take, drop, get_or, Option, None, Some, Result, Ok, Err, refl, sym, ap, subst, ◌∙◌, arith, length-append, length-drop}
 use Rattle.std.specs.List.{concat, AllByRecursion, AllZip}
 use Rattle.std.specs.Io.KnownBytes.{Appends}
 use Rattle.std.proofs.KnownBytes.{Appends-nil, Appends-trans}
@@ -12,20 +12,24 @@ use Rattle.adp_model.specs.PosedProblem.{PosedProblem}
 use Rattle.adp_model.specs.declared.grammar.Grammar.{Grammar}
 use Rattle.verdicts.specs.Posed.{posed_word, posed_words}
 use Rattle.verdicts.specs.declared.command.Mode.{Mode}
-use Rattle.verdicts.specs.declared.command.Mode.TheVariants.{Best, Cert}
+use Rattle.verdicts.specs.declared.command.Mode.TheVariants.{Best, Cert, KBest, Lex, Serial}
 use Rattle.verdicts.specs.Command.{Command}
 use Rattle.verdicts.specs.SecondAlgebra.{IsAdmissibleWith}
+use Rattle.verdicts.specs.Verdict.{IsReportWith}
+use Rattle.evaluators.specs.declared.finished.Finished.{Finished}
 use Rattle.evaluators.specs.declared.finished.RunNote.{RunNote}
 use Rattle.report.specs.declared.fault.Fault.{Fault}
 use Rattle.adp_main.specs.declared.status.Status.TheVariants.{Done}
+use Rattle.adp_main.specs.declared.lex.Compiled.{Compiled}
 use Rattle.adp_main.specs.Faults.{status_of}
 use Rattle.adp_main.specs.FirstWords.{AreFirstEnding, AreReported, IsReportedUpTo}
-use Rattle.adp_main.specs.Groups.{HaveCells, IsGrouped}
+use Rattle.adp_main.specs.Groups.{HaveCells, IsGrouped, IsSolvedFor}
 use Rattle.adp_main.specs.Reporting.{AreReportsOf, HasWritten}
 use Rattle.adp_main.specs.RunNotes.{AddsNotes, AreNoted, AreRunsOf, IsRunOf}
-use Rattle.adp_main.specs.Writing.{IsWordEnding}
+use Rattle.adp_main.specs.Writing.{IsRunWith, IsWordEnding}
+use Rattle.adp_main.proofs.CompiledWords.{is_compiled}
 use Rattle.adp_main.proofs.FirstLimit.{posed_at}
-use Rattle.adp_main.proofs.Running.{adds_more, adds_none, all_noted, failed_noted, failed_written, run_reports, runs_joined}
+use Rattle.adp_main.proofs.Running.{adds_more, adds_none, all_noted, compiled_run, evaluated_word, failed_noted, failed_written, run_reports, runs_joined}
 use Rattle.adp_main.proofs.Written.{AllReported}
 
 -- ---- lists
@@ -58,7 +62,18 @@ zip_length R [] (b ∷ ys) all = absurd all
 zip_length R (a ∷ xs) [] all = absurd all
 zip_length R (a ∷ xs) (b ∷ ys) all = ap suc (zip_length R xs ys all.1)
 
-zip_more : {A B : Type 0} (R : A → B → Type 0) (xs : List A) (ys : List B) (x : A) (y : B) → AllZip R xs ys → R x y
+-- what stands beside the second one at a place
+pub asked_at : {A B : Type 0} (R : A → B → Type 0) (xs : List A) (ys : List B) (k : ℕ) (y : B) → AllZip R xs ys
+    → k < length ys → y ≡ get_or ys k y → (x : A) × (k < length xs) × (x ≡ get_or xs k x) × R x y
+asked_at R [] [] k y all inside second = absurd (omega (arith, inside))
+asked_at R [] (b ∷ ys) k y all inside second = absurd all
+asked_at R (a ∷ xs) [] k y all inside second = absurd all
+asked_at R (a ∷ xs) (b ∷ ys) zero y all inside second = (a, omega arith, refl, subst (R a) (sym second) all.0)
+asked_at R (a ∷ xs) (b ∷ ys) (suc k) y all inside second =
+    let at = asked_at R xs ys k y all.1 (omega (arith, inside)) second in
+    (at.0, omega (arith, at.1), at.2, at.3)
+
+pub zip_more : {A B : Type 0} (R : A → B → Type 0) (xs : List A) (ys : List B) (x : A) (y : B) → AllZip R xs ys → R x y
     → AllZip R (xs ++ x ∷ []) (ys ++ y ∷ [])
 zip_more R [] [] x y all one = (one, tt)
 zip_more R [] (b ∷ ys) x y all one = absurd all
@@ -99,18 +114,37 @@ cells_more ps p cells count (counts, each, is) bound = (
 
 -- ---- modes
 
--- a mode that takes groups follows no schedule, makes no sweep and has one algebra
+-- a mode that takes groups follows no schedule and makes no sweep
 pub grouped : (mode other : Mode) → IsGrouped mode → (IsGrouped other → ⊥) → mode ≡ other → ⊥
 grouped mode other is none same = none (subst IsGrouped same is)
 
--- there are two of them
-pub best_or_cert : (mode : Mode) → IsGrouped mode → (mode ≡ Cert → ⊥) → mode ≡ Best
-best_or_cert Best is other = refl
-best_or_cert Cert is other = absurd (other refl)
-best_or_cert mode is other = absurd is
+-- there are two of them that have one algebra
+pub best_or_cert : (mode : Mode) → IsGrouped mode → (mode ≡ Lex → ⊥) → (mode ≡ Cert → ⊥) → mode ≡ Best
+best_or_cert Best is single other = refl
+best_or_cert Cert is single other = absurd (other refl)
+best_or_cert Lex is single other = absurd (single refl)
+best_or_cert mode is single other = absurd is
 
-pub no_other : (mode : Mode) → IsGrouped mode → (mode ≡ Best → ⊥) → (mode ≡ Cert → ⊥) → ⊥
-no_other mode is best cert = best (best_or_cert mode is cert)
+-- ---- what is solved for a word
+
+module _ (command : Command) (number : ℕ) (asked problem : PosedProblem) (finished : Finished) (report bytes : List ℕ)
+    (mode : IsGrouped command.mode)
+    (is : IsReportWith command.mode command None number asked finished.wins.items report) (same : bytes ≡ report)
+    (result : Result (Unit {0}) Fault) (old new : Option (List RunNote)) (held held' : Option (List ℕ)) where
+  -- the word ended as the run for it did
+  pub solved_word : (made : Option Compiled) → IsSolvedFor command made asked problem
+      → IsWordEnding (IsRunWith command problem finished bytes) result old new held held'
+      → IsWordEnding (IsRunOf command None number asked) result old new held held'
+  solved_word None (single, its) ending =
+      evaluated_word command command.mode number asked finished report bytes refl
+      (grouped command.mode Serial mode (λ none. none)) (grouped command.mode KBest mode (λ none. none)) single is same
+      result old new held held'
+      (subst (λ (p : PosedProblem). IsWordEnding (IsRunWith command p finished bytes) result old new held held') its ending)
+  solved_word (Some made) (lex, for, its) ending =
+      compiled_run command number asked problem for.second for.bound finished report bytes lex for.named
+      for.compilable.bounded (its ∙ is_compiled command.second asked made for)
+      (subst (λ (it : Mode). IsReportWith it command None number asked finished.wins.items report) lex is) same result old
+      new held held' ending
 
 -- ---- word by word
 

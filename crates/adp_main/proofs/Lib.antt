@@ -15,5 +15,6 @@ pub mod KeptLengths
 pub mod CompiledWords
 pub mod Behind
 pub mod Verifying
+pub mod Certified
 pub mod Blocks
 pub mod FirstWords

@@ -270,11 +270,11 @@ evaluated_word command mode number p finished report bytes asked other unlisted 
 pub compiled_run : (command : Command) (number : ℕ) (p q : PosedProblem) (second bound : ℕ) (finished : Finished)
     (report bytes : List ℕ) → command.mode ≡ Lex → IsSecond command.second p.grammar second
     → IsScoreBound p.grammar second (length p.word) bound → q ≡ compiled_problem p second (multiplier_of bound)
-    → IsPairReport number p second report → bytes ≡ report
+    → (other : ℕ) × IsSecond command.second p.grammar other × IsPairReport number p other report → bytes ≡ report
     → (result : Result (Unit {0}) Fault) (old new : Option (List RunNote)) (held held' : Option (List ℕ))
     → IsWordEnding (IsRunWith command q finished bytes) result old new held held'
     → IsWordEnding (IsRunOf command None number p) result old new held held'
-compiled_run command number p q second bound finished report bytes lex named bounded compiled is same =
+compiled_run command number p q second bound finished report bytes lex named bounded compiled (other, also, is) same =
     ending_of (λ written noted (run : IsRunWith command q finished bytes written noted). inr (
       λ sweeps. runs_them Lex (λ e. cc) (λ e. cc) (subst SweepsOnce lex sweeps),
       run.1,
@@ -282,5 +282,5 @@ compiled_run command number p q second bound finished report bytes lex named bou
       subst (λ mode. IsNoteIn mode command p run.1) (sym lex)
           (second, bound, named, bounded, subst (λ it. IsNoteFor command it run.1) compiled run.3),
       subst (λ mode. IsReportWith mode command None number p run.1.wins written) (sym lex)
-          (second, named, subst (IsPairReport number p second) (sym (run.0 ∙ same)) is),
+          (other, also, subst (IsPairReport number p other) (sym (run.0 ∙ same)) is),
     ))

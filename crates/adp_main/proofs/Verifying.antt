@@ -36,6 +36,7 @@ use Rattle.adp_main.specs.Faults.{fault_verdict, status_after}
 use Rattle.adp_main.specs.Reporting.{HasWritten, IsAdmissibleIn, IsCheckedJob, IsJobRefusal, IsLimitOf, IsReported}
 use Rattle.adp_main.specs.Verifying.{IsCertificateEnding, IsTold, score_reports, verify_refusal}
 use Rattle.adp_main.proofs.FirstLimit.{own_limits}
+use Rattle.adp_main.proofs.NestedReports.{TellsNested}
 use Rattle.adp_main.proofs.Reported.{all_keep}
 use Rattle.adp_main.proofs.Running.{no_wins, no_wins_number}
 use Rattle.adp_main.proofs.Behind.{has_grown}
@@ -271,7 +272,7 @@ module _ (command : Command) (words : List (List ℕ)) (is : IsCommand words com
         by other (inr (asks, before, at)) =
             subst (AreCheckable words) (one bytes certificate text before other parted at).1 checks
 
-    module _ (job : CheckedJob) (asked : IsCheckedJob words text command job) where
+    module _ (job : CheckedJob) (asked : IsCheckedJob words text command job) (tells : TellsNested command text job) where
       -- what holds of the checked job holds of the one that is asked about
       there : (Holds : Command → Grammar → List (List ℕ) → Type 0) → Holds command job.checked.grammar job.words
           → Holds asked.1.command asked.0.grammar asked.0.words
@@ -323,24 +324,6 @@ module _ (command : Command) (words : List (List ℕ)) (is : IsCommand words com
         ),
       )
 
-      -- best scores are those of the plain grammar, whatever it hides
-      any_hidden : (hidden : Option ℕ) (grammar : Grammar) (algebra number : ℕ) (words reports : List (List ℕ))
-          → AreReports command None grammar algebra number words reports
-          → AreReports command hidden grammar algebra number words reports
-      any_hidden hidden grammar algebra number [] [] h = tt
-      any_hidden hidden grammar algebra number [] (report ∷ reports) h = absurd h
-      any_hidden hidden grammar algebra number (word ∷ words) [] h = absurd h
-      any_hidden hidden grammar algebra number (word ∷ words) (report ∷ reports) ((wins, each, of_word), others) = (
-        (
-          wins,
-          each,
-          subst (λ mode. IsReportWith mode command None number (posed_word grammar algebra word) wins report
-              → IsReportWith mode command hidden number (posed_word grammar algebra word) wins report)
-              (sym verifies) (λ h. h) of_word,
-        ),
-        any_hidden hidden grammar algebra (number + 1) words reports others,
-      )
-
       told_verdict : (reports : List (List ℕ))
           → IsTold command job.checked.grammar job.checked.algebra job.words certificate reports
           → IsVerdict words bytes (verdicts.Reports reports)
@@ -354,7 +337,7 @@ module _ (command : Command) (words : List (List ℕ)) (is : IsCommand words com
           within h.reported.limits,
           there (λ c grammar ws. IsRightFor grammar job.checked.algebra ws certificate) h.right,
           there (λ c grammar ws. AreReports c (hidden_in text) grammar job.checked.algebra 1 ws reports)
-              (any_hidden (hidden_in text) job.checked.grammar job.checked.algebra 1 job.words reports h.reported.reports_are),
+              (tells.reports reports h.reported.reports_are),
         ),
       )
 

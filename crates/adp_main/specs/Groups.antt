@@ -1,17 +1,21 @@
--- Which words are taken as a group.
-use Rattle.std.specs.Prelude.{◌≡◌, ℕ, ◌<◌, ◌≤◌, ◌⊎◌, List, length, sum}
+-- Which words are taken as a group, and the problems by which these are answered.
+use Rattle.std.specs.Prelude.{◌≡◌, ℕ, ◌<◌, ◌≤◌, ◌⊎◌, Option, None, Some, List, length, sum}
 use Rattle.std.specs.List.{AllZip}
 use Rattle.adp_model.specs.PosedProblem.{PosedProblem}
 use Rattle.adp_model.specs.Cells.{IsCellBound}
 use Rattle.adp_model.specs.ProblemFields.{most_cells}
+use Rattle.grammar_check.specs.CheckedGrammar.{CheckedGrammar}
 use Rattle.verdicts.specs.declared.command.Mode.{Mode}
-use Rattle.verdicts.specs.declared.command.Mode.TheVariants.{Best, Cert}
+use Rattle.verdicts.specs.declared.command.Mode.TheVariants.{Best, Cert, Lex}
 use Rattle.verdicts.specs.Command.{Command}
+use Rattle.adp_main.specs.declared.lex.Compiled.{Compiled}
+use Rattle.adp_main.specs.CompiledWords.{IsCompiledFor, ServesItsLength, compiled_word}
 
 -- the mode's words are solved in groups: its reports tell nothing of evaluators
 abbrev pub IsGrouped : Mode → Type 0
 IsGrouped Best = Unit {0}
 IsGrouped Cert = Unit {0}
+IsGrouped Lex = Unit {0}
 IsGrouped mode = ⊥
 
 -- there are workers enough for groups
@@ -28,3 +32,19 @@ abbrev pub HaveCells : List PosedProblem → ℕ → Type 0
 HaveCells problems cells =
     (counts : List ℕ) × AllZip (λ p count. IsCellBound p.grammar (length p.word) count) problems counts
     × (cells ≡ sum counts)
+
+-- what is compiled for words of a group: by two algebras in order, what serves words of one length; else nothing
+abbrev pub IsMadeFor : Command → CheckedGrammar → Option Compiled → Type 0
+IsMadeFor command first None = command.mode ≡ Lex → ⊥
+IsMadeFor command first (Some made) = (command.mode ≡ Lex) × ServesItsLength command.second first made
+
+-- the word has the length for which something is compiled, if it is
+abbrev pub HasItsLength : Option Compiled → List ℕ → Type 0
+HasItsLength None word = Unit {0}
+HasItsLength (Some made) word = length word ≡ made.length
+
+-- this problem is solved for the one that is asked: itself, or the word under what is compiled for it
+abbrev pub IsSolvedFor : Command → Option Compiled → PosedProblem → PosedProblem → Type 0
+IsSolvedFor command None asked problem = (command.mode ≡ Lex → ⊥) × (problem ≡ asked)
+IsSolvedFor command (Some made) asked problem =
+    (command.mode ≡ Lex) × IsCompiledFor command.second asked made × (problem ≡ compiled_word made asked.word)

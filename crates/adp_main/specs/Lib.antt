@@ -5,6 +5,7 @@ pub mod Seconds
 pub mod CompiledWords
 pub mod RunNotes
 pub mod Ending
+pub mod Certified
 pub mod Writing
 pub mod FirstWords
 pub mod Groups

@@ -13,7 +13,7 @@ ghost use Rattle.adp_main.specs.Ending.{IsBeforeWriting, IsOfVerdict, OutputAfte
 ghost use Rattle.adp_main.specs.Faults.{fault_verdict, status_after};
 ghost use Rattle.adp_main.specs.Reporting.{IsJobEnding};
 ghost use Rattle.adp_main.specs.Seconds.{IsSecondOf};
-ghost use Rattle.adp_main.specs.declared.status.Status.TheVariants.{WriteFault};
+ghost use Rattle.adp_main.specs.declared.status.Status.TheVariants.{Done, WriteFault};
 ghost use Rattle.report.specs.Faults.{HasShortName};
 
 use crate::checking::{CheckedJob, checked_job};
@@ -51,6 +51,7 @@ pub(crate) fn answer_bytes<R: Threads + Sync, K: Sink, G: Gate>(
         (λ verdict. IsVerdict words bytes.now verdict))) }
     ensures checkable { ForWordsOf command.now (λ words. (word : ℕ) (limit : LimitFault)
         → IsErrOf result (Fault.Limit word limit) → IsCheckableInput words bytes.now) }
+    ensures passed { ForWordsOf command.now (λ words. status_after result ≡ Done → IsCheckableInput words bytes.now) }
     ensures verdict { ForWordsOf command.now (λ words. IsOfVerdict (status_after result)
         → ShowsVerdict words bytes.now (status_after result) (K.held out.old) (K.held out.new)) }
     ensures part { ForWordsOf command.now (λ words. IsErrOf result Fault.Write

@@ -1,28 +1,40 @@
 //! Groups of words: solved side by side, each on one thread, and reported in order.
-ghost use Rattle.std.specs.Prelude.{◌≡◌, ◌↔◌, ◌++◌, ◌+◌, ◌<◌, ◌≤◌, List, ℕ, None, IfOk, IsTrue, drop, length};
+ghost use Rattle.std.specs.Prelude.{◌≡◌, ◌↔◌, ◌++◌, ◌+◌, ◌<◌, ◌≤◌, List, ℕ, None, IfOk, IfSome, IsTrue, drop, length};
 ghost use Rattle.std.specs.List.{AllByRecursion, AllZip};
+ghost use Rattle.std.specs.Option.{option_copied};
 ghost use Rattle.adp_io.specs.Causes.{RisesWhere};
 ghost use Rattle.adp_io.specs.Streams.{SameTold};
 ghost use Rattle.adp_model.specs.PosedProblem.{PosedProblem};
 ghost use Rattle.adp_model.specs.ProblemFields.{most_cells};
-ghost use Rattle.verdicts.specs.Posed.{posed_words};
+ghost use Rattle.verdicts.specs.declared.command.Mode.TheVariants.{Lex};
+ghost use Rattle.verdicts.specs.Posed.{posed_word, posed_words};
 ghost use Rattle.verdicts.specs.SecondAlgebra.{IsAdmissibleWith};
 ghost use Rattle.verdicts.specs.Verdict.{IsReportWith};
+ghost use Rattle.adp_main.specs.CompiledWords.{ServesItsLength};
 ghost use Rattle.adp_main.specs.FirstWords.{AreFirstEnding, IsWriteFault};
-ghost use Rattle.adp_main.specs.Groups.{HasRoom, HaveCells, IsGrouped, TakesGroups};
-ghost use Rattle.adp_main.specs.KeptLengths.{HaveKept};
+ghost use Rattle.adp_main.specs.Groups.{
+  HasItsLength,
+  HasRoom,
+  HaveCells,
+  IsGrouped,
+  IsMadeFor,
+  IsSolvedFor,
+  TakesGroups,
+};
+ghost use Rattle.adp_main.specs.KeptLengths.{HasKept, HaveKept};
 ghost use Rattle.adp_main.specs.Reporting.{AreShort};
-ghost use Rattle.adp_main.specs.Seconds.{AreJobRows};
+ghost use Rattle.adp_main.specs.Seconds.{AreJobRows, IsSecondOf};
 ghost use Rattle.adp_main.specs.Writing.{IsRunFor};
 
 use crate::admitting::admitted;
 use crate::cert::block_report;
 use crate::checking::CheckedJob;
 use crate::evaluating::{plain_report, write_run};
+use crate::lex::{Compiled, keep_for, report_of_both};
 use crate::limits::Judged;
 use crate::writing::is_admitted;
 use adp_io::Sink;
-use adp_model::Problem;
+use adp_model::{Problem, Text};
 use evaluators::{Finished, Gate};
 use report::Fault;
 use std::alloc::{AllocError, Global};
@@ -44,14 +56,14 @@ fn takes_groups(command: &Command<'_>) -> bool
     ensures { IsTrue result ↔ TakesGroups command.now }
 {
     match command.mode {
-        Mode::Best | Mode::Cert => command.workers > 1,
+        Mode::Best | Mode::Cert | Mode::Lex => command.workers > 1,
         _ => false,
     }
 }
 
 /// Reports the words from this place on that make a group, and says how many: none where they make none, or groups are
 /// made no more. Where there is no memory for a group it reports those of its first words for which there is, and groups
-/// are made no more.
+/// are made no more. What was made for the words is kept for the next ones.
 pub(crate) fn write_side_by_side<R: Threads + Sync, K: Sink, G: Gate>(
     rt: &R,
     alloc: Global,
@@ -60,17 +72,21 @@ pub(crate) fn write_side_by_side<R: Threads + Sync, K: Sink, G: Gate>(
     job: &CheckedJob,
     judged: &Judged,
     side_by_side: &mut bool,
+    kept: &mut Option<Compiled>,
     out: &mut K,
     gate: &mut G,
 ) -> Result<usize, Fault>
     requires few { length job.now.words ≤ 65536 }
     requires inside { place < length job.now.words }
+    requires second { IsSecondOf command.now.second job.now.checked job.now.second }
     requires rows { AreJobRows job.now.checked job.now.second judged.now.rows }
     requires known { AreShort judged.now.rows.first.longest job.now.words }
     requires bounds { HaveKept command.now.second job.now.checked.grammar job.now.checked.algebra
         judged.now.compiled.items job.now.words }
     requires admissible { AllByRecursion (IsAdmissibleWith command.now.second)
         (posed_words job.now.checked.grammar job.now.checked.algebra job.now.words) }
+    requires kept { IfSome kept.old (ServesItsLength command.now.second job.now.checked) }
+    ensures kept { IfSome kept.new (ServesItsLength command.now.second job.now.checked) }
     ensures told { SameTold (K.held out.old) (K.held out.new) }
     ensures faults { RisesWhere (K.faults out.old) (K.faults out.new) (IsWriteFault result) }
     ensures ending { AreFirstEnding command.now (place + 1)
@@ -80,22 +96,91 @@ pub(crate) fn write_side_by_side<R: Threads + Sync, K: Sink, G: Gate>(
     if !*side_by_side || !takes_groups(command) {
         return Ok(0);
     }
-    let problems = next_group(alloc, command, job, judged, place);
+    if !matches!(command.mode, Mode::Lex) {
+        return write_next_group(
+            rt,
+            alloc,
+            command,
+            place,
+            job,
+            judged,
+            None,
+            side_by_side,
+            out,
+            gate,
+        );
+    }
+    let words = job.words.as_slice();
+    let word = &words[place];
+    is_admitted(command, job, judged, words, place, word);
+    match keep_for(alloc, command, job, judged, word, kept) {
+        Ok(()) => write_next_group(
+            rt,
+            alloc,
+            command,
+            place,
+            job,
+            judged,
+            kept.as_ref(),
+            side_by_side,
+            out,
+            gate,
+        ),
+        Err(_) => {
+            *side_by_side = false;
+            Ok(0)
+        }
+    }
+}
+
+/// Reports the words from this place on that make a group, as `write_side_by_side` does, once there is what they are
+/// solved by.
+fn write_next_group<R: Threads + Sync, K: Sink, G: Gate>(
+    rt: &R,
+    alloc: Global,
+    command: &Command<'_>,
+    place: usize,
+    job: &CheckedJob,
+    judged: &Judged,
+    made: Option<&Compiled>,
+    side_by_side: &mut bool,
+    out: &mut K,
+    gate: &mut G,
+) -> Result<usize, Fault>
+    requires mode { IsGrouped command.now.mode }
+    requires few { length job.now.words ≤ 65536 }
+    requires inside { place < length job.now.words }
+    requires rows { AreJobRows job.now.checked job.now.second judged.now.rows }
+    requires known { AreShort judged.now.rows.first.longest job.now.words }
+    requires bounds { HaveKept command.now.second job.now.checked.grammar job.now.checked.algebra
+        judged.now.compiled.items job.now.words }
+    requires admissible { AllByRecursion (IsAdmissibleWith command.now.second)
+        (posed_words job.now.checked.grammar job.now.checked.algebra job.now.words) }
+    requires made { IsMadeFor command.now job.now.checked (option_copied made) }
+    ensures told { SameTold (K.held out.old) (K.held out.new) }
+    ensures faults { RisesWhere (K.faults out.old) (K.faults out.new) (IsWriteFault result) }
+    ensures ending { AreFirstEnding command.now (place + 1)
+        (drop place (posed_words job.now.checked.grammar job.now.checked.algebra job.now.words)) result
+        (G.runs gate.old) (G.runs gate.new) (K.held out.old) (K.held out.new) }
+{
+    let problems = next_group(alloc, command, job, judged, made, place);
     if problems.len() < 2 {
         return Ok(0);
     }
     let number = place as u32 + 1;
-    let written = write_group(rt, alloc, command, number, &problems, out, gate)?;
+    let written = write_group(rt, alloc, command, number, made, &problems, out, gate)?;
     *side_by_side = written == problems.len();
     Ok(written)
 }
 
-/// The problems of the words from this place on, as many as make a group, or as there is memory for.
+/// The problems of the words from this place on, as many as make a group, or as there is memory for. Words for which
+/// something is made have one length.
 fn next_group<'a>(
     alloc: Global,
     command: &Command<'_>,
     job: &'a CheckedJob,
     judged: &Judged,
+    made: Option<&'a Compiled>,
     place: usize,
 ) -> Vec<Problem<'a>>
     requires inside { place < length job.now.words }
@@ -105,9 +190,11 @@ fn next_group<'a>(
         judged.now.compiled.items job.now.words }
     requires admissible { AllByRecursion (IsAdmissibleWith command.now.second)
         (posed_words job.now.checked.grammar job.now.checked.algebra job.now.words) }
+    requires made { IsMadeFor command.now job.now.checked (option_copied made) }
     ensures few { length result.items ≤ 64 }
     ensures small { (cells : ℕ) × HaveCells result.items cells × (cells ≤ most_cells) }
-    ensures first { (rest : List PosedProblem) × (result.items ++ rest
+    ensures first { (asked : List PosedProblem) × (rest : List PosedProblem)
+        × AllZip (IsSolvedFor command.now (option_copied made.entry)) asked result.items × (asked ++ rest
         ≡ drop place (posed_words job.now.checked.grammar job.now.checked.algebra job.now.words)) }
 {
     let words = job.words.as_slice();
@@ -115,8 +202,11 @@ fn next_group<'a>(
     let mut cells = 0u64;
     for at in place..words.len() {
         let word = &words[at];
+        if !has_its_length(made, word) {
+            break;
+        }
         is_admitted(command, job, judged, words, at, word);
-        let problem = admitted(&job.checked, &judged.rows.first, word);
+        let problem = problem_of(command, job, judged, made, word);
         cells = cells.saturating_add(problem.cells);
         if !has_room(problems.len(), cells, command.workers as usize) {
             break;
@@ -127,6 +217,41 @@ fn next_group<'a>(
         }
     }
     problems
+}
+
+/// Whether the word has the length for which something is made, if it is.
+fn has_its_length(made: Option<&Compiled>, word: &Text) -> bool
+    ensures { IsTrue result ↔ HasItsLength (option_copied made.entry) word.now }
+{
+    match made {
+        Some(made) => made.serves(word),
+        None => true,
+    }
+}
+
+/// The problem by which the word is answered.
+fn problem_of<'a>(
+    command: &Command<'_>,
+    job: &'a CheckedJob,
+    judged: &Judged,
+    made: Option<&'a Compiled>,
+    word: &'a Text,
+) -> Problem<'a>
+    requires rows { AreJobRows job.now.checked job.now.second judged.now.rows }
+    requires known { length word.now ≤ judged.now.rows.first.longest }
+    requires bound { HasKept command.now.second job.now.checked.grammar job.now.checked.algebra
+        judged.now.compiled.items (length word.now) }
+    requires admissible { IsAdmissibleWith command.now.second
+        (posed_word job.now.checked.grammar job.now.checked.algebra word.now) }
+    requires made { IsMadeFor command.now job.now.checked (option_copied made) }
+    requires long { HasItsLength (option_copied made) word.now }
+    ensures { IsSolvedFor command.now (option_copied made.entry)
+        (posed_word job.now.checked.grammar job.now.checked.algebra word.now) result }
+{
+    match made {
+        Some(made) => made.problem_of(command, job, judged, word),
+        None => admitted(&job.checked, &judged.rows.first, word),
+    }
 }
 
 /// Whether a group of so many words takes one more, with which it has so many counted cells.
@@ -143,19 +268,24 @@ fn write_group<'a, R: Threads + Sync, K: Sink, G: Gate>(
     alloc: Global,
     command: &Command<'_>,
     number: u32,
+    made: Option<&Compiled>,
     problems: &'a [Problem<'a>],
     out: &mut K,
     gate: &mut G,
 ) -> Result<usize, Fault>
     requires mode { IsGrouped command.now.mode }
     requires few { number + length problems.now ≤ 65537 }
+    requires asked { (asked : List PosedProblem)
+        × AllZip (IsSolvedFor command.now (option_copied made)) asked problems.now }
     ensures told { SameTold (K.held out.old) (K.held out.new) }
     ensures faults { RisesWhere (K.faults out.old) (K.faults out.new) (IsWriteFault result) }
-    ensures ending { AreFirstEnding command.now number problems.now result
+    ensures ending { (asked : List PosedProblem)
+        → AllZip (IsSolvedFor command.now (option_copied made.entry)) asked problems.now
+        → AreFirstEnding command.now number asked result
         (G.runs gate.old) (G.runs gate.new) (K.held out.old) (K.held out.new) }
 {
     match run_side_by_side(rt, alloc, command, problems, &*gate) {
-        Ok(all) => write_solved(alloc, command, number, problems, &all, out, gate),
+        Ok(all) => write_solved(alloc, command, number, made, problems, &all, out, gate),
         Err(_) => Ok(0),
     }
 }
@@ -181,6 +311,7 @@ fn write_solved<'a, K: Sink, G: Gate>(
     alloc: Global,
     command: &Command<'_>,
     number: u32,
+    made: Option<&Compiled>,
     problems: &'a [Problem<'a>],
     all: &[Finished<'a>],
     out: &mut K,
@@ -188,16 +319,27 @@ fn write_solved<'a, K: Sink, G: Gate>(
 ) -> Result<usize, Fault>
     requires mode { IsGrouped command.now.mode }
     requires few { number + length problems.now ≤ 65537 }
+    requires asked { (asked : List PosedProblem)
+        × AllZip (IsSolvedFor command.now (option_copied made)) asked problems.now }
     requires solved { AllZip (IsRunFor command.now) problems.now all.now }
     ensures told { SameTold (K.held out.old) (K.held out.new) }
     ensures faults { RisesWhere (K.faults out.old) (K.faults out.new) (IsWriteFault result) }
-    ensures ending { AreFirstEnding command.now number problems.now result
+    ensures ending { (asked : List PosedProblem)
+        → AllZip (IsSolvedFor command.now (option_copied made.entry)) asked problems.now
+        → AreFirstEnding command.now number asked result
         (G.runs gate.old) (G.runs gate.new) (K.held out.old) (K.held out.new) }
 {
     for place in 0..problems.len() {
         let problem = &problems[place];
         let finished = &all[place];
-        let report = match report_of(alloc, command, number + place as u32, problem, finished) {
+        let report = match report_of(
+            alloc,
+            command,
+            number + place as u32,
+            made,
+            problem,
+            finished,
+        ) {
             Ok(report) => report,
             Err(_) => return Ok(place),
         };
@@ -211,10 +353,33 @@ fn report_of<'a>(
     alloc: Global,
     command: &Command<'_>,
     number: u32,
+    made: Option<&Compiled>,
     problem: &'a Problem<'a>,
     finished: &Finished<'a>,
 ) -> Result<Vec<u8>, AllocError>
     requires mode { IsGrouped command.now.mode }
+    requires asked { (asked : PosedProblem) × IsSolvedFor command.now (option_copied made) asked problem.now }
+    requires run { IsRunFor command.now problem.now finished.now }
+    ensures { IfOk result (λ report. (asked : PosedProblem)
+        → IsSolvedFor command.now (option_copied made.entry) asked problem.now
+        → IsReportWith command.now.mode command.now None number asked finished.now.wins.items report.items) }
+{
+    match made {
+        Some(made) => report_of_both(alloc, number, made, problem, finished),
+        None => own_report(alloc, command, number, problem, finished),
+    }
+}
+
+/// The report of a word that evaluators solved under its own algebra.
+fn own_report<'a>(
+    alloc: Global,
+    command: &Command<'_>,
+    number: u32,
+    problem: &'a Problem<'a>,
+    finished: &Finished<'a>,
+) -> Result<Vec<u8>, AllocError>
+    requires mode { IsGrouped command.now.mode }
+    requires single { command.now.mode ≡ Lex → ⊥ }
     requires run { IsRunFor command.now problem.now finished.now }
     ensures { IfOk result (λ report. IsReportWith command.now.mode command.now None number problem.now
         finished.now.wins.items report.items) }

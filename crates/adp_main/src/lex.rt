@@ -1,5 +1,5 @@
 //! The mode `lex`: reports by two algebras in order, which evaluators find by the compiled one.
-ghost use Rattle.std.specs.Prelude.{◌≡◌, ◌≤◌, ℕ, List, Option, length, IfOk, IfSome, None};
+ghost use Rattle.std.specs.Prelude.{◌≡◌, ◌↔◌, ◌≤◌, ℕ, List, Option, length, IfOk, IfSome, IsTrue, None};
 ghost use Rattle.adp_io.specs.Causes.{RisesWhere};
 ghost use Rattle.adp_io.specs.Streams.{SameTold};
 ghost use Rattle.adp_model.specs.PosedProblem.{PosedProblem};
@@ -14,6 +14,7 @@ ghost use Rattle.verdicts.specs.declared.command.Mode.TheVariants.{Lex};
 ghost use Rattle.verdicts.specs.SecondAlgebra.{IsAdmissibleWith, IsSecond};
 ghost use Rattle.adp_main.specs.CompiledWords.{IsCompiledFor, ServesItsLength, compiled_word};
 ghost use Rattle.adp_main.specs.Faults.{status_after};
+ghost use Rattle.adp_main.specs.Groups.{IsMadeFor};
 ghost use Rattle.adp_main.specs.KeptLengths.{HasKept};
 ghost use Rattle.verdicts.specs.Posed.{posed_word};
 ghost use Rattle.adp_main.specs.RunNotes.{IsRunOf};
@@ -52,6 +53,58 @@ pub(crate) struct Compiled {
     length: usize,
 }
 
+impl Compiled {
+    /// Whether it was made for words of this word's length.
+    pub(crate) fn serves(&self, word: &Text) -> bool
+        ensures { IsTrue result ↔ (length word.now ≡ self.now.length) }
+    {
+        word.bytes().len() == self.length
+    }
+
+    /// The problem of a word of the length that it was made for, under the compiled algebra. Takes no memory.
+    pub(crate) fn problem_of<'a>(
+        &'a self,
+        command: &Command<'_>,
+        job: &CheckedJob,
+        judged: &Judged,
+        word: &'a Text,
+    ) -> Problem<'a>
+        requires mode { command.now.mode ≡ Lex }
+        requires bound { HasKept command.now.second job.now.checked.grammar job.now.checked.algebra
+            judged.now.compiled.items (length word.now) }
+        requires serves { ServesItsLength command.now.second job.now.checked self.now }
+        requires long { length word.now ≡ self.now.length }
+        ensures { result ≡ compiled_word self.now word.now }
+    {
+        let bound = compiled_bound(command, job, judged, word);
+        admit_known(&self.checked, word, bound)
+    }
+}
+
+/// Makes what serves the word, of what is kept where there is something, and keeps it.
+pub(crate) fn keep_for(
+    alloc: Global,
+    command: &Command<'_>,
+    job: &CheckedJob,
+    judged: &Judged,
+    word: &Text,
+    kept: &mut Option<Compiled>,
+) -> Result<(), AllocError>
+    requires mode { command.now.mode ≡ Lex }
+    requires second { IsSecondOf command.now.second job.now.checked job.now.second }
+    requires rows { AreJobRows job.now.checked job.now.second judged.now.rows }
+    requires known { length word.now ≤ judged.now.rows.first.longest }
+    requires admissible { IsAdmissibleWith command.now.second
+        (posed_word job.now.checked.grammar job.now.checked.algebra word.now) }
+    requires kept { IfSome kept.old (ServesItsLength command.now.second job.now.checked) }
+    ensures kept { IfSome kept.new (ServesItsLength command.now.second job.now.checked) }
+    ensures made { IfOk result (λ done. IsMadeFor command.now job.now.checked kept.new) }
+{
+    let made = made_for(alloc, command, job, judged, word, kept.take())?;
+    *kept = Some(made);
+    Ok(())
+}
+
 /// Solves the word under the compiled algebra by evaluators, writes its report by one `write_whole`, and tells the gate
 /// of their run. What was made for it is kept for the next word.
 pub(crate) fn report_word<R: Threads + Sync, K: Sink, G: Gate>(
@@ -83,8 +136,7 @@ pub(crate) fn report_word<R: Threads + Sync, K: Sink, G: Gate>(
         (G.runs gate.old) (G.runs gate.new) (K.held out.old) (K.held out.new) }
 {
     let made = made_for(alloc, command, job, judged, word, kept.take())?;
-    let bound = compiled_bound(command, job, judged, word);
-    let problem = admit_known(&made.checked, word, bound);
+    let problem = made.problem_of(command, job, judged, word);
     let finished = run_evaluators(rt, alloc, command, &problem, &*gate)?;
     let report = report_of_both(alloc, number, &made, &problem, &finished)?;
     let result = write_run(command, &problem, &finished, &report, out, gate);
@@ -116,7 +168,7 @@ fn made_for(
     match kept {
         None => compiled_for(alloc, command, job, judged, word, None),
         Some(kept) => {
-            if kept.length == word.bytes().len() {
+            if kept.serves(word) {
                 return Ok(kept);
             }
             compiled_for(alloc, command, job, judged, word, Some(kept.checked))
@@ -215,7 +267,7 @@ fn compiled_by(
 }
 
 /// The report of a word that evaluators solved under the compiled algebra, with both scores.
-fn report_of_both(
+pub(crate) fn report_of_both(
     alloc: Global,
     number: u32,
     compiled: &Compiled,

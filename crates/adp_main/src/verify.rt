@@ -25,7 +25,10 @@ use std::alloc::Global;
 use table_certificate::laws::right_certificates_part_at_job;
 use table_certificate::{VerifyError, score_report, split_input, verify_all};
 use verdicts::Command;
-use verdicts::laws::{asked_grammar_is_unique, command_is_unique};
+use verdicts::laws::{
+    asked_grammar_is_unique, command_is_unique, nested_reports_are_the_plain_ones,
+    texts_hide_alternatives,
+};
 
 /// Checks the certificate that stands before the line `job`, with the job behind it, and writes the best score of each
 /// word, each by one `write_whole`.
@@ -55,6 +58,8 @@ pub(crate) fn answer_certificate<K: Sink>(
     asked_grammar_is_unique();
     command_is_unique();
     right_certificates_part_at_job();
+    texts_hide_alternatives();
+    nested_reports_are_the_plain_ones();
     let (certificate, text) = match split_input(bytes) {
         Ok(parts) => parts,
         Err(rejected) => return Err(Fault::Rejected {

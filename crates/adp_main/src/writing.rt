@@ -185,6 +185,7 @@ fn write_next<R: Threads + Sync, K: Sink, G: Gate>(
         job,
         judged,
         side_by_side,
+        kept,
         out,
         gate,
     )?;

@@ -2,4 +2,5 @@ pub mod Reported
 pub mod OneVerdict
 pub mod OneCertificate
 pub mod NestedReports
+pub mod NestedScores
 pub mod Accepted

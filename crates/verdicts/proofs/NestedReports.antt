@@ -7,11 +7,13 @@ use Rattle.first_trees.specs.ListReport.{IsListReport}
 use Rattle.first_trees.specs.NestedListReport.{IsNestedListReport}
 use Rattle.nested_trees.specs.HiddenRules.{AreNestedAlternatives}
 use Rattle.nested_trees.specs.NestedReport.{IsNestedReport, IsNestedWinsReport}
+use Rattle.table_certificate.specs.ScoreReports.{IsScoreReport}
 use Rattle.verdicts.specs.declared.command.Mode.{Mode}
 use Rattle.verdicts.specs.declared.command.Mode.TheVariants.{Best, Serial, Wins, Replay, Lex, Cert, Verify, KBest, Big}
 use Rattle.verdicts.specs.Command.{Command}
+use Rattle.verdicts.specs.NestedScores.{IsNestedScoreReport}
 use Rattle.verdicts.specs.Verdict.{IsReportWith}
-use Rattle.verdicts.specs.WordReport.{HidesAlternatives, IsWordListReport, IsWordReport, IsWordWinsReport}
+use Rattle.verdicts.specs.WordReport.{HidesAlternatives, IsWordListReport, IsWordReport, IsWordScoreReport, IsWordWinsReport}
 
 -- what is hidden is nested, where it is so of each number of hidden rules
 pub hides_of : (grammar : Grammar) (hidden : Option ℕ)
@@ -28,7 +30,9 @@ module _ (p : PosedProblem)
     (wins_is : (hidden : ℕ) → AreNestedAlternatives p.grammar hidden → (number : ℕ) (wins report : List ℕ)
     → IsWinsReport number p wins report ↔ IsNestedWinsReport number p hidden wins report)
     (list_is : (hidden : ℕ) → AreNestedAlternatives p.grammar hidden → (number best : ℕ) (report : List ℕ)
-    → IsListReport number p best report ↔ IsNestedListReport number p hidden best report) where
+    → IsListReport number p best report ↔ IsNestedListReport number p hidden best report)
+    (score_is : (hidden : ℕ) → AreNestedAlternatives p.grammar hidden → (number : ℕ) (report : List ℕ)
+    → IsScoreReport number p report ↔ IsNestedScoreReport number p hidden report) where
   of_word : (hidden : Option ℕ) → HidesAlternatives hidden p.grammar → (number : ℕ) (report : List ℕ)
       → IsReport number p report ↔ IsWordReport hidden number p report
   of_word None hides number report = same
@@ -44,6 +48,11 @@ module _ (p : PosedProblem)
   of_list None hides number best report = same
   of_list (Some hidden) hides number best report = list_is hidden hides number best report
 
+  of_score : (hidden : Option ℕ) → HidesAlternatives hidden p.grammar → (number : ℕ) (report : List ℕ)
+      → IsScoreReport number p report ↔ IsWordScoreReport hidden number p report
+  of_score None hides number report = same
+  of_score (Some hidden) hides number report = score_is hidden hides number report
+
   pub plain_in_mode : (hidden : Option ℕ) → HidesAlternatives hidden p.grammar → (mode : Mode)
       (command : Command) (number : ℕ) (wins report : List ℕ)
       → IsReportWith mode command None number p wins report ↔ IsReportWith mode command hidden number p wins report
@@ -53,6 +62,6 @@ module _ (p : PosedProblem)
   plain_in_mode hidden hides Replay command number wins report = of_wins hidden hides number wins report
   plain_in_mode hidden hides Lex command number wins report = same
   plain_in_mode hidden hides Cert command number wins report = same
-  plain_in_mode hidden hides Verify command number wins report = same
+  plain_in_mode hidden hides Verify command number wins report = of_score hidden hides number report
   plain_in_mode hidden hides KBest command number wins report = of_list hidden hides number command.best report
   plain_in_mode hidden hides Big command number wins report = same

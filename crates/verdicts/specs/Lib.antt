@@ -2,6 +2,7 @@ pub mod ScheduleText
 pub mod Command
 pub mod CommandFields
 pub mod SecondAlgebra
+pub mod NestedScores
 pub mod WordReport
 pub mod WordLimits
 pub mod Posed

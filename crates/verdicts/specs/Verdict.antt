@@ -16,11 +16,10 @@ use Rattle.verdicts.specs.declared.command.Mode.{Mode}
 use Rattle.verdicts.specs.declared.command.Mode.TheVariants.{Best, Serial, Wins, Replay, Lex, Cert, Verify, KBest, Big}
 use Rattle.verdicts.specs.Command.{ShowsWins, Command, IsCommand, HasCommand, ReadsJob, AsksForJob, AsksToVerify}
 use Rattle.table_certificate.specs.JobSplit.{IsSplitAtJob}
-use Rattle.table_certificate.specs.ScoreReports.{IsScoreReport}
 use Rattle.verdicts.specs.Certificates.{behind_reports, IsBlockReport, IsFalseFor, IsRightFor, IsWithoutJob}
 use Rattle.verdicts.specs.SecondAlgebra.{IsFaultWith, IsSecond, MakesPairWith}
 use Rattle.verdicts.specs.WordLimits.{IsFirstLimit, KeepLimits}
-use Rattle.verdicts.specs.WordReport.{IsWordListReport, IsWordReport, IsWordWinsReport}
+use Rattle.verdicts.specs.WordReport.{IsWordListReport, IsWordReport, IsWordScoreReport, IsWordWinsReport}
 
 -- a job has at most this many bytes
 abbrev pub greatest_length : ℕ
@@ -59,7 +58,7 @@ pub record AsksUnder (words : List (List ℕ)) (bytes : List ℕ) (job : Job) (a
 
 -- the report that a mode asks for of the word with this number, as the command says, under a grammar of which so many
 -- rules are hidden, and where its evaluators have these wins; a pair of algebras has linear terms, and hides no rule; a
--- certificate tells cells and scores, which are those of the plain grammar
+-- certificate tells cells, which are those of the plain grammar
 abbrev pub IsReportWith : Mode → Command → Option ℕ → ℕ → PosedProblem → List ℕ → List ℕ → Type 0
 IsReportWith Best command hidden number p wins report = IsWordReport hidden number p report
 IsReportWith Serial command hidden number p wins report = IsWordReport hidden number p report
@@ -68,7 +67,7 @@ IsReportWith Replay command hidden number p wins report = IsWordWinsReport hidde
 IsReportWith Lex command hidden number p wins report =
     (algebra : ℕ) × IsSecond command.second p.grammar algebra × IsPairReport number p algebra report
 IsReportWith Cert command hidden number p wins report = IsBlockReport number p report
-IsReportWith Verify command hidden number p wins report = IsScoreReport number p report
+IsReportWith Verify command hidden number p wins report = IsWordScoreReport hidden number p report
 IsReportWith KBest command hidden number p wins report = IsWordListReport hidden number p command.best report
 IsReportWith Big command hidden number p wins report = ⊥
 

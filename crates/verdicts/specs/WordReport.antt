@@ -8,6 +8,8 @@ use Rattle.nested_trees.specs.HiddenRules.{AreNestedAlternatives}
 use Rattle.first_trees.specs.ListReport.{IsListReport}
 use Rattle.first_trees.specs.NestedListReport.{IsNestedListReport}
 use Rattle.nested_trees.specs.NestedReport.{IsNestedReport, IsNestedWinsReport}
+use Rattle.table_certificate.specs.ScoreReports.{IsScoreReport}
+use Rattle.verdicts.specs.NestedScores.{IsNestedScoreReport}
 
 -- the hidden rules of the grammar, where there are any, are nested alternatives
 abbrev pub HidesAlternatives : Option ℕ → Grammar → Type 0
@@ -28,3 +30,8 @@ IsWordWinsReport (Some hidden) number p wins report = IsNestedWinsReport number 
 abbrev pub IsWordListReport : Option ℕ → ℕ → PosedProblem → ℕ → List ℕ → Type 0
 IsWordListReport None number p best report = IsListReport number p best report
 IsWordListReport (Some hidden) number p best report = IsNestedListReport number p hidden best report
+
+-- the report of its best score
+abbrev pub IsWordScoreReport : Option ℕ → ℕ → PosedProblem → List ℕ → Type 0
+IsWordScoreReport None number p report = IsScoreReport number p report
+IsWordScoreReport (Some hidden) number p report = IsNestedScoreReport number p hidden report

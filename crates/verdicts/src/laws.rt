@@ -9,6 +9,9 @@ ghost use Rattle.std.specs.Prelude.{◌≡◌, ◌↔◌, ◌⊎◌, ◌≤◌, 
 ghost use Rattle.std.specs.List.{concat};
 ghost use Rattle.verdicts.specs.declared.command.Mode.{Mode};
 ghost use Rattle.verdicts.specs.WordReport.{HidesAlternatives};
+ghost use Rattle.verdicts.specs.NestedScores.{IsNestedScoreReport};
+ghost use Rattle.nested_trees.specs.HiddenRules.{AreNestedAlternatives};
+ghost use Rattle.table_certificate.specs.ScoreReports.{IsScoreReport};
 ghost use Rattle.verdicts.specs.CheckableJobs.{IsCheckableInput};
 ghost use Rattle.verdicts.specs.Command.{Command, IsCommand, ReadsJob, greatest_size, most_trees};
 ghost use Rattle.verdicts.specs.declared.command.Mode.TheVariants.{Best, Cert, KBest, Lex, Verify};
@@ -74,6 +77,19 @@ pub fn texts_hide_alternatives()
     hidden_rules_are_nested_alternatives();
 }
 
+/// What the check of a certificate tells of a word is the best score over all nested candidates, where the grammar has
+/// sizes and ranks: that over all candidates of the plain grammar.
+pub fn nested_scores_are_the_plain_ones()
+    ensures { (p : PosedProblem) (least : List ℕ) (greatest : List (Option ℕ)) (ranks : List ℕ)
+        → IsChecked p.grammar p.algebra least greatest ranks → (hidden : ℕ) → AreNestedAlternatives p.grammar hidden
+        → (number : ℕ) (report : List ℕ)
+        → IsScoreReport number p report ↔ IsNestedScoreReport number p hidden report }
+{
+    nested::erasing_is_one_to_one_and_onto();
+    nested::erasing_keeps_scores();
+    nested::alternatives_have_one_pattern();
+}
+
 /// A report under the nested grammar is one under the plain grammar, in each mode, where the grammar has sizes and ranks.
 pub fn nested_reports_are_the_plain_ones()
     ensures { (p : PosedProblem) (least : List ℕ) (greatest : List (Option ℕ)) (ranks : List ℕ)
@@ -84,6 +100,7 @@ pub fn nested_reports_are_the_plain_ones()
 {
     nested::nested_reports_are_the_plain_ones();
     nested_lists_are_the_plain_ones();
+    nested_scores_are_the_plain_ones();
 }
 
 /// What is asked for with one first candidate tells score and tree of the answer, in each format, where the grammar has

@@ -49,6 +49,12 @@ returns-clause-checkable g c = λ words is word limit _.
     (checkable c.asked_grammar_is_unique.ensures.grammar c.asked_grammar_is_unique.ensures.algebra _ _ _ c.in_ok-job.job
     (c.in_ok-job.ensures.job words is) (_, _, _, c.passes.ensures.found))
 
+pub returns-clause-passed : goal.returns-clause-passed
+returns-clause-passed g c = λ words is _.
+    checkable_whole _ _ (finds_answers c.command_is_unique.ensures.command _ _ is c.requires.finds)
+    (checkable c.asked_grammar_is_unique.ensures.grammar c.asked_grammar_is_unique.ensures.algebra _ _ _ c.in_ok-job.job
+    (c.in_ok-job.ensures.job words is) (_, _, _, c.passes.ensures.found))
+
 pub returns-clause-noted : goal.returns-clause-noted
 returns-clause-noted g c = λ words is.
     let asked = c.in_ok-job.ensures.job words is in
@@ -72,6 +78,11 @@ pub returns-in_err-job-clause-checkable : goal.returns-in_err-job-clause-checkab
 returns-in_err-job-clause-checkable g c =
     let p = err_from_is_err_and c.from_residual.result c.from_residual.ensures.1 in
     rw (p.1, p.2) (λ words is word limit e. absurd (refused_limit _ _ c.in_err-job.field-0.0 (c.in_err-job.ensures.refusal words is) word limit e))
+
+pub returns-in_err-job-clause-passed : goal.returns-in_err-job-clause-passed
+returns-in_err-job-clause-passed g c =
+    let p = err_from_is_err_and c.from_residual.result c.from_residual.ensures.1 in
+    rw (p.1, p.2) (λ words is done. absurd (undone c.in_err-job.field-0.0 done))
 
 pub returns-in_err-job-clause-noted : goal.returns-in_err-job-clause-noted
 returns-in_err-job-clause-noted g c =

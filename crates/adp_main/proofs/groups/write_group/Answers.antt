@@ -4,4 +4,7 @@ use Rattle.adp_main.proofs.groups.write_group.Goals as goal
 
 pub returns-in-Err-clause-ending : goal.returns-in-Err-clause-ending
 returns-in-Err-clause-ending g c =
-    (omega arith, none_reported c.args.command.now c.args.number (g.G.Gate.runs c.args.gate.now) (g.K.Sink.held c.args.out.now))
+    λ asked solved. (
+      omega arith,
+      none_reported c.args.command.now c.args.number (g.G.Gate.runs c.args.gate.now) (g.K.Sink.held c.args.out.now),
+    )

@@ -6,7 +6,7 @@ returns-in-None-clause-kept c =
     made_serves c.args.command.now.second c.args.job.now.checked c.args.word.now c.compiled_for.result
     c.compiled_for.ensures.made c.compiled_for.ensures.whole c.compiled_for.ensures.length
 
-pub returns-else-kept-bytes-clause-kept : goal.returns-else-kept-bytes-clause-kept
-returns-else-kept-bytes-clause-kept c =
+pub returns-else-serves-clause-kept : goal.returns-else-serves-clause-kept
+returns-else-serves-clause-kept c =
     made_serves c.args.command.now.second c.args.job.now.checked c.args.word.now c.compiled_for-in-Some.result
     c.compiled_for-in-Some.ensures.made c.compiled_for-in-Some.ensures.whole c.compiled_for-in-Some.ensures.length

@@ -1,6 +1,8 @@
-use Rattle.std.proofs.Common.{inl, refl, arith}
+use Rattle.std.proofs.Common.{inl, refl, sym, ◌∙◌, arith}
 use Rattle.std.proofs.lemmas.Bool.{MatchBool-at_true, MatchBool-at_false}
 use Rattle.adp_main.proofs.Endings.{ends, ends_made, ends_usage, ends_unread, fault_left, makes_no_job, unread_fault}
+use Rattle.adp_main.proofs.Certified.{done_accepted, no_certificate}
+use Rattle.adp_main.proofs.Told.{undone}
 use Rattle.adp_main.proofs.top_call.answer.Goals as goal
 
 pub returns-in-Err-clause-ending : goal.returns-in-Err-clause-ending
@@ -75,3 +77,27 @@ returns-clause-fault g c =
     fault_left _ _ c.in-Ok-read_job.bytes.items c.deref-else-verifies.result.now c.answer_bytes.result
     (c.in-Ok.command, is, reads) c.in-Ok-read_job.ensures.whole c.deref-else-verifies.ensures.value
     (c.answer_bytes.ensures.fault _ is)
+
+pub returns-in-Err-clause-certified : goal.returns-in-Err-clause-certified
+returns-in-Err-clause-certified g c = λ done. absurd cc
+
+pub returns-then-not-reads_job-clause-certified : goal.returns-then-not-reads_job-clause-certified
+returns-then-not-reads_job-clause-certified g c = λ done.
+    let makes = MatchBool-at_false _ _ c.if-not-reads_job.true c.reads_job.ensures in
+    no_certificate c.command_is_unique.ensures.command _ c.in-Ok.command c.in-Ok.ensures.command
+    (λ cert. (let e = sym makes ∙ cert in cc)) _ _
+
+pub returns-in-Err-read_job-clause-certified : goal.returns-in-Err-read_job-clause-certified
+returns-in-Err-read_job-clause-certified g c = λ done. absurd (undone c.reading_fault.result done)
+
+pub returns-then-verifies-clause-certified : goal.returns-then-verifies-clause-certified
+returns-then-verifies-clause-certified g c = λ done.
+    let verifies = MatchBool-at_true _ _ c.if-verifies.true c.verifies.ensures in
+    no_certificate c.command_is_unique.ensures.command _ c.in-Ok.command c.in-Ok.ensures.command
+    (λ cert. (let e = sym verifies ∙ cert in cc)) _ _
+
+pub returns-clause-certified : goal.returns-clause-certified
+returns-clause-certified g c = λ done.
+    let is = c.in-Ok.ensures.command in
+    done_accepted c.written_certificates_are_accepted.ensures _ _ (c.answer_bytes.ensures.passed _ is done) _ done _ _
+    (c.answer_bytes.ensures.verdict _ is)

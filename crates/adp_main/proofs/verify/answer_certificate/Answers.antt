@@ -2,6 +2,7 @@ use Rattle.std.proofs.Common.{◌≡◌, ◌+◌, ◌≤◌, List, ℕ, ◌++◌
 use Rattle.table_certificate.specs.JobSplit.{IsSplitAtJob}
 use Rattle.std.proofs.lemmas.Result.{err_from_is_err_and}
 use Rattle.adp_main.proofs.Endings.{unwritten}
+use Rattle.adp_main.proofs.NestedReports.{tells_nested}
 use Rattle.adp_main.proofs.Told.{checkable, refused_limit}
 use Rattle.adp_main.proofs.Verifying.{checkable_part, refused_job, shows_refused, shows_without, told_fault, told_first, told_grew, told_part, told_read, told_short, told_shows, told_usage, without_job}
 use Rattle.adp_main.proofs.verify.answer_certificate.Goals as goal
@@ -58,23 +59,35 @@ returns-in_err-job-clause-checkable g c =
 
 pub returns-clause-fault : goal.returns-clause-fault
 returns-clause-fault g c = λ words is.
+    let asked = c.in_ok-job.ensures.job words is in
     told_fault c.args.command.now words is c.requires.mode c.args.bytes.now c.requires.fits _ _ c.in-Ok.ensures.split
-    c.in_ok-job.job (c.in_ok-job.ensures.job words is) c.tell_words.result _ _ c.tell_words.ensures.ending
+    c.in_ok-job.job asked
+    (tells_nested c.texts_hide_alternatives.ensures c.nested_reports_are_the_plain_ones.ensures _ _ _ _ asked
+    (_, _, _, c.passes.ensures.found)) c.tell_words.result _ _ c.tell_words.ensures.ending
 
 pub returns-clause-verdict : goal.returns-clause-verdict
 returns-clause-verdict g c = λ words is.
+    let asked = c.in_ok-job.ensures.job words is in
     told_shows c.args.command.now words is c.requires.mode c.args.bytes.now c.requires.fits _ _ c.in-Ok.ensures.split
-    c.in_ok-job.job (c.in_ok-job.ensures.job words is) c.tell_words.result _ _ c.tell_words.ensures.ending
+    c.in_ok-job.job asked
+    (tells_nested c.texts_hide_alternatives.ensures c.nested_reports_are_the_plain_ones.ensures _ _ _ _ asked
+    (_, _, _, c.passes.ensures.found)) c.tell_words.result _ _ c.tell_words.ensures.ending
 
 pub returns-clause-part : goal.returns-clause-part
 returns-clause-part g c = λ words is.
+    let asked = c.in_ok-job.ensures.job words is in
     told_part c.args.command.now words is c.requires.mode c.args.bytes.now c.requires.fits _ _ c.in-Ok.ensures.split
-    c.in_ok-job.job (c.in_ok-job.ensures.job words is) c.tell_words.result _ _ c.tell_words.ensures.ending
+    c.in_ok-job.job asked
+    (tells_nested c.texts_hide_alternatives.ensures c.nested_reports_are_the_plain_ones.ensures _ _ _ _ asked
+    (_, _, _, c.passes.ensures.found)) c.tell_words.result _ _ c.tell_words.ensures.ending
 
 pub returns-clause-first : goal.returns-clause-first
 returns-clause-first g c = λ words is.
+    let asked = c.in_ok-job.ensures.job words is in
     told_first c.args.command.now words is c.requires.mode c.args.bytes.now c.requires.fits _ _ c.in-Ok.ensures.split
-    c.in_ok-job.job (c.in_ok-job.ensures.job words is) c.tell_words.result _ _ c.tell_words.ensures.ending
+    c.in_ok-job.job asked
+    (tells_nested c.texts_hide_alternatives.ensures c.nested_reports_are_the_plain_ones.ensures _ _ _ _ asked
+    (_, _, _, c.passes.ensures.found)) c.tell_words.result _ _ c.tell_words.ensures.ending
 
 pub returns-clause-usage : goal.returns-clause-usage
 returns-clause-usage g c = told_usage _ _ _ _ _ c.tell_words.result _ _ c.tell_words.ensures.ending
