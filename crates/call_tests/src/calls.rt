@@ -4,7 +4,7 @@ use crate::codes::push_code_call;
 use crate::grammars::{push_grammar_call, push_spelling};
 use crate::lines::{first_word, push_no_call, push_text};
 use crate::made::push_made_call;
-use crate::runs::{push_meeting, push_run};
+use crate::runs::{push_meeting, push_run, push_side_by_side};
 use crate::streams::push_stream_call;
 use crate::terms::push_term_call;
 use std::alloc::{AllocError, Global};
@@ -83,6 +83,7 @@ fn push_job_call<R: Threads + Sync>(
     match name {
         "run" => push_run(rt, alloc, text, rest, out),
         "meet" | "in-step" => push_meeting(rt, alloc, text, name, rest, out),
+        "side-by-side" => push_side_by_side(rt, alloc, text, rest, out),
         "spelling" => push_spelling(alloc, text, out),
         _ => push_grammar_call(alloc, text, name, rest, out),
     }

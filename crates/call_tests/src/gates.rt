@@ -1,4 +1,4 @@
-//! A gate that counts how often each of its workers passes, and at which they can meet.
+//! Gates at which workers can meet: one that counts how often each of them passes, and one for those of two words.
 
 use adp_model::Problem;
 use evaluators::{Finished, Gate, LogGate, RunNote};
@@ -78,6 +78,78 @@ impl Gate for CountingGate {
         match worker {
             0 => self.come(&self.first, &self.second),
             _ => self.come(&self.second, &self.first),
+        }
+    }
+
+    fn finished(
+        &mut self,
+        problem: &Problem<'_>,
+        seed: u64,
+        finished: &Finished<'_>,
+    ) -> Result<(), AllocError> {
+        self.notes.finished(problem, seed, finished)
+    }
+}
+
+/// A gate at which two words are seen that are worked at side by side: at the first passes of their first workers, so
+/// many, each waits for some time until one more comes. Those of one word come one after the other. It keeps a note of
+/// each run.
+#[derive(Drop)]
+pub(crate) struct WordsGate {
+    notes: LogGate,
+    awaited: u64,
+    passes: AtomicU64,
+    missed: AtomicU64,
+}
+
+impl WordsGate {
+    /// A gate that no worker has passed, at which two are to meet so often.
+    pub(crate) fn new(alloc: Global, meetings: u64) -> WordsGate {
+        WordsGate {
+            notes: LogGate::new(alloc),
+            awaited: meetings.saturating_mul(2),
+            passes: AtomicU64::new(0),
+            missed: AtomicU64::new(0),
+        }
+    }
+
+    /// The notes of runs, in order.
+    pub(crate) fn notes(&self) -> &[RunNote] {
+        self.notes.notes()
+    }
+
+    /// Whether as many came as were awaited, and none waited in vain.
+    pub(crate) fn have_met(&self) -> bool {
+        self.awaited <= self.passes.load(Ordering::SeqCst) && !self.has_missed()
+    }
+
+    fn has_missed(&self) -> bool {
+        self.missed.load(Ordering::SeqCst) > 0
+    }
+
+    /// One comes, and waits for one more where none waits for it, unless one has waited in vain before.
+    fn come(&self) {
+        let passes = self.passes.fetch_add(1, Ordering::SeqCst).saturating_add(1);
+        if passes > self.awaited || passes % 2 == 0 || self.has_missed() {
+            return;
+        }
+        for _look in 0..LOOKS {
+            if self.passes.load(Ordering::SeqCst) > passes {
+                return;
+            }
+        }
+        self.missed.fetch_add(1, Ordering::SeqCst);
+    }
+}
+
+impl Gate for WordsGate {
+    ghost use Rattle.std.specs.Prelude.{Some};
+
+    ghost runs = { λ gate. Some gate.notes };
+
+    fn pass(&self, worker: u32) {
+        if worker == 0 {
+            self.come();
         }
     }
 

@@ -1,13 +1,13 @@
 //! Runs of the top call on a job, over streams that never fail: what stands in no report.
 
-use crate::gates::CountingGate;
+use crate::gates::{CountingGate, WordsGate};
 use crate::lines::{first_word, push_field, push_flag, push_list, push_text};
 use crate::schedules::push_answer;
 use crate::sinks::PieceSink;
 use adp_io::CleanSource;
 use adp_main::{Status, run};
 use adp_model::push_quoted;
-use evaluators::RunNote;
+use evaluators::{Gate, RunNote};
 use std::alloc::{AllocError, Global};
 use std::thread::Threads;
 
@@ -26,10 +26,22 @@ pub(crate) fn push_run<R: Threads + Sync>(
 
 fn push_passes_and_notes(gate: &CountingGate, out: &mut Vec<u8>) -> Result<(), AllocError> {
     push_list(out, ", passes", &gate.passes())?;
-    for note in gate.notes() {
-        push_note(note, out)?;
-    }
-    Ok(())
+    push_notes(gate.notes(), out)
+}
+
+/// Appends how two words ran whose first workers were to meet at the gate so often: whether they did, and the notes.
+pub(crate) fn push_side_by_side<R: Threads + Sync>(
+    rt: &R,
+    alloc: Global,
+    job: &str,
+    rest: &str,
+    out: &mut Vec<u8>,
+) -> Result<(), AllocError> {
+    let (meetings, command) = first_word(rest);
+    let mut gate = WordsGate::new(alloc, meetings.parse::<u64>().unwrap_or(0));
+    push_gated_run(rt, alloc, job, command, &mut gate, out)?;
+    push_flag(out, ", met", gate.have_met())?;
+    push_notes(gate.notes(), out)
 }
 
 /// Appends how two workers ran that were to meet at the gate so often: whether they did, how often each passed where
@@ -69,12 +81,12 @@ fn moves_fit(passes: &[u64], note: &RunNote) -> bool {
 }
 
 /// Runs the program, and appends the status and in how many pieces its output came.
-fn push_gated_run<R: Threads + Sync>(
+fn push_gated_run<R: Threads + Sync, G: Gate>(
     rt: &R,
     alloc: Global,
     job: &str,
     command: &str,
-    gate: &mut CountingGate,
+    gate: &mut G,
     out: &mut Vec<u8>,
 ) -> Result<(), AllocError> {
     let words = words_of(alloc, command)?;
@@ -105,6 +117,14 @@ fn push_written(
     push_field(out, " of ", sink.bytes().len() as u64)?;
     push_text(out, " bytes")?;
     push_field(out, " and ", error.pieces())
+}
+
+/// Appends the notes of runs.
+fn push_notes(notes: &[RunNote], out: &mut Vec<u8>) -> Result<(), AllocError> {
+    for note in notes {
+        push_note(note, out)?;
+    }
+    Ok(())
 }
 
 /// Appends a note of a run.
