@@ -1,4 +1,5 @@
 pub mod Counting
+pub mod CountedRules
 pub mod CountedBlocks
 pub mod PlacedBlocks
 pub mod WordBlocks

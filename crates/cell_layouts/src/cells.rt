@@ -1,11 +1,12 @@
 //! The cells that the cell bound counts.
 
-ghost use Rattle.std.specs.Prelude.{◌≡◌, ℕ, ◌+◌, ◌<◌, ◌≤◌, ◌↔◌, length, IsTrue};
+ghost use Rattle.std.specs.Prelude.{◌≡◌, ℕ, ◌+◌, ◌<◌, ◌≤◌, ◌↔◌, length, IfSome, IsTrue};
 ghost use Rattle.adp_model.specs.WellFormed.{is_well_formed};
-ghost use Rattle.adp_model.specs.Cells.{IsCellBound};
+ghost use Rattle.adp_model.specs.declared.grammar.Grammar.{Grammar};
+ghost use Rattle.adp_model.specs.Cells.{IsCellBound, IsPlaceOf};
 ghost use Rattle.yield_sizes.specs.GrammarSizes.{AreSizes, AreAnchors};
 ghost use Rattle.cell_layouts.specs.CountedCells.{LeavesSpan, bounds_in};
-ghost use Rattle.cell_layouts.specs.Layout.{cell_at};
+ghost use Rattle.cell_layouts.specs.Layout.{AreBoundsOf, cell_at};
 
 use crate::layout::Side;
 use adp_model::Grammar;
@@ -74,6 +75,35 @@ impl RuleBounds {
             Side::Columns => self.starts(len, near),
         }
     }
+
+    /// The greatest length of the rule's cells in words of `len` letters.
+    fn longest(self, len: u32) -> u32
+        ensures told { (letters : ℕ) → letters ≤ len
+            → IfSome self.greatest (λ most. letters ≤ most) ↔ (letters ≤ result) }
+        ensures in_word { result ≤ len }
+    {
+        self.greatest.map_or(len, |most| most.min(len))
+    }
+
+    /// How many cells are left to the rule, in words of `len` letters. Takes constant time.
+    fn count(self, len: u16) -> u32
+        requires short { len ≤ 4000 }
+        ensures all { (grammar : Grammar) (rule before : ℕ) → AreBoundsOf grammar len rule self
+            → IsPlaceOf grammar len (record { rule = rule; from = 0; to = 0 }) before
+            → IsPlaceOf grammar len (record { rule = rule + 1; from = 0; to = 0 }) (before + result) }
+        ensures few { result ≤ 16008001 }
+    {
+        places_go_on();
+        let len = u32::from(len);
+        let longest = self.longest(len);
+        let lengths = (longest + 1).saturating_sub(self.least);
+        match (self.left, self.right) {
+            (true, true) => (longest + 1).saturating_sub(self.least.max(len)),
+            (true, false) | (false, true) => lengths,
+            (false, false) => lengths * (len + 1 - longest)
+                + lengths * lengths.saturating_sub(1) / 2,
+        }
+    }
 }
 
 /// The sizes and the anchors of all rules of a grammar.
@@ -105,7 +135,7 @@ impl AllBounds<'_> {
 }
 
 /// The cell bound of words of `n` letters: the number of cells whose length lies between their rule's sizes, and which
-/// begin and end where the rule is anchored. Takes no memory.
+/// begin and end where the rule is anchored. Takes constant time for each rule and no memory.
 pub fn cell_bound(grammar: &Grammar, sizes: &Sizes, anchors: &Anchors, n: u32) -> u64
     requires well_formed { IsTrue (is_well_formed grammar.now) }
     requires sizes { AreSizes grammar.now sizes.now }
@@ -124,11 +154,7 @@ pub fn cell_bound(grammar: &Grammar, sizes: &Sizes, anchors: &Anchors, n: u32) -
     };
     let mut count = 0;
     for rule in 0..grammar.rules.as_slice().len() {
-        let bounds = all.of_rule(rule);
-        for from in 0..n as u16 + 1 {
-            let ends = bounds.ends(n as u16, from);
-            count += u64::from(ends.end - ends.start);
-        }
+        count += u64::from(all.of_rule(rule).count(n as u16));
     }
     count
 }

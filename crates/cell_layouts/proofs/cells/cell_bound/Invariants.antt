@@ -1,4 +1,4 @@
-use Rattle.std.proofs.Common.{◌+◌, ◌*◌, ◌≤◌}
+use Rattle.std.proofs.Common.{◌*◌, ◌≤◌}
 use Rattle.adp_model.specs.Cells.{IsPlaceOf}
 use Rattle.cell_layouts.proofs.cells.cell_bound.Given as goal
 
@@ -6,10 +6,4 @@ abbrev pub invariant-loop-rule : goal.invariant-loop-rule
 invariant-loop-rule l = record {
   place : IsPlaceOf l.grammar l.n (record { rule = l.rule; from = 0; to = 0 }) l.count;
   few : l.count ≤ l.rule * 16008001;
-}
-
-abbrev pub invariant-loop-from : goal.invariant-loop-from
-invariant-loop-from l = record {
-  place : IsPlaceOf l.grammar l.n (record { rule = l.rule; from = l.from; to = 0 }) l.count;
-  few : l.count ≤ l.rule * 16008001 + l.from * 4001;
 }
