@@ -1,27 +1,31 @@
 -- The plan of a rule with one alternative more, and the plans of a grammar.
-use Rattle.std.proofs.Common.{◌≡◌, ◌≢◌, ℕ, zero, suc, ◌+◌, ◌-◌, ◌*◌, ◌^◌, ◌<◌, ◌≤◌, min, max, Bool, true, false, ◌&&◌, nat_le, ◌⊎◌, inl, inr, List, [], ◌∷◌, ◌++◌, length, map, slice_index_or, slice_set, refl, sym, ap, ap₂, subst, ◌∙◌, arith}
+use Rattle.std.proofs.Common.{◌≡◌, ◌≢◌, ℕ, zero, suc, ◌+◌, ◌-◌, ◌*◌, ◌^◌, ◌<◌, ◌≤◌, min, max, Bool, true, false, ◌&&◌, nat_le, ◌⊎◌, inl, inr, List, [], ◌∷◌, ◌++◌, length, map, slice_index_or, slice_set, Result, Ok, Err, OnOk, refl, sym, ap, ap₂, subst, ◌∙◌, arith}
 use Rattle.std.specs.Prelude.{if◌then◌else◌}
 use Rattle.std.specs.List.{All}
 use Rattle.std.proofs.lemmas.Bool.{le-leb}
-use Rattle.std.proofs.lemmas.List.{map-append, map-set, get_or-map, get_or_append_left, get_or_push, get_or_default, length-map, length_push, length-set, get_or-set_other, get_or-set_same}
+use Rattle.std.proofs.lemmas.List.{map-append, map-set, get_or-map, get_or_append_left, get_or-append-add, get_or_push, get_or_default, length-append, length-map, length_push, length-set, get_or-set_other, get_or-set_same}
 use Rattle.adp_model.specs.LimitFaults.{told}
 use Rattle.adp_model.specs.declared.grammar.Rule as rules
 use Rattle.adp_model.specs.declared.grammar.Grammar.{Grammar}
 use Rattle.adp_model.specs.WideForm as wide
 use Rattle.grammar_check.specs.declared.part.Part.{Part}
 use Rattle.grammar_check.specs.declared.part.Worth.TheVariants.{OfLetters}
-use Rattle.grammar_check.specs.declared.alternative.Alternative.{Alternative}
 use Rattle.grammar_check.specs.declared.rule_plan.RulePlan.{RulePlan}
 use Rattle.grammar_check.specs.declared.measure.Measure.{Measure}
 use Rattle.grammar_check.specs.Plans.{IsReadable, lows, part_at, open_parts, fixed_length, fixed_worth}
-use Rattle.grammar_check.specs.RuleValues.{Entry, Kept, Own, own_value, rule_value, kept_of, plan_of, kept_value, kept_rule_value}
+use Rattle.grammar_check.specs.RuleValues.{Entry, Kept, Own, own_value, rule_value, kept_value, kept_rule_value}
 use Rattle.grammar_check.specs.GrammarPlans.{Lengths, entry_in, grammar_plan}
-use Rattle.grammar_check.specs.Fills.{IsRuleReadable, rules_plan, plan_at, parts_at, kept_at, kept_entry, IsPlanned, IsKept, NamesLesser, IsRanked, IsKeptRanked}
+use Rattle.grammar_check.specs.Fills.{IsRuleReadable, kept_plan, rules_plan, plan_at, parts_at, kept_at, kept_entry, IsPlanned, IsKept, NamesLesser, IsRanked, IsKeptRanked}
 use Rattle.grammar_check.specs.TokenNumbers.{greatest_of, letters_worth, token_number, alternative_tokens, tokens_number}
-use Rattle.grammar_check.specs.KeptPlans.{KeepsParts, KeepsPartsOf, SameParts, AddsKept, KeepsPlan, KeepsAll, rule_tokens}
+use Rattle.grammar_check.specs.KeptPlans.{KeepsParts, KeepsPartsOf, SameParts, HasParts, AddsKept, KeepsPlan, KeepsAll, rule_tokens}
 use Rattle.grammar_check.proofs.Kept.{less_or_not, linear_value-is, linear_value-max, IsPartOf, lows-open, open_found}
 use Rattle.grammar_check.proofs.Sweeps.{low_at}
 use Rattle.grammar_check.proofs.ScoreNumbers.{of_above}
+
+-- what follows, where there is memory
+pub on_ok : {E : Type 0} {P Q : Type 0} (result : Result (Unit {0}) E) → (P → Q) → OnOk result P → OnOk result Q
+on_ok (Ok done) f p = f p
+on_ok (Err error) f p = tt
 
 -- ---- lists
 
@@ -99,10 +103,10 @@ push_adds plan kept = record {
   parts = λ place inside. by place inside (less_or_not place (length plan));
 }
   where
-    by : (place : ℕ) → place < length (plan ++ kept ∷ []) → (place < length plan) ⊎ (length plan ≤ place) → SameParts (slice_index_or (plan ++ kept ∷ []) place (inl 0, 0, [])) kept ⊎ ((place < length plan) × SameParts (slice_index_or (plan ++ kept ∷ []) place (inl 0, 0, [])) (slice_index_or plan place (inl 0, 0, [])))
+    by : (place : ℕ) → place < length (plan ++ kept ∷ []) → (place < length plan) ⊎ (length plan ≤ place) → SameParts (slice_index_or (plan ++ kept ∷ []) place (inl 0, 0, [])) kept ⊎ HasParts plan (slice_index_or (plan ++ kept ∷ []) place (inl 0, 0, []))
     by place inside (inl less) =
         let same = get_or_append_left plan (kept ∷ []) (inl 0, 0, []) place less in
-        inr (less, (ap (λ (e : Kept). e.1) same, ap (λ (e : Kept). e.2) same))
+        inr (place, less, (ap (λ (e : Kept). e.1) same, ap (λ (e : Kept). e.2) same))
     by place inside (inr past) =
         let last : place ≡ length plan = omega (arith, length_push plan kept) in
         let same : slice_index_or (plan ++ kept ∷ []) place (inl 0, 0, []) ≡ kept = get_or_push plan kept (inl 0, 0, []) place (sym last) in
@@ -120,27 +124,101 @@ set_adds plan at constant other fixed parts inside here = record {
     new : Kept
     new = (inl (max constant other), fixed, parts)
 
-    by : (place : ℕ) → place < length (slice_set plan at new) → (place ≡ at) ⊎ (place ≢ at) → SameParts (slice_index_or (slice_set plan at new) place (inl 0, 0, [])) (inl other, fixed, parts) ⊎ ((place < length plan) × SameParts (slice_index_or (slice_set plan at new) place (inl 0, 0, [])) (slice_index_or plan place (inl 0, 0, [])))
+    by : (place : ℕ) → place < length (slice_set plan at new) → (place ≡ at) ⊎ (place ≢ at) → SameParts (slice_index_or (slice_set plan at new) place (inl 0, 0, [])) (inl other, fixed, parts) ⊎ HasParts plan (slice_index_or (slice_set plan at new) place (inl 0, 0, []))
     by place below (inl same) =
         let found : slice_index_or (slice_set plan at new) place (inl 0, 0, []) ≡ new = ap (λ n. slice_index_or (slice_set plan at new) n (inl 0, 0, [])) same ∙ get_or-set_same plan at new (inl 0, 0, []) inside in
         inl (ap (λ (e : Kept). e.1) found, ap (λ (e : Kept). e.2) found)
     by place below (inr differ) =
         let found = get_or-set_other plan at place new (inl 0, 0, []) differ in
-        inr (omega (arith, length-set plan at new), (ap (λ (e : Kept). e.1) found, ap (λ (e : Kept). e.2) found))
+        inr (place, omega (arith, length-set plan at new), (ap (λ (e : Kept). e.1) found, ap (λ (e : Kept). e.2) found))
 
 -- an alternative with the same parts has its constant raised
-pub raise_adds : (alternatives : List Alternative) (place : ℕ) (old new : Alternative) (constant other fixed : ℕ) (parts : List Part) → place < length alternatives → old ≡ slice_index_or alternatives place old → kept_of old ≡ (inl constant, fixed, parts) → kept_of new ≡ (inl (max constant other), fixed, parts) → AddsKept (plan_of alternatives) (plan_of (slice_set alternatives place new)) (inl other, fixed, parts)
-raise_adds alternatives place old new constant other fixed parts inside old_is kept_is new_is =
-    let here : slice_index_or (plan_of alternatives) place (inl 0, 0, []) ≡ (inl constant, fixed, parts) =
-    get_or-map kept_of alternatives place old (inl 0, 0, []) inside ∙ ap kept_of (sym old_is) ∙ kept_is in
-    subst (λ ps. AddsKept (plan_of alternatives) ps (inl other, fixed, parts)) (sym (map-set kept_of alternatives place new ∙ ap (λ (e : Kept). slice_set (plan_of alternatives) place e) new_is))
-    (set_adds (plan_of alternatives) place constant other fixed parts (omega (arith, length-map alternatives kept_of)) here)
+pub raise_adds : {X : Type 0} (kept : X → Kept) (items : List X) (place : ℕ) (old new : X) (constant other fixed : ℕ) (parts : List Part) → place < length items → old ≡ slice_index_or items place old → kept old ≡ (inl constant, fixed, parts) → kept new ≡ (inl (max constant other), fixed, parts) → AddsKept (map kept items) (map kept (slice_set items place new)) (inl other, fixed, parts)
+raise_adds kept items place old new constant other fixed parts inside old_is kept_is new_is =
+    let here : slice_index_or (map kept items) place (inl 0, 0, []) ≡ (inl constant, fixed, parts) =
+    get_or-map kept items place old (inl 0, 0, []) inside ∙ ap kept (sym old_is) ∙ kept_is in
+    subst (λ ps. AddsKept (map kept items) ps (inl other, fixed, parts)) (sym (map-set kept items place new ∙ ap (λ (e : Kept). slice_set (map kept items) place e) new_is))
+    (set_adds (map kept items) place constant other fixed parts (omega (arith, length-map items kept)) here)
 
 -- an alternative comes last
-pub last_adds : (alternatives : List Alternative) (new : Alternative) (kept : Kept) → kept_of new ≡ kept → AddsKept (plan_of alternatives) (plan_of (alternatives ++ new ∷ [])) kept
-last_adds alternatives new kept new_is =
-    subst (λ ps. AddsKept (plan_of alternatives) ps kept) (sym (map-append kept_of alternatives (new ∷ []) ∙ ap (λ (e : Kept). plan_of alternatives ++ e ∷ []) new_is))
-    (push_adds (plan_of alternatives) kept)
+pub last_adds : {X : Type 0} (kept : X → Kept) (items : List X) (new : X) (added : Kept) → kept new ≡ added → AddsKept (map kept items) (map kept (items ++ new ∷ [])) added
+last_adds kept items new added new_is =
+    subst (λ ps. AddsKept (map kept items) ps added) (sym (map-append kept items (new ∷ []) ∙ ap (λ (e : Kept). map kept items ++ e ∷ []) new_is))
+    (push_adds (map kept items) added)
+
+-- one of two lists that stand together has an alternative more
+pub kept_rule_value-append : (bound : ℕ → ℕ → ℕ) (plan others : List Kept) (len : ℕ) → kept_rule_value bound (plan ++ others) len ≡ max (kept_rule_value bound plan len) (kept_rule_value bound others len)
+kept_rule_value-append bound [] others len = let all = kept_rule_value bound others len in omega arith
+kept_rule_value-append bound (first ∷ plan) others len =
+    let rest = kept_rule_value-append bound plan others len in
+    let here = kept_value bound first len in
+    let all = kept_rule_value bound plan len in
+    let behind = kept_rule_value bound others len in omega arith
+
+has_first : (plan others : List Kept) (kept : Kept) → HasParts plan kept → HasParts (plan ++ others) kept
+has_first plan others kept has =
+    let same = get_or_append_left plan others (inl 0, 0, []) has.0 has.1 in
+    (has.0, omega (arith, length-append plan others, has.1), subst (SameParts kept) (sym same) has.2)
+
+has_second : (plan others : List Kept) (kept : Kept) → HasParts others kept → HasParts (plan ++ others) kept
+has_second plan others kept has =
+    let same = get_or-append-add plan others has.0 (inl 0, 0, []) in
+    (length plan + has.0, omega (arith, length-append plan others, has.1), subst (SameParts kept) (sym same) has.2)
+
+has_itself : (plan : List Kept) (place : ℕ) → place < length plan → HasParts plan (slice_index_or plan place (inl 0, 0, []))
+has_itself plan place inside = (place, inside, (refl, refl))
+
+pub adds_first : (before after others : List Kept) (kept : Kept) → AddsKept before after kept → AddsKept (before ++ others) (after ++ others) kept
+adds_first before after others kept adds = record {
+  values = λ bound len.
+      among (kept_rule_value bound (after ++ others) len) (kept_rule_value bound after len) (kept_rule_value bound others len) (kept_rule_value bound (before ++ others) len) (kept_rule_value bound before len) (kept_value bound kept len)
+      (kept_rule_value-append bound after others len) (kept_rule_value-append bound before others len) (adds.values bound len);
+  parts = λ place inside. by place inside (less_or_not place (length after));
+}
+  where
+    among : (whole' new rest whole old more : ℕ) → whole' ≡ max new rest → whole ≡ max old rest → new ≡ max old more → whole' ≡ max whole more
+    among whole' new rest whole old more e f g = omega arith
+
+    widen : (other : Kept) → SameParts other kept ⊎ HasParts before other → SameParts other kept ⊎ HasParts (before ++ others) other
+    widen other (inl same) = inl same
+    widen other (inr has) = inr (has_first before others other has)
+
+    by : (place : ℕ) → place < length (after ++ others) → (place < length after) ⊎ (length after ≤ place) → SameParts (slice_index_or (after ++ others) place (inl 0, 0, [])) kept ⊎ HasParts (before ++ others) (slice_index_or (after ++ others) place (inl 0, 0, []))
+    by place inside (inl less) =
+        subst (λ other. SameParts other kept ⊎ HasParts (before ++ others) other) (sym (get_or_append_left after others (inl 0, 0, []) place less))
+        (widen (slice_index_or after place (inl 0, 0, [])) (adds.parts place less))
+    by place inside (inr past) =
+        let at : length after + (place - length after) ≡ place = omega arith in
+        let found : slice_index_or (after ++ others) place (inl 0, 0, []) ≡ slice_index_or others (place - length after) (inl 0, 0, []) =
+        ap (λ n. slice_index_or (after ++ others) n (inl 0, 0, [])) (sym at) ∙ get_or-append-add after others (place - length after) (inl 0, 0, []) in
+        subst (λ other. SameParts other kept ⊎ HasParts (before ++ others) other) (sym found)
+        (inr (has_second before others (slice_index_or others (place - length after) (inl 0, 0, [])) (has_itself others (place - length after) (omega (arith, length-append after others)))))
+
+pub adds_second : (plan before after : List Kept) (kept : Kept) → AddsKept before after kept → AddsKept (plan ++ before) (plan ++ after) kept
+adds_second plan before after kept adds = record {
+  values = λ bound len.
+      among (kept_rule_value bound (plan ++ after) len) (kept_rule_value bound after len) (kept_rule_value bound plan len) (kept_rule_value bound (plan ++ before) len) (kept_rule_value bound before len) (kept_value bound kept len)
+      (kept_rule_value-append bound plan after len) (kept_rule_value-append bound plan before len) (adds.values bound len);
+  parts = λ place inside. by place inside (less_or_not place (length plan));
+}
+  where
+    among : (whole' new first whole old more : ℕ) → whole' ≡ max first new → whole ≡ max first old → new ≡ max old more → whole' ≡ max whole more
+    among whole' new first whole old more e f g = omega arith
+
+    widen : (other : Kept) → SameParts other kept ⊎ HasParts before other → SameParts other kept ⊎ HasParts (plan ++ before) other
+    widen other (inl same) = inl same
+    widen other (inr has) = inr (has_second plan before other has)
+
+    by : (place : ℕ) → place < length (plan ++ after) → (place < length plan) ⊎ (length plan ≤ place) → SameParts (slice_index_or (plan ++ after) place (inl 0, 0, [])) kept ⊎ HasParts (plan ++ before) (slice_index_or (plan ++ after) place (inl 0, 0, []))
+    by place inside (inl less) =
+        subst (λ other. SameParts other kept ⊎ HasParts (plan ++ before) other) (sym (get_or_append_left plan after (inl 0, 0, []) place less))
+        (inr (has_first plan before (slice_index_or plan place (inl 0, 0, [])) (has_itself plan place less)))
+    by place inside (inr past) =
+        let at : length plan + (place - length plan) ≡ place = omega arith in
+        let found : slice_index_or (plan ++ after) place (inl 0, 0, []) ≡ slice_index_or after (place - length plan) (inl 0, 0, []) =
+        ap (λ n. slice_index_or (plan ++ after) n (inl 0, 0, [])) (sym at) ∙ get_or-append-add plan after (place - length plan) (inl 0, 0, []) in
+        subst (λ other. SameParts other kept ⊎ HasParts (plan ++ before) other) (sym found)
+        (widen (slice_index_or after (place - length plan) (inl 0, 0, [])) (adds.parts (place - length plan) (omega (arith, length-append plan after))))
 
 -- ---- tokens
 
@@ -210,7 +288,7 @@ keeps_more entries before after tokens tokens' parts own kept keeps adds value_i
     last : slice_index_or (entries ++ (own, parts) ∷ []) (length entries) (inl 0, []) ≡ (own, parts)
     last = get_or_push entries (own, parts) (inl 0, []) (length entries) refl
 
-    by : (place : ℕ) → SameParts (slice_index_or after place (inl 0, 0, [])) kept ⊎ ((place < length before) × SameParts (slice_index_or after place (inl 0, 0, [])) (slice_index_or before place (inl 0, 0, [])))
+    by : (place : ℕ) → SameParts (slice_index_or after place (inl 0, 0, [])) kept ⊎ HasParts before (slice_index_or after place (inl 0, 0, []))
         → (at : ℕ) × (at < length (entries ++ (own, parts) ∷ [])) × KeepsParts (slice_index_or (entries ++ (own, parts) ∷ []) at (inl 0, [])) (slice_index_or after place (inl 0, 0, []))
     by place (inl same) = (
       length entries,
@@ -219,13 +297,13 @@ keeps_more entries before after tokens tokens' parts own kept keeps adds value_i
           (same_keeps own parts kept (slice_index_or after place (inl 0, 0, [])) same parts_are),
     )
     by place (inr old) =
-        let from = keeps.parts place old.0 in
+        let from = keeps.parts old.0 old.1 in
         let same : slice_index_or (entries ++ (own, parts) ∷ []) from.0 (inl 0, []) ≡ slice_index_or entries from.0 (inl 0, []) = get_or_append_left entries ((own, parts) ∷ []) (inl 0, []) from.0 from.1 in
         let entry = slice_index_or entries from.0 (inl 0, []) in (
           from.0,
           omega (arith, from.1, length_push entries (own, parts)),
           subst (λ (e : Entry). KeepsParts e (slice_index_or after place (inl 0, 0, []))) (sym same)
-              (same_keeps entry.0 entry.1 (slice_index_or before place (inl 0, 0, [])) (slice_index_or after place (inl 0, 0, [])) old.1 from.2),
+              (same_keeps entry.0 entry.1 (slice_index_or before old.0 (inl 0, 0, [])) (slice_index_or after place (inl 0, 0, [])) old.2 from.2),
         )
 
 -- the plan with one entry more whose parts add up
@@ -251,10 +329,10 @@ module _ (grammar : Grammar) (measure : Measure) (lengths : Lengths) (plans : Li
   plan_length = length-map grammar.rules (λ (rule : rules.Rule). map (entry_in grammar measure lengths) rule.alts) ∙ sym keeps.each
 
   kept_length : length (rules_plan plans) ≡ length plans
-  kept_length = length-map plans (λ (plan : RulePlan). plan_of plan.alternatives.items)
+  kept_length = length-map plans kept_plan
 
-  kept_is : (rule : ℕ) (d : RulePlan) → rule < length plans → kept_at (rules_plan plans) rule ≡ plan_of (slice_index_or plans rule d).alternatives.items
-  kept_is rule d inside = get_or-map (λ (plan : RulePlan). plan_of plan.alternatives.items) plans rule d [] inside
+  kept_is : (rule : ℕ) (d : RulePlan) → rule < length plans → kept_at (rules_plan plans) rule ≡ kept_plan (slice_index_or plans rule d)
+  kept_is rule d inside = get_or-map kept_plan plans rule d [] inside
 
   of_rule : (rule : ℕ) (d : RulePlan) → rule < length plans → KeepsPlan (plan_at (grammar_plan grammar measure lengths) rule) (kept_at (rules_plan plans) rule) (slice_index_or plans rule d).tokens.items
   of_rule rule d inside =
@@ -283,12 +361,11 @@ module _ (grammar : Grammar) (measure : Measure) (lengths : Lengths) (plans : Li
 
   pub kept_readable : (rules : ℕ) → ((rule alternative : ℕ) → rule < length grammar.rules → alternative < length (plan_at (grammar_plan grammar measure lengths) rule) → All (λ (part : Part). IsReadable rules part.worth) (parts_at (grammar_plan grammar measure lengths) rule alternative)) → All (IsRuleReadable rules) plans
   kept_readable rules readable = λ rule d inside alternative e in_rule place p in_parts.
-      let plan = slice_index_or plans rule d in
+      let plan = kept_plan (slice_index_or plans rule d) in
       let here = keeps.keeps rule d inside in
-      let in_plan : alternative < length (plan_of plan.alternatives.items) = omega (arith, length-map plan.alternatives.items kept_of) in
-      let from = here.parts alternative in_plan in
-      let kept = kept_of (slice_index_or plan.alternatives.items alternative e) in
-      let same : slice_index_or (plan_of plan.alternatives.items) alternative (inl 0, 0, []) ≡ kept = get_or-map kept_of plan.alternatives.items alternative e (inl 0, 0, []) in_rule in
+      let from = here.parts alternative in_rule in
+      let kept = slice_index_or plan alternative e in
+      let same : slice_index_or plan alternative (inl 0, 0, []) ≡ kept = get_or_default plan alternative (inl 0, 0, []) e in_rule in
       let entry = slice_index_or (plan_at (grammar_plan grammar measure lengths) rule) from.0 (inl 0, []) in
       let found = kept_found entry.0 entry.1 kept place (subst (KeepsPartsOf entry.0 entry.1) same from.2) in_parts in
       let part : part_at entry.1 found.place ≡ slice_index_or kept.2 place p = found.part_is ∙ get_or_default kept.2 place (record { worth = OfLetters 0 0; low = 0; room = 0 }) p in_parts in

@@ -8,6 +8,7 @@ pub mod RankSteps
 pub mod Fillable
 pub mod Kept
 pub mod KeptPlanSteps
+pub mod SinglePlans
 pub mod PlanLists
 pub mod CheckedSizes
 pub mod PartRanges

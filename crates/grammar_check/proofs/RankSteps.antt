@@ -1,9 +1,8 @@
 -- One rule more of a rank is written.
 use Rattle.std.proofs.Common.{◌≡◌, ◌≢◌, ℕ, ◌+◌, ◌-◌, ◌<◌, ◌≤◌, ◌⊎◌, inl, inr, List, [], length, map, slice_index, slice_index_or, slice_set, sym, ap, subst, ◌∙◌, arith}
-use Rattle.std.specs.List.{All}
 use Rattle.std.proofs.Math.Seq.{map-set_same}
 use Rattle.std.proofs.lemmas.List.{get_or-map, length-map, length-set, get_or-set_other, get_or-set_same, get_or_default}
-use Rattle.std.proofs.lemmas.List.Elements.{All-set, All-map}
+use Rattle.std.proofs.lemmas.List.Elements.{All-set}
 use Rattle.adp_model.specs.LimitFaults.{told}
 use Rattle.grammar_check.specs.declared.part.Part.{Part}
 use Rattle.grammar_check.specs.declared.part.Worth.{Worth}
@@ -13,8 +12,8 @@ use Rattle.grammar_check.specs.declared.rule_plan.RulePlan.{RulePlan}
 use Rattle.grammar_check.specs.Tables.{entry}
 use Rattle.grammar_check.specs.Plans.{IsReadable, ReadsRight, lows, part_at}
 use Rattle.grammar_check.specs.Alternatives.{AreRead}
-use Rattle.grammar_check.specs.RuleValues.{Kept, plan_of, kept_of, kept_rule_value, AreAllRead}
-use Rattle.grammar_check.specs.Fills.{plan_tokens, IsRuleReadable, IsRuleSpread, rules_plan, kept_at, kept_entry, IsKept, NamesLesser, IsKeptRanked, IsFilledTo, IsRankFilled}
+use Rattle.grammar_check.specs.RuleValues.{Kept, kept_rule_value, AreAllRead}
+use Rattle.grammar_check.specs.Fills.{kept_plan, plan_tokens, IsRuleReadable, IsRuleSpread, rules_plan, kept_at, kept_entry, IsKept, NamesLesser, IsKeptRanked, IsFilledTo, IsRankFilled}
 use Rattle.grammar_check.proofs.RulePlans.{spread_less}
 use Rattle.grammar_check.proofs.Sweeps.{low_at}
 
@@ -24,17 +23,17 @@ pub record IsPartlyFilled (bound : ℕ → ℕ → ℕ) (ranks : List ℕ) (tabl
   pub entries : (other : ℕ) → other < length plans → slice_index ranks other ≡ rank → other < rule → entry table other len ≡ told (bound other len)
   pub spread : (other : ℕ) (d : RulePlan) → other < length plans → slice_index ranks other ≡ rank → other < rule → IsRuleSpread bound (len + 1) (slice_index_or plans other d)
 
-pub rules_plan-set : (plans : List RulePlan) (rule : ℕ) (old new : RulePlan) → old ≡ slice_index_or plans rule old → plan_of new.alternatives.items ≡ plan_of old.alternatives.items → rules_plan (slice_set plans rule new) ≡ rules_plan plans
-rules_plan-set plans rule old new old_is same = map-set_same (λ (plan : RulePlan). plan_of plan.alternatives.items) plans rule new old (same ∙ ap (λ (plan : RulePlan). plan_of plan.alternatives.items) old_is)
+pub rules_plan-set : (plans : List RulePlan) (rule : ℕ) (old new : RulePlan) → old ≡ slice_index_or plans rule old → kept_plan new ≡ kept_plan old → rules_plan (slice_set plans rule new) ≡ rules_plan plans
+rules_plan-set plans rule old new old_is same = map-set_same kept_plan plans rule new old (same ∙ ap kept_plan old_is)
 
 pub tokens-set : (plans : List RulePlan) (rule : ℕ) (old new : RulePlan) → old ≡ slice_index_or plans rule old → new.tokens ≡ old.tokens → map plan_tokens (slice_set plans rule new) ≡ map plan_tokens plans
 tokens-set plans rule old new old_is same = map-set_same plan_tokens plans rule new old (ap (λ v. v.items) same ∙ ap plan_tokens old_is)
 
-pub plan_at-rule : (plans : List RulePlan) (rule : ℕ) (old : RulePlan) → rule < length plans → old ≡ slice_index_or plans rule old → kept_at (rules_plan plans) rule ≡ plan_of old.alternatives.items
-plan_at-rule plans rule old inside old_is = get_or-map (λ (plan : RulePlan). plan_of plan.alternatives.items) plans rule old [] inside ∙ ap (λ (plan : RulePlan). plan_of plan.alternatives.items) (sym old_is)
+pub plan_at-rule : (plans : List RulePlan) (rule : ℕ) (old : RulePlan) → rule < length plans → old ≡ slice_index_or plans rule old → kept_at (rules_plan plans) rule ≡ kept_plan old
+plan_at-rule plans rule old inside old_is = get_or-map kept_plan plans rule old [] inside ∙ ap kept_plan (sym old_is)
 
 pub length-rules_plan : (plans : List RulePlan) → length (rules_plan plans) ≡ length plans
-length-rules_plan plans = length-map plans (λ (plan : RulePlan). plan_of plan.alternatives.items)
+length-rules_plan plans = length-map plans kept_plan
 
 less_or_same : (a b : ℕ) → a ≤ b → (a < b) ⊎ (a ≡ b)
 less_or_same a b order = grind arith
@@ -50,14 +49,11 @@ module _ (bound : ℕ → ℕ → ℕ) (ranks : List ℕ) (table : Table) (plans
   worth_read filled rank_is (OfRule other factor) l known (inr same) lesser =
       subst (λ n. entry table other n ≡ told (bound other n)) (sym same) (filled.entries other known (let fall = lesser same in omega arith))
 
-  pub all_read : IsRankFilled bound ranks table plans len rank → slice_index ranks rule ≡ rank → IsKeptRanked ranks (rules_plan plans) → (old : RulePlan) → rule < length plans → old ≡ slice_index_or plans rule old → IsRuleReadable (length plans) old → AreAllRead bound table (plan_of old.alternatives.items) len
+  pub all_read : IsRankFilled bound ranks table plans len rank → slice_index ranks rule ≡ rank → IsKeptRanked ranks (rules_plan plans) → (old : RulePlan) → rule < length plans → old ≡ slice_index_or plans rule old → IsRuleReadable (length plans) old → AreAllRead bound table (kept_plan old) len
   all_read filled rank_is lesser old inside old_is known = λ place d in_plan. read place d in_plan
     where
       plan : List Kept
-      plan = plan_of old.alternatives.items
-
-      known_parts : All (λ (e : Kept). All (λ (part : Part). IsReadable (length plans) part.worth) e.2) plan
-      known_parts = All-map (λ (e : Kept). All (λ (part : Part). IsReadable (length plans) part.worth) e.2) kept_of old.alternatives.items known
+      plan = kept_plan old
 
       here : kept_at (rules_plan plans) rule ≡ plan
       here = plan_at-rule plans rule old inside old_is
@@ -68,15 +64,15 @@ module _ (bound : ℕ → ℕ → ℕ) (ranks : List ℕ) (table : Table) (plans
           let fixed : ℕ = (slice_index_or plan k d).1 in
           let least = low_at parts place in_parts in
           let same_entry : kept_entry (rules_plan plans) rule k ≡ slice_index_or plan k d = ap (λ (p : List Kept). slice_index_or p k (inl 0, 0, [])) here ∙ get_or_default plan k (inl 0, 0, []) d in_plan in
-          worth_read filled rank_is (part_at parts place).worth l (known_parts k d in_plan place (record { worth = OfLetters 0 0; low = 0; room = 0 }) in_parts) (less_or_same l len (omega arith))
+          worth_read filled rank_is (part_at parts place).worth l (known k d in_plan place (record { worth = OfLetters 0 0; low = 0; room = 0 }) in_parts) (less_or_same l len (omega arith))
           (λ same. subst (λ (e : Kept). NamesLesser ranks rule (part_at e.2 place).worth) same_entry
           (lesser rule k place (omega (arith, length-rules_plan plans)) (subst (λ p. k < length p) (sym here) in_plan) (subst (λ (e : Kept). place < length e.2) (sym same_entry) in_parts)
           (subst (λ (e : Kept). e.1 + lows e.2 ≤ (part_at e.2 place).low) (sym same_entry) (omega arith))))
 
   pub rank_step : (next : Table) (old new : RulePlan) (value : ℕ) → IsPartlyFilled bound ranks table plans len rank rule → IsKept bound (rules_plan plans) len → IsKeptRanked ranks (rules_plan plans)
       → rule < length plans → slice_index ranks rule ≡ rank → old ≡ slice_index_or plans rule old → IsRuleReadable (length plans) old → len < table.width
-      → (AreAllRead bound table (plan_of old.alternatives.items) len → IsRuleSpread bound len old → value ≡ told (kept_rule_value bound (plan_of old.alternatives.items) len))
-      → (AreAllRead bound table (plan_of old.alternatives.items) len → IsRuleSpread bound len old → IsRuleSpread bound (len + 1) new)
+      → (AreAllRead bound table (kept_plan old) len → IsRuleSpread bound len old → value ≡ told (kept_rule_value bound (kept_plan old) len))
+      → (AreAllRead bound table (kept_plan old) len → IsRuleSpread bound len old → IsRuleSpread bound (len + 1) new)
       → entry next rule len ≡ value
       → ((other : ℕ) → other ≢ len → entry next rule other ≡ entry table rule other)
       → ((other at : ℕ) → other ≢ rule → at < table.width → entry next other at ≡ entry table other at)
@@ -100,7 +96,7 @@ module _ (bound : ℕ → ℕ → ℕ) (ranks : List ℕ) (table : Table) (plans
       nearer : (other : ℕ) → other < rule + 1 → other ≢ rule → other < rule
       nearer other before differ = let d = differ in grind arith
 
-      reads : AreAllRead bound table (plan_of old.alternatives.items) len
+      reads : AreAllRead bound table (kept_plan old) len
       reads = all_read partly.ranked rank_is lesser old inside old_is known
 
       old_spread : IsRuleSpread bound len old

@@ -1,5 +1,5 @@
 -- What a table of bounds has, once it is filled for some rules and lengths.
-use Rattle.std.specs.Prelude.{◌≡◌, ℕ, ◌+◌, ◌<◌, ◌≤◌, List, [], length, map, slice_index, slice_index_or, Vec, vec_len}
+use Rattle.std.specs.Prelude.{◌≡◌, ℕ, ◌+◌, ◌<◌, ◌≤◌, List, [], ◌++◌, length, map, slice_index, slice_index_or, Vec, vec_len}
 use mathlib.Core.Logic.{inl}
 use Rattle.std.specs.List.{All}
 use Rattle.std.specs.Global.{Global}
@@ -11,10 +11,15 @@ use Rattle.grammar_check.specs.declared.table.Table.{Table}
 use Rattle.grammar_check.specs.declared.rule_plan.RulePlan.{RulePlan}
 use Rattle.grammar_check.specs.Tables.{entry}
 use Rattle.grammar_check.specs.Plans.{lows, part_at}
-use Rattle.grammar_check.specs.RuleValues.{Entry, Kept, IsAllReadable, IsWide, IsSpreadTo, plan_of, rule_value, kept_rule_value}
+use Rattle.grammar_check.specs.RuleValues.{Entry, Kept, IsKeptReadable, IsWide, IsSpreadTo, plan_of, rule_value, kept_rule_value}
+use Rattle.grammar_check.specs.SingleRules.{all_singles}
+
+-- what is kept of a rule: the alternatives whose one part is a rule that is counted once, and the others
+abbrev pub kept_plan : RulePlan → List Kept
+kept_plan plan = all_singles plan.singles.items ++ plan_of plan.alternatives.items
 
 abbrev pub IsRuleReadable : ℕ → RulePlan → Type 0
-IsRuleReadable rules plan = All (IsAllReadable rules) plan.alternatives.items
+IsRuleReadable rules plan = All (IsKeptReadable rules) (kept_plan plan)
 
 abbrev pub IsRuleWide : ℕ → RulePlan → Type 0
 IsRuleWide width plan = All (IsWide width) plan.alternatives.items
@@ -24,7 +29,7 @@ IsRuleSpread bound len plan = All (IsSpreadTo bound len) plan.alternatives.items
 
 -- the kept plans of all rules
 abbrev pub rules_plan : List RulePlan → List (List Kept)
-rules_plan plans = map (λ (plan : RulePlan). plan_of plan.alternatives.items) plans
+rules_plan plans = map kept_plan plans
 
 -- the tokens of a rule's plan
 abbrev pub plan_tokens : RulePlan → List Part

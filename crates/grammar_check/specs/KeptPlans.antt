@@ -8,10 +8,10 @@ use Rattle.grammar_check.specs.declared.part.Part.{Part}
 use Rattle.grammar_check.specs.declared.rule_plan.RulePlan.{RulePlan}
 use Rattle.grammar_check.specs.declared.measure.Measure.{Measure}
 use Rattle.grammar_check.specs.Plans.{open_parts, fixed_length}
-use Rattle.grammar_check.specs.RuleValues.{Entry, Kept, Own, rule_value, plan_of, kept_value, kept_rule_value}
+use Rattle.grammar_check.specs.RuleValues.{Entry, Kept, Own, rule_value, kept_value, kept_rule_value}
 use Rattle.grammar_check.specs.TokenNumbers.{greatest_of, token_number, alternative_tokens}
 use Rattle.grammar_check.specs.GrammarPlans.{Lengths, grammar_plan}
-use Rattle.grammar_check.specs.Fills.{plan_at, plan_tokens}
+use Rattle.grammar_check.specs.Fills.{kept_plan, plan_at, plan_tokens}
 
 -- the fixed length and the parts are those of this entry of a plan
 abbrev pub KeepsPartsOf : Own → List Part → Kept → Type 0
@@ -26,14 +26,17 @@ KeepsParts entry kept = KeepsPartsOf entry.0 entry.1 kept
 abbrev pub SameParts : Kept → Kept → Type 0
 SameParts kept other = (kept.1 ≡ other.1) × (kept.2 ≡ other.2)
 
+-- so has one of the list
+abbrev pub HasParts : List Kept → Kept → Type 0
+HasParts plan kept = (at : ℕ) × (at < length plan) × SameParts kept (slice_index_or plan at (inl 0, 0, []))
+
 -- one more alternative is kept: the values are the greater ones, and no other parts come
 pub record AddsKept (before after : List Kept) (kept : Kept) : Type 0 where
   pub values : (bound : ℕ → ℕ → ℕ) (len : ℕ) → kept_rule_value bound after len
       ≡ max (kept_rule_value bound before len) (kept_value bound kept len)
   pub parts : (place : ℕ) → place < length after
       → SameParts (slice_index_or after place (inl 0, 0, [])) kept
-      ⊎ ((place < length before)
-      × SameParts (slice_index_or after place (inl 0, 0, [])) (slice_index_or before place (inl 0, 0, [])))
+      ⊎ HasParts before (slice_index_or after place (inl 0, 0, []))
 
 -- what is kept of a rule's plan: it has the same values and the same greatest tokens, and its parts are the plan's
 pub record KeepsPlan (entries : List Entry) (kept : List Kept) (tokens : List Part)
@@ -46,7 +49,7 @@ pub record KeepsPlan (entries : List Entry) (kept : List Kept) (tokens : List Pa
 
 -- the plan of a rule keeps these alternatives
 abbrev pub Keeps : List Entry → RulePlan → Type 0
-Keeps entries plan = KeepsPlan entries (plan_of plan.alternatives.items) plan.tokens.items
+Keeps entries plan = KeepsPlan entries (kept_plan plan) plan.tokens.items
 
 -- the plans keep those of a grammar's rules, rule by rule
 pub record KeepsAll (grammar : Grammar) (measure : Measure) (lengths : Lengths) (plans : List RulePlan) : Type 0 where

@@ -5,6 +5,7 @@ pub mod WideRows
 pub mod Alternatives
 pub mod WideAlternatives
 pub mod RuleValues
+pub mod SingleRules
 pub mod Fills
 pub mod GrammarPlans
 pub mod TokenNumbers

@@ -51,9 +51,13 @@ abbrev pub kept_rule_value : (ℕ → ℕ → ℕ) → List Kept → ℕ → ℕ
 kept_rule_value bound [] len = 0
 kept_rule_value bound (kept ∷ others) len = max (kept_value bound kept len) (kept_rule_value bound others len)
 
--- the alternative names rules of so many
+-- what is kept names rules of so many
+abbrev pub IsKeptReadable : ℕ → Kept → Type 0
+IsKeptReadable rules kept = All (λ (part : Part). IsReadable rules part.worth) kept.2
+
+-- so does an alternative
 abbrev pub IsAllReadable : ℕ → Alternative → Type 0
-IsAllReadable rules alternative = All (λ (part : Part). IsReadable rules part.worth) (kept_of alternative).2
+IsAllReadable rules alternative = IsKeptReadable rules (kept_of alternative)
 
 -- the alternative's rows have at least this width
 abbrev pub IsWide : ℕ → Alternative → Type 0

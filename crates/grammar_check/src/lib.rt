@@ -18,6 +18,7 @@ mod part;
 mod plan;
 mod rule_plan;
 mod signs;
+mod singles;
 mod table;
 mod tokens;
 mod wide_alternative;

@@ -4,24 +4,28 @@ ghost use mathlib.Core.Logic.{inl, inr};
 ghost use Rattle.adp_model.specs.LimitFaults.{told};
 ghost use Rattle.adp_model.specs.Terms.{leaves};
 ghost use Rattle.grammar_check.specs.declared.part.Part.{Part};
-ghost use Rattle.grammar_check.specs.Fills.{IsRuleWide};
+ghost use Rattle.grammar_check.specs.Fills.{IsRuleReadable, IsRuleSpread, IsRuleWide, kept_plan};
 ghost use Rattle.grammar_check.specs.KeptPlans.{AddsKept, Keeps};
 ghost use Rattle.grammar_check.specs.RuleValues.{Entry, IsWide, IsAllReadable, kept_of, plan_of, kept_rule_value, AreAllRead, IsSpreadTo};
+ghost use Rattle.grammar_check.specs.SingleRules.{all_singles, single_kept};
 ghost use Rattle.grammar_check.specs.TokenNumbers.{greatest_of, token_number};
 
 use crate::alternative::Alternative;
 use crate::cut::cut_sum;
 use crate::linear_alternative::LinearAlternative;
 use crate::part::{Part, fixed_length, fixed_worth, has, open_parts};
+use crate::singles::{Shape, Single, Singles, greatest_single, single_of};
 use crate::table::Table;
 use crate::wide_alternative::WideAlternative;
 use adp_model::WideTerm;
 use std::alloc::{AllocError, Global};
 
 /// The alternatives of a rule, for the rows of a bound: one of those with the same parts and as many letters of tokens.
-/// Its tokens are those of all alternatives that add something, each once.
+/// Those whose one part is a rule that is counted once stand by their shapes, and the others by themselves. Its tokens
+/// are those of all alternatives that add something, each once.
 #[derive(Drop)]
 pub struct RulePlan<'a> {
+    pub singles: Vec<Singles>,
     pub alternatives: Vec<Alternative<'a>>,
     pub tokens: Vec<Part>,
 }
@@ -33,6 +37,7 @@ impl<'a> RulePlan<'a> {
         ensures columns { (width : ℕ) → IsRuleWide width result }
     {
         RulePlan {
+            singles: Vec::new(alloc),
             alternatives: Vec::new(alloc),
             tokens: Vec::new(alloc),
         }
@@ -79,7 +84,8 @@ impl<'a> RulePlan<'a> {
         Ok(())
     }
 
-    /// Adds what is kept of an alternative whose parts add up: this of its own, tokens of so many letters, and these parts.
+    /// Adds what is kept of an alternative whose parts add up: this of its own, tokens of so many letters, and these
+    /// parts.
     fn add_kept(
         &mut self,
         alloc: Global,
@@ -91,6 +97,58 @@ impl<'a> RulePlan<'a> {
         requires few { vec_len parts ≤ 4 }
         requires short { most ≤ 4000 }
         ensures tokens { self.new.tokens ≡ self.old.tokens }
+        ensures kept { OnOk result (AddsKept (kept_plan self.old) (kept_plan self.new)
+            (inl constant, fixed, parts.items)) }
+        ensures columns { OnOk result (IsRuleWide (most + 1) self.old → IsRuleWide (most + 1) self.new) }
+    {
+        match single_of(constant, fixed, &parts) {
+            Some((shape, single)) => self.add_single(alloc, shape, single),
+            None => self.add_parts(alloc, constant, fixed, parts, most),
+        }
+    }
+
+    /// The same, where its one part is a rule that is counted once.
+    fn add_single(&mut self, alloc: Global, shape: Shape, single: Single) -> Result<(), AllocError>
+        ensures tokens { self.new.tokens ≡ self.old.tokens }
+        ensures alternatives { self.new.alternatives ≡ self.old.alternatives }
+        ensures kept { OnOk result (AddsKept (all_singles self.old.singles.items) (all_singles self.new.singles.items)
+            (single_kept shape single)) }
+    {
+        if let Some(place) = self.place_of_shape(shape) {
+            return self.singles[place].add(single);
+        }
+        let singles = Singles::of(alloc, shape, single)?;
+        self.singles.push(singles)?;
+        Ok(())
+    }
+
+    /// The number of the alternatives of this shape.
+    fn place_of_shape(&self, shape: Shape) -> Option<usize>
+        ensures inside { IfSome result (λ place. place < length self.now.singles.items) }
+        ensures same { IfSome result (λ place. (d : Singles)
+            → (slice_index_or self.now.singles.items place d).shape ≡ shape) }
+    {
+        for (place, singles) in self.singles.iter().enumerate() {
+            if singles.shape.is_same(shape) {
+                return Some(place);
+            }
+        }
+        None
+    }
+
+    /// The same for any parts.
+    fn add_parts(
+        &mut self,
+        alloc: Global,
+        constant: u64,
+        fixed: usize,
+        parts: Vec<Part>,
+        most: usize,
+    ) -> Result<(), AllocError>
+        requires few { vec_len parts ≤ 4 }
+        requires short { most ≤ 4000 }
+        ensures tokens { self.new.tokens ≡ self.old.tokens }
+        ensures singles { self.new.singles ≡ self.old.singles }
         ensures kept { OnOk result (AddsKept (plan_of self.old.alternatives.items) (plan_of self.new.alternatives.items)
             (inl constant, fixed, parts.items)) }
         ensures columns { OnOk result (IsRuleWide (most + 1) self.old → IsRuleWide (most + 1) self.new) }
@@ -106,6 +164,7 @@ impl<'a> RulePlan<'a> {
 
     /// Adds the tokens among the parts.
     fn add_tokens(&mut self, parts: &[Part]) -> Result<(), AllocError>
+        ensures singles { self.new.singles ≡ self.old.singles }
         ensures alternatives { self.new.alternatives ≡ self.old.alternatives }
         ensures tokens { OnOk result ((len : ℕ) → greatest_of (token_number len) self.new.tokens.items
             ≡ max (greatest_of (token_number len) self.old.tokens.items) (greatest_of (token_number len) parts.now)) }
@@ -120,6 +179,7 @@ impl<'a> RulePlan<'a> {
 
     /// Adds the part to the tokens, where it is a token that adds something.
     fn add_token(&mut self, part: Part) -> Result<(), AllocError>
+        ensures singles { self.new.singles ≡ self.old.singles }
         ensures alternatives { self.new.alternatives ≡ self.old.alternatives }
         ensures tokens { OnOk result ((len : ℕ) → greatest_of (token_number len) self.new.tokens.items
             ≡ max (greatest_of (token_number len) self.old.tokens.items) (token_number len part)) }
@@ -147,11 +207,31 @@ impl<'a> RulePlan<'a> {
     /// The greatest value of the rule over all ways to have this length, cut; 0 where there is no way. The values at
     /// all lesser lengths were asked for before, and the table has the bounds of rules that it needs.
     pub fn extend(&mut self, bounds: &Table, len: usize) -> u64
+        requires readable { IsRuleReadable bounds.now.rows self.old }
+        requires within { len < bounds.now.width }
+        requires columns { IsRuleWide bounds.now.width self.old }
+        requires short { len < 2 ^ 32 }
+        ensures plan { kept_plan self.new ≡ kept_plan self.old }
+        ensures tokens { self.new.tokens ≡ self.old.tokens }
+        ensures readable { IsRuleReadable bounds.now.rows self.new }
+        ensures columns { IsRuleWide bounds.now.width self.new }
+        ensures value { (bound : ℕ → ℕ → ℕ) → AreAllRead bound bounds.now (kept_plan self.old) len
+            → IsRuleSpread bound len self.old → result ≡ told (kept_rule_value bound (kept_plan self.old) len) }
+        ensures spread { (bound : ℕ → ℕ → ℕ) → AreAllRead bound bounds.now (kept_plan self.old) len
+            → IsRuleSpread bound len self.old → IsRuleSpread bound (len + 1) self.new }
+    {
+        let singles = greatest_single(&self.singles, bounds, len);
+        self.extend_others(bounds, len).max(singles)
+    }
+
+    /// The same, where those whose one part is a rule that is counted once are left out.
+    fn extend_others(&mut self, bounds: &Table, len: usize) -> u64
         requires readable { All (λ alternative. IsAllReadable bounds.now.rows alternative) self.old.alternatives.items }
         requires within { len < bounds.now.width }
         requires columns { All (λ alternative. IsWide bounds.now.width alternative) self.old.alternatives.items }
         requires short { len < 2 ^ 32 }
         ensures plan { plan_of self.new.alternatives.items ≡ plan_of self.old.alternatives.items }
+        ensures singles { self.new.singles ≡ self.old.singles }
         ensures tokens { self.new.tokens ≡ self.old.tokens }
         ensures readable { All (λ alternative. IsAllReadable bounds.now.rows alternative) self.new.alternatives.items }
         ensures columns { All (λ alternative. IsWide bounds.now.width alternative) self.new.alternatives.items }

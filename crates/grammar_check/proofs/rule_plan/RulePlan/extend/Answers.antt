@@ -1,44 +1,52 @@
-use Rattle.std.proofs.Common.{◌≡◌, ℕ, ◌<◌, ◌+◌, length, slice_index_or, sym, subst, ◌∙◌, arith}
+use Rattle.std.proofs.Common.{◌≡◌, ℕ, ◌++◌, max, List, sym, ap, ap₂, subst, ◌∙◌, arith}
 use Rattle.std.specs.List.{All}
-use Rattle.std.proofs.lemmas.List.{length-set}
-use Rattle.std.proofs.lemmas.List.Elements.{All-set, AllWithin-more_set}
-use Rattle.grammar_check.specs.declared.alternative.Alternative.{Alternative}
-use Rattle.grammar_check.specs.RuleValues.{IsWide, IsAllReadable, kept_of, plan_of, AreAllRead, IsSpreadTo}
-use Rattle.grammar_check.proofs.Spreads.{ord_max-numbers}
-use Rattle.grammar_check.proofs.RulePlans.{plan-set, plan_at, length-plan, value_step, read_at, spread_less}
+use Rattle.adp_model.specs.LimitFaults.{told}
+use Rattle.grammar_check.specs.declared.rule_plan.RulePlan.{RulePlan}
+use Rattle.grammar_check.specs.declared.singles.Singles.{Singles}
+use Rattle.grammar_check.specs.RuleValues.{Kept, IsKeptReadable, IsReadFor, kept_of, plan_of, kept_rule_value}
+use Rattle.grammar_check.specs.SingleRules.{all_singles}
+use Rattle.grammar_check.specs.Fills.{kept_plan}
+use Rattle.grammar_check.proofs.KeptPlanSteps.{kept_rule_value-append}
+use Rattle.grammar_check.proofs.SinglePlans.{All-of_map, All-first, All-second}
 use Rattle.grammar_check.proofs.rule_plan.RulePlan.extend.Goals as goal
 
-pub loop-place-preserved : goal.loop-place-preserved
-loop-place-preserved c =
-    let now = c.loop-place.self.alternatives.items in
-    let before = c.args.self.now.alternatives.items in
-    let place = c.loop-place.place in
-    let old = c.index_mut-alternative.result.now in
-    let new = c.extend-value.new.self in
-    let inv = c.loop-place.invariant in
-    let inside : place < length now = omega (arith, c.len-place-end.ensures, inv.each, c.args.self.now.alternatives.ok.0) in
-    let here : slice_index_or (plan_of before) place (kept_of old) ≡ kept_of old = plan_at now (plan_of before) place old inside inv.plan c.index_mut-alternative.ensures.value in
-    let in_plan : place < length (plan_of before) = omega (arith, length-plan before, inv.each) in
-    let old_all = λ (P : Alternative → Type 0) (all : All P now). subst P (sym c.index_mut-alternative.ensures.value) (all place old inside) in
-    let spread_of = λ (bound : ℕ → ℕ → ℕ) (reads : AreAllRead bound c.args.bounds.now (plan_of before) c.args.len) (spreads : All (IsSpreadTo bound c.args.len) before).
-    c.extend-value.ensures.spread bound (read_at bound c.args.bounds.now (plan_of before) place c.args.len old in_plan here reads) (old_all (IsSpreadTo bound c.args.len) (inv.older bound reads spreads)) in
-    record {
-      plan = plan-set now place old new c.index_mut-alternative.ensures.value c.extend-value.ensures.kept ∙ inv.plan;
-      tokens = inv.tokens;
-      each = length-set now place new ∙ inv.each;
-      readable = All-set (IsAllReadable c.args.bounds.now.rows) now place new c.extend-value.ensures.readable inv.readable;
-      columns = All-set (IsWide c.args.bounds.now.width) now place new c.extend-value.ensures.columns inv.columns;
-      value = λ bound reads spreads.
-          value_step bound (plan_of before) place c.args.len c.loop-place.best c.extend-value.result c.max-best.result old in_plan here (inv.value bound reads spreads)
-          (c.extend-value.ensures.value bound (read_at bound c.args.bounds.now (plan_of before) place c.args.len old in_plan here reads) (old_all (IsSpreadTo bound c.args.len) (inv.older bound reads spreads)))
-          (c.max-best.ensures ∙ ord_max-numbers c.loop-place.best c.extend-value.result);
-      older = λ bound reads spreads.
-          All-set (IsSpreadTo bound c.args.len) now place new (spread_less bound c.args.len new (spread_of bound reads spreads)) (inv.older bound reads spreads);
-      spread = λ bound reads spreads.
-          AllWithin-more_set now place new inside (IsSpreadTo bound (c.args.len + 1)) (inv.spread bound reads spreads) (spread_of bound reads spreads);
-    }
+first_of : (P : Kept → Type 0) (plan : RulePlan) (singles : List Singles) → singles ≡ plan.singles.items → All P (kept_plan plan) → All P (all_singles singles)
+first_of P plan singles same all = subst (λ s. All P (all_singles s)) (sym same) (All-first P (all_singles plan.singles.items) (plan_of plan.alternatives.items) all)
+
+second_of : (P : Kept → Type 0) (plan : RulePlan) → All P (kept_plan plan) → All P (plan_of plan.alternatives.items)
+second_of P plan all = All-second P (all_singles plan.singles.items) (plan_of plan.alternatives.items) all
+
+both : (a b singles others whole : ℕ) → a ≡ told singles → b ≡ told others → whole ≡ max singles others → max b a ≡ told whole
+both a b singles others whole e f g = omega arith
+
+plan_is : (new old : RulePlan) → new.singles ≡ old.singles → plan_of new.alternatives.items ≡ plan_of old.alternatives.items → kept_plan new ≡ kept_plan old
+plan_is new old singles others = ap₂ (λ s a. all_singles s.items ++ a) singles others
+
+pub greatest_single-singles-requires-clause-readable : goal.greatest_single-singles-requires-clause-readable
+greatest_single-singles-requires-clause-readable c =
+    first_of (IsKeptReadable c.args.bounds.now.rows) c.args.self.now c.deref.result.now c.deref.ensures.value c.requires.readable
+
+pub extend_others-requires-clause-readable : goal.extend_others-requires-clause-readable
+extend_others-requires-clause-readable c =
+    All-of_map (IsKeptReadable c.args.bounds.now.rows) kept_of c.args.self.now.alternatives.items (second_of (IsKeptReadable c.args.bounds.now.rows) c.args.self.now c.requires.readable)
+
+pub returns-clause-plan : goal.returns-clause-plan
+returns-clause-plan c = plan_is c.extend_others.new.self c.args.self.now c.extend_others.ensures.singles c.extend_others.ensures.plan
+
+pub returns-clause-readable : goal.returns-clause-readable
+returns-clause-readable c =
+    subst (All (IsKeptReadable c.args.bounds.now.rows)) (sym (plan_is c.extend_others.new.self c.args.self.now c.extend_others.ensures.singles c.extend_others.ensures.plan)) c.requires.readable
+
+pub returns-clause-value : goal.returns-clause-value
+returns-clause-value c = λ bound reads spreads.
+    let plan = c.args.self.now in
+    let singles = all_singles plan.singles.items in
+    let others = plan_of plan.alternatives.items in
+    let first = c.greatest_single-singles.ensures bound (first_of (IsReadFor bound c.args.bounds.now c.args.len) plan c.deref.result.now c.deref.ensures.value reads) in
+    let first_is : c.greatest_single-singles.result ≡ told (kept_rule_value bound singles c.args.len) = first ∙ ap (λ s. told (kept_rule_value bound (all_singles s) c.args.len)) c.deref.ensures.value in
+    let second = c.extend_others.ensures.value bound (second_of (IsReadFor bound c.args.bounds.now c.args.len) plan reads) spreads in
+    c.max.ensures ∙ both c.greatest_single-singles.result c.extend_others.result (kept_rule_value bound singles c.args.len) (kept_rule_value bound others c.args.len) (kept_rule_value bound (kept_plan plan) c.args.len) first_is second (kept_rule_value-append bound singles others c.args.len)
 
 pub returns-clause-spread : goal.returns-clause-spread
-returns-clause-spread c = λ bound reads spreads k d inside.
-    c.loop-place.invariant.spread bound reads spreads k d (omega arith)
-    (omega (arith, inside, c.loop-place.invariant.each, c.loop-place-test.false, c.len-place-end.ensures, c.args.self.now.alternatives.ok.0))
+returns-clause-spread c = λ bound reads spreads.
+    c.extend_others.ensures.spread bound (second_of (IsReadFor bound c.args.bounds.now c.args.len) c.args.self.now reads) spreads

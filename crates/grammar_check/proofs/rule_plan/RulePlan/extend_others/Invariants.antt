@@ -2,11 +2,12 @@ use Rattle.std.proofs.Common.{◌≡◌, ℕ, ◌+◌, length, take}
 use Rattle.std.specs.List.{All, AllWithin}
 use Rattle.adp_model.specs.LimitFaults.{told}
 use Rattle.grammar_check.specs.RuleValues.{IsWide, IsAllReadable, plan_of, kept_rule_value, AreAllRead, IsSpreadTo}
-use Rattle.grammar_check.proofs.rule_plan.RulePlan.extend.Given as goal
+use Rattle.grammar_check.proofs.rule_plan.RulePlan.extend_others.Given as goal
 
 abbrev pub invariant-loop-place : goal.invariant-loop-place
 invariant-loop-place l = record {
   plan : plan_of l.self.alternatives.items ≡ plan_of l.initial.self.alternatives.items;
+  singles : l.self.singles ≡ l.initial.self.singles;
   tokens : l.self.tokens ≡ l.initial.self.tokens;
   each : length l.self.alternatives.items ≡ length l.initial.self.alternatives.items;
   readable : All (λ alternative. IsAllReadable l.bounds.rows alternative) l.self.alternatives.items;
