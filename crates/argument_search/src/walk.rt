@@ -9,6 +9,7 @@ ghost use Rattle.adp_model.specs.Parts.{alternatives_of};
 ghost use Rattle.adp_model.specs.Splits.{ends_by, IsViable};
 ghost use Rattle.adp_model.specs.SplitArguments.{IsSplitArgument, AsksFor};
 ghost use Rattle.memo_model.specs.Visits.{argument_at, turned_number, IsWalk};
+ghost use Rattle.split_lines.specs.Beginnings.{IsCandidate};
 ghost use Rattle.split_lines.specs.Kept.{IsAlternative};
 ghost use Rattle.split_lines.specs.Ways.{IsOpening};
 ghost use Rattle.argument_search.specs.Seeking.{AreAllNoted, AreNotedBehind, IsEntry, IsFirstLeft, IsNextLeft, IsNoneLeft, IsNoneSought, IsTokenAndArgument, turned_of};
@@ -22,7 +23,7 @@ use adp_model::laws::well_formed::alternatives_fit;
 use adp_model::{Arg, Cell, Problem};
 use memo_model::{Position, Visit};
 use random_orders::rotated;
-use split_lines::{KeptAlternative, Lines};
+use split_lines::{Candidates, KeptAlternative, Lines};
 use viable_splits::Cuts;
 
 /// The alternative that is visited behind so many others where the visit begins with `first`.
@@ -100,6 +101,32 @@ fn first_left<N: NotedCells>(
     None
 }
 
+/// The same, where it is asked of none but the candidates, the alternatives that may begin where the cell does.
+#[inline(always)]
+fn candidate_left<N: NotedCells>(
+    lines: &Lines<'_>,
+    problem: &Problem<'_>,
+    noted: &N,
+    candidates: Candidates<'_>,
+    cell: Cell,
+    alt: u8,
+    turns: [u32; 3],
+) -> Option<Position>
+    requires same { lines.now ≡ problem.now }
+    requires span { IsSpan problem.now.word cell.from cell.to }
+    requires alternative { alt < length (alternatives_of problem.now.grammar cell.rule) }
+    requires few { alt < 64 }
+    requires others { (IsCandidate candidates alt → ⊥) → (cuts : List ℕ) → IsViable lines.now cell alt cuts → ⊥ }
+    requires turns { AllByRecursion (λ turn. turn ≤ cell.to - cell.from) turns }
+    ensures { MatchOption result (AreAllNoted problem.now (N.is_noted noted.now) cell alt)
+        (IsEntry problem.now cell alt turns) }
+{
+    if !candidates.have(alt) {
+        return None;
+    }
+    first_left(lines, problem, noted, cell, alt, turns)
+}
+
 /// The first argument of the alternatives that the visit comes to from this turned number on, but for alternatives
 /// whose cells are all noted. Takes no memory.
 fn first_from<N: NotedCells>(
@@ -119,10 +146,11 @@ fn first_from<N: NotedCells>(
     alternatives_fit();
     ranks_tell_splits_apart();
     let count = problem.alternatives(visit.cell.rule).len() as u32;
-    let turns = visit.turns;
+    let candidates = lines.candidates(visit.cell);
+    let (cell, turns) = (visit.cell, visit.turns);
     for number in turned..count {
-        let alternative = alternative_behind(visit.first, count, number) as u8;
-        if let Some(at) = first_left(lines, problem, noted, visit.cell, alternative, turns) {
+        let alt = alternative_behind(visit.first, count, number) as u8;
+        if let Some(at) = candidate_left(lines, problem, noted, candidates, cell, alt, turns) {
             return Some(at);
         }
     }

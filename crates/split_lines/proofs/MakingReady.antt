@@ -1,11 +1,12 @@
 -- The parts of an alternative as they are taken, and where its tokens in front may begin.
-use Rattle.std.proofs.Common.{◌≡◌, ℕ, zero, suc, ◌+◌, ◌-◌, ◌<◌, ◌≤◌, Some, List, [], ◌∷◌, ◌++◌, length, take, drop, map, slice_get, true, false, refl, sym, ap, subst, ◌∙◌, arith, length-take, length-drop}
+use Rattle.std.proofs.Common.{◌≡◌, ℕ, zero, suc, ◌+◌, ◌-◌, ◌<◌, ◌≤◌, Some, List, [], ◌∷◌, ◌++◌, length, take, drop, map, slice_get, true, false, refl, sym, ap, subst, ◌∙◌, inl, inr, arith, length-take, length-drop}
 use Rattle.std.specs.Prelude.{IfSome}
 use Rattle.std.specs.List.{AllByRecursion}
+use Rattle.std.proofs.lemmas.Bool.{cases_lt}
 use Rattle.std.proofs.lemmas.List.{length-map, take-append-drop, take-take}
 use Rattle.std.proofs.Math.Seq.{take-add}
 use Rattle.adp_model.specs.declared.grammar.Arg.{Arg}
-use Rattle.adp_model.specs.declared.grammar.Arg.TheVariants.{Literal}
+use Rattle.adp_model.specs.declared.grammar.Arg.TheVariants.{Rule, Literal, Letter, Run}
 use Rattle.adp_model.specs.declared.grammar.Term.{Term}
 use Rattle.adp_model.specs.PosedProblem.{PosedProblem}
 use Rattle.adp_model.specs.Parts.{algebra_of, alternative_at, arguments_of, term_of}
@@ -14,16 +15,23 @@ use Rattle.viable_splits.specs.Placing.{Cover}
 use Rattle.split_lines.specs.declared.kept.KeptAlternative.{KeptAlternative}
 use Rattle.split_lines.specs.declared.kept.WeightedSum.{WeightedSum}
 use Rattle.score_numbers.specs.Worthless.{AreWorthless}
-use Rattle.split_lines.specs.Kept.{AreOneLetter, AreOneOfClass, BeginWith, HasLengths, IsAlternative, IsScored, IsSummed, factors_behind, factors_in_front}
+use Rattle.split_lines.specs.Kept.{AreOneLetter, AreOneOfClass, BeginWith, HasLengths, IsAlternative, IsScored, IsSummed, factors_behind, factors_in_front, first_text}
+use Rattle.split_lines.specs.Beginnings.{StandsAt}
 use Rattle.split_lines.specs.Laid.{IsFixed}
 use Rattle.split_lines.specs.Matching.{HaveLetters}
 use Rattle.score_numbers.specs.Turned.{turned}
 use Rattle.term_values.specs.declared.lowering.LinearForm.{LinearForm}
 use Rattle.term_values.specs.Lowering.{IsLowered}
 use Rattle.split_lines.proofs.TurnedTerms.{FurtherAddNothing, scored_by_turned}
-use Rattle.split_lines.proofs.Lists.{all_front, all_back, slice_get-drop, empty_without}
+use Rattle.split_lines.proofs.Lists.{all_front, all_back, slice_get-drop, slice_get-take, empty_without}
 
 -- ---- the first letter
+
+-- a letter stands within the word
+pub within_word : (word : List ℕ) (from letter : ℕ) → slice_get word from ≡ Some letter → from < length word
+within_word [] from letter e = absurd cc
+within_word (x ∷ word) zero letter e = omega arith
+within_word (x ∷ word) (suc from) letter e = let l = within_word word from letter e in omega arith
 
 first_of : (n : ℕ) (xs : List ℕ) (letter : ℕ) (rest : List ℕ) → take n xs ≡ letter ∷ rest → slice_get xs 0 ≡ Some letter
 first_of zero xs letter rest e = absurd cc
@@ -37,16 +45,28 @@ letter_stands p tokens letter from to begin cover =
     let same : from ≡ from + 0 = omega arith in
     ap (slice_get p.word) same ∙ sym (slice_get-drop from 0 p.word) ∙ first_of (there.0 - from) (drop from p.word) letter begin.letters (sym (sym there.1.1))
 
+stands_in_front : (n : ℕ) (xs text : List ℕ) → take n xs ≡ text → (place letter : ℕ) → slice_get text place ≡ Some letter → slice_get xs place ≡ Some letter
+stands_in_front n xs text e place letter is =
+    elim (cases_lt place n) [
+      | inl inside ↦ sym (slice_get-take n place xs inside) ∙ ap (λ them. slice_get them place) e ∙ is
+      | inr past ↦
+          let l = within_word text place letter is in
+          absurd (omega (arith, l, past, length-take n xs, ap length e))
+    ]
+
+-- where tokens match, the letters of a literal that is the first of them stand
+pub text_stands : (p : PosedProblem) (tokens : List Arg) (from to : ℕ) → Cover p tokens from to → StandsAt p.word from (first_text tokens)
+text_stands p [] from to cover place letter is = absurd cc
+text_stands p (Rule rule ∷ tokens) from to cover place letter is = absurd cc
+text_stands p (Literal text ∷ tokens) from to cover place letter is =
+    sym (slice_get-drop from place p.word) ∙ stands_in_front (cover.0 - from) (drop from p.word) text (sym (sym cover.1.1)) place letter is
+text_stands p (Letter class ∷ tokens) from to cover place letter is = absurd cc
+text_stands p (Run class low high ∷ tokens) from to cover place letter is = absurd cc
+
 -- the rest of a word from a letter that stands in it
 rest_of : (xs : List ℕ) (letter : ℕ) → slice_get xs 0 ≡ Some letter → take 1 xs ≡ letter ∷ []
 rest_of [] letter e = absurd cc
 rest_of (x ∷ xs) letter e = let same : x ≡ letter = cc in ap (λ it. it ∷ []) same
-
--- a letter stands within the word
-pub within_word : (word : List ℕ) (from letter : ℕ) → slice_get word from ≡ Some letter → from < length word
-within_word [] from letter e = absurd cc
-within_word (x ∷ word) zero letter e = omega arith
-within_word (x ∷ word) (suc from) letter e = let l = within_word word from letter e in omega arith
 
 one_letter : (text : List ℕ) (letter : ℕ) (letters : List ℕ) → text ≡ letter ∷ letters → length text ≡ 1 → text ≡ letter ∷ []
 one_letter text letter letters e one =

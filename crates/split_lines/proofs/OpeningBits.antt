@@ -1,13 +1,13 @@
--- Bits of alternatives, and those that begin no cell at a letter.
+-- Bits of alternatives, and those that may begin where some letters stand.
 use Rattle.std.proofs.Common.{◌≡◌, ℕ, ◌+◌, ◌-◌, ◌*◌, ◌/◌, ◌%◌, ◌^◌, ◌<◌, ◌≤◌, Option, Some, None, List, length, set, get_or, refl, sym, ap, subst, ◌∙◌, inl, inr, arith}
-use Rattle.std.specs.Prelude.{bit_or}
+use Rattle.std.specs.Prelude.{bit_and, bit_or}
 use Rattle.std.specs.Int.{bit_at}
 use Rattle.std.proofs.lemmas.Bool.{cases_eq}
 use Rattle.std.proofs.lemmas.List.{get_or-set_same, get_or-set_other}
 use Rattle.std.proofs.lemmas.Nat.{one_shl, shr-shr}
-use Rattle.std.proofs.lemmas.Nat.Bits.{bit_at-lt, bit_at_or, bit_at-pow_same}
-use Rattle.split_lines.specs.declared.beginnings.Beginnings.{Beginnings}
-use Rattle.split_lines.specs.Beginnings.{IsTold}
+use Rattle.std.proofs.lemmas.Nat.Bits.{bit_at-lt, bit_at_and, bit_at_or, bit_at-pow_same}
+use Rattle.split_lines.specs.declared.beginnings.Place.{Place}
+use Rattle.split_lines.specs.Beginnings.{IsToldAt}
 
 -- ---- bits
 
@@ -34,14 +34,14 @@ group_still groups k more other i l one =
       | inr apart ↦ ap (λ n. bit_at n other) (get_or-set_other groups k i new 0 apart) ∙ one
     ]
 
-module _ (beginnings : Beginnings) (more other : ℕ) where
-  pub told_still_grouped : (k : ℕ) (letter : Option ℕ) → k < length beginnings.groups → IsTold beginnings other letter
-      → IsTold (record { any = beginnings.any; groups = set beginnings.groups k (bit_or (get_or beginnings.groups k 0) more) }) other letter
+module _ (place : Place) (more other : ℕ) where
+  pub told_still_grouped : (k : ℕ) (letter : Option ℕ) → k < length place.groups → IsToldAt place other letter
+      → IsToldAt (record { any = place.any; groups = set place.groups k (bit_or (get_or place.groups k 0) more) }) other letter
   told_still_grouped k None l told = told
-  told_still_grouped k (Some letter) l told = group_still beginnings.groups k more other (letter % 32) l told
+  told_still_grouped k (Some letter) l told = group_still place.groups k more other (letter % 32) l told
 
-  pub told_still_any : (letter : Option ℕ) → IsTold beginnings other letter → IsTold (record { any = bit_or beginnings.any more; groups = beginnings.groups }) other letter
-  told_still_any None told = set_left beginnings.any more other told
+  pub told_still_any : (letter : Option ℕ) → IsToldAt place other letter → IsToldAt (record { any = bit_or place.any more; groups = place.groups }) other letter
+  told_still_any None told = set_left place.any more other told
   told_still_any (Some letter) told = told
 
 -- bits of a number without those before a place
@@ -50,12 +50,15 @@ bit_behind bits number other l =
     let there : number + (other - number) ≡ other = omega arith in
     ap (λ n. n % 2) (shr-shr bits number (other - number)) ∙ ap (bit_at bits) there
 
--- ---- alternatives whose bit is not set
+-- ---- alternatives whose letters stand there
 
--- an alternative that is told, and whose bit is not set, begins with another letter than the one that stands there
-pub begins_otherwise : (beginnings : Beginnings) (alternative bits : ℕ) (there first : Option ℕ)
-    → (IsTold beginnings alternative None → bit_at bits alternative ≡ 1) → (IsTold beginnings alternative there → bit_at bits alternative ≡ 1)
-    → IsTold beginnings alternative first → (bit_at bits alternative ≡ 1 → ⊥) → (letter : ℕ) × (first ≡ Some letter) × (there ≡ Some letter → ⊥)
-begins_otherwise beginnings alternative bits there None any letter told none = absurd (none (any told))
-begins_otherwise beginnings alternative bits there (Some first) any letter told none =
-    (first, refl, λ same. none (letter (subst (IsTold beginnings alternative) (sym same) told)))
+-- an alternative that is told at a place is among those of the letter there, where that is its own, if it is known
+pub told_there : (place : Place) (alternative bits : ℕ) (own there : Option ℕ)
+    → (IsToldAt place alternative None → bit_at bits alternative ≡ 1) → (IsToldAt place alternative there → bit_at bits alternative ≡ 1)
+    → IsToldAt place alternative own → ((letter : ℕ) → own ≡ Some letter → there ≡ Some letter) → bit_at bits alternative ≡ 1
+told_there place alternative bits None there any letter told same = any told
+told_there place alternative bits (Some own) there any letter told same = letter (subst (IsToldAt place alternative) (sym (same own refl)) told)
+
+-- a bit that is set in three numbers
+pub set_in_three : (a b c i : ℕ) → bit_at a i ≡ 1 → bit_at b i ≡ 1 → bit_at c i ≡ 1 → bit_at (bit_and (bit_and a b) c) i ≡ 1
+set_in_three a b c i one two three = omega (arith, bit_at_and (bit_and a b) c i, bit_at_and a b i, one, two, three)

@@ -1,6 +1,6 @@
 -- Whether a cell has a split by an alternative, as its length and the tokens in front tell.
-use Rattle.std.proofs.Common.{◌≡◌, ℕ, suc, ◌-◌, ◌<◌, ◌≤◌, Option, Some, None, List, [], ◌∷◌, ◌++◌, length, drop, slice_get, refl, sym, ap, subst, ◌∙◌, arith, length-append}
-use Rattle.std.specs.Prelude.{IfSome, MatchOption}
+use Rattle.std.proofs.Common.{◌≡◌, ℕ, suc, ◌-◌, ◌<◌, ◌≤◌, Option, Some, None, List, [], ◌∷◌, ◌++◌, length, drop, refl, sym, ap, subst, ◌∙◌, arith, length-append}
+use Rattle.std.specs.Prelude.{MatchOption}
 use Rattle.std.specs.List.{AllByRecursion}
 use Rattle.adp_model.specs.declared.cell.Cell.{Cell}
 use Rattle.adp_model.specs.declared.grammar.Arg.{Arg}
@@ -9,12 +9,13 @@ use Rattle.adp_model.specs.Parts.{alternatives_of, arguments_of}
 use Rattle.adp_model.specs.Splits.{ends_by, place, FitsSpan, IsViable}
 use Rattle.viable_splits.specs.Placing.{Cover}
 use Rattle.split_lines.specs.declared.kept.KeptAlternative.{KeptAlternative}
+use Rattle.split_lines.specs.Beginnings.{StandsAt}
 use Rattle.split_lines.specs.Ends.{IsFrontTold}
-use Rattle.split_lines.specs.Kept.{AreInFront, BeginWith, IsAlternative}
+use Rattle.split_lines.specs.Kept.{AreInFront, IsAlternative, first_text}
 use Rattle.split_lines.specs.Ways.{MaySpan, IsClosed, IsOpening}
 use Rattle.split_lines.proofs.Dividing.{cover_forward, cover_parts}
 use Rattle.split_lines.proofs.Lists.{empty_without}
-use Rattle.split_lines.proofs.MakingReady.{letter_stands}
+use Rattle.split_lines.proofs.MakingReady.{text_stands}
 
 -- ---- the arguments of a viable split have the letters of the cell
 
@@ -65,13 +66,12 @@ module _ (p : PosedProblem) (kept : KeptAlternative) (in_front : AreInFront p ke
             sym last ∙ in_front.letters cell.from parts.0 parts.1,
       )
 
-  -- where another letter stands than that with which the tokens in front begin, they don't match
-  pub closed_at_other_letters : (letter : ℕ) → kept.first ≡ Some letter → (slice_get p.word cell.from ≡ Some letter → ⊥) → IsClosed p kept cell
-  closed_at_other_letters letter is other =
+  -- where the letters don't stand with which the tokens in front begin, they don't match
+  pub closed_at_other_letters : (StandsAt p.word cell.from (first_text kept.front.now) → ⊥) → IsClosed p kept cell
+  closed_at_other_letters other =
       closed_without (λ cover.
       let parts = cover_parts p kept.front.now kept.others.now cell.from cell.to cover in
-      let F : Option ℕ → Type 0 = λ first. IfSome first (BeginWith kept.front.now) in
-      other (letter_stands p kept.front.now letter cell.from parts.0 (subst F is in_front.first) parts.1))
+      other (text_stands p kept.front.now cell.from parts.0 parts.1))
 
   -- where the tokens in front end tells the rest
   pub opened_by_front : cell.to ≤ 4000 → MaySpan kept cell.from cell.to → (found : Option ℕ) → IsFrontTold p kept.front.now cell.from cell.to found → MatchOption found (IsClosed p kept cell) (IsOpening p kept cell)

@@ -3,7 +3,7 @@ use Rattle.std.specs.Prelude.{◌≡◌, ◌↔◌, ℕ, ◌+◌, ◌≤◌, ◌
 use Rattle.std.specs.List.{AllByRecursion}
 use Rattle.adp_model.specs.declared.grammar.Alt.{Alt}
 use Rattle.adp_model.specs.declared.grammar.Arg.{Arg}
-use Rattle.adp_model.specs.declared.grammar.Arg.TheVariants.{Literal, Letter}
+use Rattle.adp_model.specs.declared.grammar.Arg.TheVariants.{Rule, Literal, Letter, Run}
 use Rattle.adp_model.specs.PosedProblem.{PosedProblem}
 use Rattle.adp_model.specs.Lengths.{AllowsLength}
 use Rattle.adp_model.specs.Parts.{algebra_of, alternative_at, arguments_of, term_of}
@@ -19,6 +19,14 @@ use Rattle.score_numbers.specs.Worthless.{AreWorthless}
 use Rattle.split_lines.specs.Laid.{IsFixed}
 use Rattle.split_lines.specs.Matching.{HaveLetters}
 use Rattle.score_numbers.specs.Turned.{turned}
+
+-- the letters of the first token, where that is a literal
+abbrev pub first_text : List Arg → List ℕ
+first_text [] = []
+first_text (Rule rule ∷ others) = []
+first_text (Literal text ∷ others) = text
+first_text (Letter class ∷ others) = []
+first_text (Run class low high ∷ others) = []
 
 -- the first of the tokens is a literal that begins with this letter
 pub record BeginWith (tokens : List Arg) (letter : ℕ) : Type 0 where

@@ -1,51 +1,98 @@
-//! Which alternatives of a rule may begin with a letter: those of a dictionary that begin with another one aren't looked
-//! at.
+//! Which alternatives of a rule may begin with some letters: those of a dictionary that begin with other ones aren't
+//! looked at.
 
-ghost use Rattle.std.specs.Prelude.{◌≡◌, ℕ, ◌<◌, ◌≤◌, Option, None, length};
+ghost use Rattle.std.specs.Prelude.{◌≡◌, ◌↔◌, ℕ, ◌<◌, ◌≤◌, IsTrue, Option, None, List, length};
 ghost use Rattle.std.specs.Int.{bit_at};
-ghost use Rattle.split_lines.specs.Beginnings.{IsTold, IsCandidate};
+ghost use Rattle.split_lines.specs.Beginnings.{IsTold, IsToldAt, IsCandidate, StandsAt};
 
 use crate::kept::KeptAlternative;
+use crate::tokens::letter_at;
 
-/// Bits of the alternatives that begin with a letter, where two letters share a number if they are the same modulo 32,
-/// and bits of those that begin in any other way.
+/// What a letter at one place tells: bits of the alternatives that have it there, where two letters share a number if
+/// they are the same modulo 32, and bits of those that may have any letter there, or none.
 #[derive(Drop)]
-pub struct Beginnings {
+pub struct Place {
     pub any: u64,
     pub groups: [u64; 32],
+}
+
+impl Place {
+    /// That of no alternative.
+    fn none() -> Place {
+        Place {
+            any: 0,
+            groups: [0; 32],
+        }
+    }
+
+    /// Adds an alternative, by the letter that it has at the place, if one is known.
+    fn add(&mut self, alt: u8, letter: Option<u8>)
+        requires { alt < 64 }
+        ensures told { IsToldAt self.new alt letter }
+        ensures others { (other : ℕ) (letter : Option ℕ) → IsToldAt self.old other letter
+            → IsToldAt self.new other letter }
+    {
+        match letter {
+            Some(letter) => self.groups[(letter % 32) as usize] |= 1 << alt,
+            None => self.any |= 1 << alt,
+        }
+    }
+
+    /// Bits of the alternatives that may have this letter at the place, or none.
+    #[inline(always)]
+    fn bits_at(&self, letter: Option<u8>) -> u64
+        ensures any { (alternative : ℕ) → IsToldAt self.now alternative None → bit_at result alternative ≡ 1 }
+        ensures letter { (alternative : ℕ) → IsToldAt self.now alternative letter → bit_at result alternative ≡ 1 }
+    {
+        match letter {
+            Some(letter) => self.any | self.groups[(letter % 32) as usize],
+            None => self.any,
+        }
+    }
+}
+
+/// What the letters at the first three places tell of the alternatives of a rule. An alternative may begin where each
+/// of the three allows it.
+#[derive(Drop)]
+pub struct Beginnings {
+    pub first: Place,
+    pub second: Place,
+    pub third: Place,
 }
 
 impl Beginnings {
     /// Those of no alternative.
     pub fn none() -> Beginnings {
         Beginnings {
-            any: 0,
-            groups: [0; 32],
+            first: Place::none(),
+            second: Place::none(),
+            third: Place::none(),
         }
     }
 
-    /// Adds an alternative, by the letter with which it begins, if one is known.
-    pub fn add(&mut self, alt: u8, first: Option<u8>)
+    /// Adds an alternative that begins with these letters.
+    pub fn add(&mut self, alt: u8, letters: &[u8])
         requires { alt < 64 }
-        ensures told { IsTold self.new alt first }
-        ensures others { (other : ℕ) (letter : Option ℕ) → IsTold self.old other letter → IsTold self.new other letter }
+        ensures told { IsTold self.new alt letters.now }
+        ensures others { (other : ℕ) (letters : List ℕ) → IsTold self.old other letters
+            → IsTold self.new other letters }
     {
-        match first {
-            Some(letter) => self.groups[(letter % 32) as usize] |= 1 << alt,
-            None => self.any |= 1 << alt,
-        }
+        self.first.add(alt, letter_at(letters, 0));
+        self.second.add(alt, letter_at(letters, 1));
+        self.third.add(alt, letter_at(letters, 2));
     }
 
-    /// Bits of the alternatives that may begin where this letter stands, or none.
+    /// Bits of the alternatives that may begin at this position of the word.
     #[inline(always)]
-    pub fn bits_at(&self, letter: Option<u8>) -> u64
-        ensures any { (alternative : ℕ) → IsTold self.now alternative None → bit_at result alternative ≡ 1 }
-        ensures letter { (alternative : ℕ) → IsTold self.now alternative letter → bit_at result alternative ≡ 1 }
+    pub fn bits_at(&self, word: &[u8], from: u16) -> u64
+        ensures { (alternative : ℕ) (letters : List ℕ) → IsTold self.now alternative letters
+            → StandsAt word.now from letters → bit_at result alternative ≡ 1 }
     {
-        match letter {
-            Some(letter) => self.any | self.groups[(letter % 32) as usize],
-            None => self.any,
-        }
+        let from = from as usize;
+        let first = self.first.bits_at(letter_at(word, from));
+        let second = self.second.bits_at(letter_at(word, from + 1));
+        let third = self.third.bits_at(letter_at(word, from + 2));
+        first & second & third
     }
 }
 
@@ -57,6 +104,15 @@ pub struct Candidates<'l> {
 }
 
 impl Candidates<'_> {
+    /// Whether the alternative of this number may begin where the cell does. Takes constant time and no memory.
+    #[inline(always)]
+    pub fn have(self, number: u8) -> bool
+        requires { number < 64 }
+        ensures { IsTrue result ↔ IsCandidate self.entry number }
+    {
+        self.bits >> number & 1 == 1
+    }
+
     /// The number of the first alternative from this one on whose bit is set; where there is none, how many alternatives
     /// there are. Takes constant time and no memory.
     #[inline(always)]

@@ -30,7 +30,7 @@ use crate::extents::{Extent, extent_of};
 use crate::kept::{KeptAlternative, kept_alternative, opening};
 use crate::matches::{Matches, covers, fixed_letters, match_nowhere};
 use crate::spans;
-use crate::tokens::{first_letter, is_fixed, letter_at};
+use crate::tokens::{first_letter, first_text, is_fixed};
 use crate::ways::Way;
 use adp_model::laws::well_formed::{alternatives_fit, arguments_are_few_and_known};
 use adp_model::{Arg, Cell, Problem};
@@ -92,7 +92,7 @@ pub struct KeptLine {
     pub middle: Option<usize>,
 }
 
-/// What is kept of a rule: its alternatives, and which of them may begin with a letter.
+/// What is kept of a rule: its alternatives, and which of them may begin with some letters.
 #[derive(Drop)]
 pub struct KeptRule<'a> {
     pub alternatives: Vec<KeptAlternative<'a>>,
@@ -245,7 +245,7 @@ fn kept_rule<'a>(
         let alt = number as u8;
         let line = kept_line(alloc, tables, problem.arguments(rule, alt), middles)?;
         let kept = kept_alternative(problem, rule, alt, line);
-        beginnings.add(alt, kept.first);
+        beginnings.add(alt, first_text(kept.front));
         alternatives.push(kept)?;
     }
     Ok(KeptRule {
@@ -306,7 +306,7 @@ impl<'a> Model for Lines<'a> {
 impl<'a> Lines<'a> {
     /// Works it out, in time for each alternative and each letter of a class, and for each letter of the word once for
     /// each class and once for each list of tokens that may match. Memory is 20 bytes for each class and letter, four to
-    /// six for each list and letter, and about a hundred for each alternative.
+    /// six for each list and letter, about a hundred for each alternative, and about 800 for each rule.
     pub fn new(alloc: Global, problem: &'a Problem<'a>) -> Result<Lines<'a>, AllocError>
         ensures { IfOk result (λ lines. lines ≡ problem.now) }
     {
@@ -382,10 +382,10 @@ impl<'a> Lines<'a> {
         self.problem().admissible();
         alternatives_fit();
         let rule = &self.rules[cell.rule as usize];
-        let letter = letter_at(self.problem().letters(), cell.from as usize);
+        let word = self.problem().letters();
         Candidates {
             alternatives: &rule.alternatives,
-            bits: rule.beginnings.bits_at(letter),
+            bits: rule.beginnings.bits_at(word, cell.from),
         }
     }
 

@@ -1,7 +1,7 @@
 //! Tokens of fixed length: literals and letters.
 
 ghost use Rattle.std.specs.Prelude.{◌≡◌, ◌↔◌, ℕ, IfSome, IsTrue, Some, false, slice_get};
-ghost use Rattle.split_lines.specs.Kept.{BeginWith};
+ghost use Rattle.split_lines.specs.Kept.{BeginWith, first_text};
 ghost use Rattle.split_lines.specs.Laid.{IsFixed};
 ghost use Rattle.split_lines.specs.Matching.{fixed_length};
 
@@ -26,6 +26,16 @@ pub fn fixed_length(token: &Arg) -> usize
         Arg::Literal(text) => text.bytes().len(),
         Arg::Letter(_) => 1,
         Arg::Rule(_) | Arg::Run { .. } => 0,
+    }
+}
+
+/// The letters of the first token, where that is a literal.
+pub fn first_text(tokens: &[Arg]) -> &[u8]
+    ensures { result.now ≡ first_text tokens.now }
+{
+    match tokens.split_first() {
+        Some((Arg::Literal(text), _)) => text.bytes(),
+        _ => &[],
     }
 }
 

@@ -7,7 +7,7 @@ use Rattle.adp_model.specs.WellFormed.{IsKnown}
 use Rattle.split_lines.specs.declared.kept.KeptAlternative.{KeptAlternative}
 use Rattle.split_lines.specs.declared.lines.KeptLine.{KeptLine}
 use Rattle.split_lines.specs.Beginnings.{IsTold, AreTold}
-use Rattle.split_lines.specs.Kept.{IsAlternative}
+use Rattle.split_lines.specs.Kept.{IsAlternative, first_text}
 use Rattle.split_lines.specs.LinesFields.{IsKeptOrNone, IsKeptOf, AreKept}
 use Rattle.split_lines.proofs.KeptLines.{has_all-trans, alternatives_still, one_alternative_more}
 use Rattle.split_lines.proofs.Growing.{each_more}
@@ -44,11 +44,12 @@ loop-number-preserved c =
     let A : PosedProblem → Type 0 = λ p. IsAlternative p rule number one in
     let now : IsKeptOf p new rule number one = record { line = line; parts = subst A c.problem-problem.ensures c.kept_alternative-kept.ensures.alternative } in
     let K : List KeptAlternative → Type 0 = AreKept p new rule (number + 1) in
+    let told = subst (IsTold c.add.new.self number) c.first_text.ensures c.add.ensures.told in
     record {
       middles_are = c.in_ok-line.ensures.middles;
       longer = has_all-trans c.args.middles.now.items old new c.loop-number.invariant.longer c.in_ok-line.ensures.kept;
       told = subst (λ items. AreTold (number + 1) items c.add.new.self) (sym {A = List KeptAlternative} c.in_ok-push.ensures.items)
-          (each_more (λ alternative (it : KeptAlternative). IsTold c.add.new.self alternative it.first) kept number one c.loop-number.invariant.kept_are.each
-          (λ alternative d l. c.add.ensures.others alternative (get_or kept alternative d).first (c.loop-number.invariant.told alternative d l)) c.add.ensures.told);
+          (each_more (λ alternative (it : KeptAlternative). IsTold c.add.new.self alternative (first_text it.front.now)) kept number one c.loop-number.invariant.kept_are.each
+          (λ alternative d l. c.add.ensures.others alternative (first_text (get_or kept alternative d).front.now) (c.loop-number.invariant.told alternative d l)) told);
       kept_are = subst K (sym {A = List KeptAlternative} c.in_ok-push.ensures.items) (one_alternative_more p new rule number kept one before now);
     }

@@ -1,12 +1,12 @@
-use Rattle.std.proofs.Common.{◌≡◌, ◌<◌, ◌≤◌, ℕ, Some, List, length, get_or, slice_get, sym, ap, subst, ◌∙◌, arith}
+use Rattle.std.proofs.Common.{◌≡◌, ◌<◌, ◌≤◌, ℕ, List, length, get_or, sym, ap, subst, ◌∙◌, arith}
 use Rattle.adp_model.specs.PosedProblem.{PosedProblem}
 use Rattle.adp_model.specs.ProblemFields.{IsAdmissible}
 use Rattle.adp_model.specs.Parts.{alternatives_of, arguments_of}
 use Rattle.split_lines.specs.declared.kept.KeptAlternative.{KeptAlternative}
-use Rattle.split_lines.specs.Kept.{AreInFront}
+use Rattle.split_lines.specs.Beginnings.{StandsAt}
+use Rattle.split_lines.specs.Kept.{AreInFront, first_text}
 use Rattle.split_lines.specs.Ways.{IsClosed}
 use Rattle.split_lines.proofs.KeptLines.{kept_of_rule}
-use Rattle.split_lines.proofs.OpeningBits.{begins_otherwise}
 use Rattle.split_lines.proofs.Openings.{closed_at_other_letters}
 use Rattle.split_lines.proofs.lines.Lines.candidates.Goals as goal
 
@@ -21,12 +21,12 @@ returns-clause-others c = λ alternative d l none.
     let listed = ap (λ (them : List KeptAlternative). length them) c.deref.ensures.value in
     let in_range : alternative < length (alternatives_of p.grammar cell.rule) = omega (arith, l, listed, it.alternatives.each) in
     let kept = get_or items alternative d in
-    let word_is : c.letters.result.now ≡ q.word = c.letters.ensures.word ∙ ap (λ (p : PosedProblem). p.word) c.problem-2.ensures in
-    let other = begins_otherwise c.index-rule.result.now.beginnings alternative c.bits_at.result c.letter_at-letter.result kept.first (c.bits_at.ensures.any alternative) (c.bits_at.ensures.letter alternative) (it.beginnings alternative d in_range) none in
-    let stands : slice_get q.word cell.from ≡ Some other.0 → ⊥ = λ there. other.2 (c.letter_at-letter.ensures ∙ ap (λ (word : List ℕ). slice_get word cell.from) word_is ∙ there) in
+    let word_is : c.letters-word.result.now ≡ q.word = c.letters-word.ensures.word ∙ ap (λ (p : PosedProblem). p.word) c.problem-2.ensures in
+    let S : List ℕ → Type 0 = λ word. StandsAt word cell.from (first_text kept.front.now) in
+    let other : S q.word → ⊥ = λ stands. none (c.bits_at.ensures alternative (first_text kept.front.now) (it.beginnings alternative d in_range) (subst S (sym word_is) stands)) in
     let in_front : AreInFront q kept = subst (λ p. AreInFront p kept) c.self.view_is (it.alternatives.are alternative d in_range).parts.in_front in
     let admissible : IsAdmissible q = subst (λ (p : PosedProblem). IsAdmissible p) c.problem.ensures c.admissible.ensures in
     let some : (alternative : ℕ) → alternative < length (alternatives_of q.grammar cell.rule) → 1 ≤ length (arguments_of q.grammar cell.rule alternative) = λ alternative l.
     c.alternatives_fit.ensures.arguments q.grammar admissible.checked.well_formed cell.rule alternative l in
-    let closed = closed_at_other_letters q kept in_front cell some other.0 other.1 stands in
+    let closed = closed_at_other_letters q kept in_front cell some other in
     subst (λ (them : List KeptAlternative). IsClosed q (get_or them alternative d) cell) (sym c.deref.ensures.value) closed
