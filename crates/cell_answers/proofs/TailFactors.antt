@@ -4,6 +4,7 @@ use Rattle.std.proofs.lemmas.Int.{ints}
 use Rattle.std.proofs.Math.IntN.{*ℤ-zero, *ℤ-one}
 use Rattle.adp_model.specs.declared.grammar.Arg.{Arg}
 use Rattle.adp_model.specs.PosedProblem.{PosedProblem}
+use Rattle.adp_model.specs.Parts.{arguments_of}
 use Rattle.adp_model.specs.Terms.{weighted_sum}
 use Rattle.adp_model.specs.Bellman.{HasBestScore}
 use Rattle.adp_model.specs.declared.cell.Cell.{Cell}
@@ -126,4 +127,17 @@ whole_tail p cell alt kept is sum summed = record {
   count = refl;
   each = others_each p cell alt kept is sum summed;
   scored = summed.scored;
+}
+
+-- all arguments of an alternative are the longest tail
+pub all_arguments_tail : (p : PosedProblem) (rule alt : ℕ) (constant : ℤ) (factors : List ℤ) → length factors ≡ length (arguments_of p.grammar rule alt) → IsScoredBy p rule alt constant factors
+    → IsTail p (record { rule = rule; alt = alt; count = length (arguments_of p.grammar rule alt) }) (arguments_of p.grammar rule alt) factors
+all_arguments_tail p rule alt constant factors each scored = record {
+  before = [];
+  factors_before = [];
+  constant = constant;
+  arguments_are = refl;
+  count = refl;
+  each = each;
+  scored = scored;
 }

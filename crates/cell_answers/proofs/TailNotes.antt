@@ -31,8 +31,8 @@ empty_pushed (first ∷ rows) row empty none zero it there = empty zero it there
 empty_pushed (first ∷ rows) row empty none (suc place) it there = empty_pushed rows row (λ place it there. empty (suc place) it there) none place it there
 
 pub true_empty : (p : PosedProblem) (rows : List TailRow) → AreEmpty rows → AreTrueRows p rows
-true_empty p rows empty place row there from to note total here tells =
-    let none : slice_get [] from ≡ Some note = subst (λ (notes : List Note). slice_get notes from ≡ Some note) (empty place row there) here in
+true_empty p rows empty place row there at from to note total here tells =
+    let none : slice_get [] at ≡ Some note = subst (λ (notes : List Note). slice_get notes at ≡ Some note) (empty place row there) here in
     absurd cc
 
 pub empty_none : AreEmpty []
@@ -46,27 +46,27 @@ set_cases (y ∷ xs) zero (suc j) v x e = inr e
 set_cases (y ∷ xs) (suc i) zero v x e = inr e
 set_cases (y ∷ xs) (suc i) (suc j) v x e = ⊎_elim (λ (same, is). inl (ap (λ n. suc n) same, is)) (λ was. inr was) (set_cases xs i j v x e)
 
-module _ (p : PosedProblem) (tail : Tail) (from to : ℕ) (total : Option ℤ) (note : Note) (tells : (other : ℕ) (said : Option ℤ) → Tells note other said → (other ≡ to) × (said ≡ total)) (told : IsTailTotal p tail from to total) (old new : TailRow) (same : old.tail ≡ tail) (noted : IsNoted old new from note) where
+module _ (p : PosedProblem) (tail : Tail) (from to : ℕ) (total : Option ℤ) (note : Note) (tells : (start end : ℕ) (said : Option ℤ) → Tells note start end said → (start ≡ from) × (end ≡ to) × (said ≡ total)) (told : IsTailTotal p tail from to total) (old new : TailRow) (same : old.tail ≡ tail) (noted : IsNoted old new note) where
   -- what is noted now is true
-  note_true : (at till : ℕ) (said : Option ℤ) → at ≡ from → Tells note till said → IsTailTotal p new.tail at till said
-  note_true at till said here says =
-      let is = tells till said says in
-      let T : Tail → Type 0 = λ tail. IsTailTotal p tail at till said in
-      let A : ℕ → Type 0 = λ at. IsTailTotal p tail at till said in
-      let E : ℕ → Type 0 = λ till. IsTailTotal p tail from till said in
+  note_true : (start end : ℕ) (said : Option ℤ) → Tells note start end said → IsTailTotal p new.tail start end said
+  note_true start end said says =
+      let (start_is, end_is, said_is) = tells start end said says in
+      let T : Tail → Type 0 = λ tail. IsTailTotal p tail start end said in
+      let A : ℕ → Type 0 = λ start. IsTailTotal p tail start end said in
+      let E : ℕ → Type 0 = λ end. IsTailTotal p tail from end said in
       let S : Option ℤ → Type 0 = λ said. IsTailTotal p tail from to said in
-      subst T (sym (noted.tail ∙ same)) (subst A (sym here) (subst E (sym is.0) (subst S (sym is.1) told)))
+      subst T (sym (noted.tail ∙ same)) (subst A (sym start_is) (subst E (sym end_is) (subst S (sym said_is) told)))
 
   row_true : IsTrueRow p old → IsTrueRow p new
-  row_true holds at till it said here says =
-      let T : Tail → Type 0 = λ tail. IsTailTotal p tail at till said in
-      let N : Note → Type 0 = λ it. Tells it till said in
+  row_true holds place start end it said here says =
+      let T : Tail → Type 0 = λ tail. IsTailTotal p tail start end said in
+      let N : Note → Type 0 = λ it. Tells it start end said in
       ⊎_elim
       (λ nothing. let none : N Open = subst N nothing says in absurd none)
       (λ more. ⊎_elim
-      (λ (there, is). note_true at till said there (subst N is says))
-      (λ was. subst T (sym noted.tail) (holds at till it said was says)) more)
-      (noted.notes at it here)
+      (λ is. note_true start end said (subst N is says))
+      (λ was. subst T (sym noted.tail) (holds place start end it said was says)) more)
+      (noted.notes place it here)
 
   pub put_true : (rows : List TailRow) (place : ℕ) → slice_get rows place ≡ Some old → AreTrueRows p rows → AreTrueRows p (slice_set rows place new)
   put_true rows place stands holds at row there =

@@ -8,17 +8,17 @@ use Rattle.cell_answers.specs.declared.tails.TailRow.{TailRow}
 use Rattle.cell_answers.specs.declared.tails.TailRows.{TailRows}
 use Rattle.cell_answers.specs.Tails.{IsTailTotal}
 
--- the note tells this of a tail up to this end
-abbrev pub Tells : Note → ℕ → Option ℤ → Type 0
-Tells Open to total = ⊥
-Tells (Without end) to total = (to ≡ end) × (total ≡ None)
-Tells (Greatest end number) to total = (to ≡ end) × (total ≡ Some number)
+-- the note tells this of a tail from the one position to the other
+abbrev pub Tells : Note → ℕ → ℕ → Option ℤ → Type 0
+Tells Open from to total = ⊥
+Tells (Without start end) from to total = (from ≡ start) × (to ≡ end) × (total ≡ None)
+Tells (Greatest start end number) from to total = (from ≡ start) × (to ≡ end) × (total ≡ Some number)
 
--- what the notes of the row tell is true of its tail
+-- what the notes of the row tell is true of its tail, wherever they stand
 abbrev pub IsTrueRow : PosedProblem → TailRow → Type 0
 IsTrueRow p row =
-    (from to : ℕ) (note : Note) (total : Option ℤ) → slice_get row.notes.items from ≡ Some note → Tells note to total
-    → IsTailTotal p row.tail from to total
+    (place from to : ℕ) (note : Note) (total : Option ℤ) → slice_get row.notes.items place ≡ Some note
+    → Tells note from to total → IsTailTotal p row.tail from to total
 
 abbrev pub AreTrueRows : PosedProblem → List TailRow → Type 0
 AreTrueRows p rows = (place : ℕ) (row : TailRow) → slice_get rows place ≡ Some row → IsTrueRow p row
@@ -33,8 +33,8 @@ pub record IsPlaceOf (kept : TailRows) (tail : Tail) (place : ℕ) : Type 0 wher
   pub there : slice_get kept.rows.items place ≡ Some row
   pub same : row.tail ≡ tail
 
--- in the row nothing is noted that was not noted before, but this note for this position
-pub record IsNoted (old new : TailRow) (from : ℕ) (note : Note) : Type 0 where
+-- in the row nothing is noted that was not noted before, but this note
+pub record IsNoted (old new : TailRow) (note : Note) : Type 0 where
   pub tail : new.tail ≡ old.tail
-  pub notes : (at : ℕ) (it : Note) → slice_get new.notes.items at ≡ Some it
-      → (it ≡ Open) ⊎ ((at ≡ from) × (it ≡ note)) ⊎ (slice_get old.notes.items at ≡ Some it)
+  pub notes : (place : ℕ) (it : Note) → slice_get new.notes.items place ≡ Some it
+      → (it ≡ Open) ⊎ (it ≡ note) ⊎ (slice_get old.notes.items place ≡ Some it)

@@ -31,7 +31,19 @@ use score_numbers::{
 };
 use split_lines::{Line, Lines, fixed_length};
 
-/// The total of tokens of fixed length that match the letters from `from` to `to`.
+/// The total of one token of fixed length that matches the letters from `from` to `to`.
+#[inline(always)]
+fn one_total(lines: &Lines<'_>, token: &Arg, factor: i64, from: u16, to: u16) -> i64
+    requires weighted { AreWeighted lines.now (token.now ∷ []) (factor ∷ []) }
+    requires fixed { AllByRecursion IsFixed (token.now ∷ []) }
+    requires covers { Cover lines.now (token.now ∷ []) from to }
+    requires low { AreLow lines.now (token.now ∷ []) (factor ∷ []) from to }
+    ensures { HasTotal lines.now (HasBestScore lines.now) (token.now ∷ []) (factor ∷ []) from to result }
+{
+    factor * token_value(lines, token, from, to)
+}
+
+/// The total of tokens of fixed length that match the letters from `from` to `to`. In most cases there is but one.
 pub fn fixed_total(lines: &Lines<'_>, tokens: &[Arg], factors: &[i64], from: u16, to: u16) -> i64
     requires weighted { AreWeighted lines.now tokens.now factors.now }
     requires fixed { AllByRecursion IsFixed tokens.now }
@@ -45,6 +57,9 @@ pub fn fixed_total(lines: &Lines<'_>, tokens: &[Arg], factors: &[i64], from: u16
     ) else {
         return 0;
     };
+    if tokens.is_empty() {
+        return one_total(lines, token, *factor, from, to);
+    }
     let end = from + fixed_length(token) as u16;
     factor * token_value(lines, token, from, end) + fixed_total(lines, tokens, factors, end, to)
 }

@@ -19,17 +19,19 @@ ghost use Rattle.cell_answers.specs.CellBest.{IsCellBest};
 ghost use Rattle.cell_answers.specs.Entries.{HasEntry};
 ghost use Rattle.cell_answers.specs.LaidBy.{AreFirstEnds, IsFirstEnd};
 ghost use Rattle.cell_answers.specs.Opened.{IsOpened};
+ghost use Rattle.cell_answers.specs.Tails.{IsOwner};
 ghost use Rattle.cell_answers.specs.Through.{HasLineTotal};
 ghost use Rattle.cell_answers.specs.Totals.{AreLow, AreWeighted, HasTotal};
 
 use crate::along::{factors_of, fixed_total, scales_of, total_through};
 use crate::argument_values::{Numbers, argument_value};
 use crate::by_term::cuts_by_term;
-use crate::filling::{Best, Known, cell_best, first_giving, plain_total};
+use crate::filling::{Best, Known, Owner, best_noting, first_giving, tail_total};
 use crate::letters_between::weighed_line;
 use crate::only_ends::only_end;
 use crate::opened::{OpenedLine, open_line};
 use crate::scores::Scores;
+use crate::tails::Tails;
 use adp_model::laws::bellman::bellman;
 use adp_model::laws::bounds::{bounds_are_sound, words_keep_their_score_bound};
 use adp_model::laws::order::answer_is_unique;
@@ -208,6 +210,7 @@ fn end_along(
 /// after another. If the others have a line, `ahead` of them come before it.
 fn end_among(
     behind: &Known<'_, '_>,
+    tails: &mut Tails<'_>,
     ahead: u8,
     arguments: &[Arg],
     factors: &[i64],
@@ -216,6 +219,8 @@ fn end_among(
     total: i64,
 ) -> u16
     requires same_problem { behind.now.scores.now.problem ≡ behind.now.lines.now }
+    requires same_tails { tails.old ≡ behind.now.lines.now }
+    requires owner { IsOwner behind.now.lines.now behind.now.owner arguments.now factors.now }
     requires line { IfSome behind.now.line (λ line.
         IsLine behind.now.lines.now (drop ahead (drop 1 arguments.now)) line) }
     requires some { 0 < length arguments.now }
@@ -226,7 +231,8 @@ fn end_among(
     requires low { AreLow behind.now.lines.now arguments.now factors.now from to }
     requires greatest { IsGreatestOf (HasTotal behind.now.lines.now (HasBestScore behind.now.lines.now)
         arguments.now factors.now from to) (Some total) }
-    ensures { IsFirstEnd behind.now.lines.now arguments.now factors.now from to total result }
+    ensures same { tails.new ≡ tails.old }
+    ensures first { IsFirstEnd behind.now.lines.now arguments.now factors.now from to total result }
 {
     let Known { lines, scores, .. } = *behind;
     let (Some((argument, others)), Some((factor, more))) = (
@@ -243,7 +249,7 @@ fn end_among(
         let Some(value) = argument_value(lines, scores, argument, from, end) else {
             continue;
         };
-        let Some(rest) = plain_total(behind, ahead, others, more, end, to) else {
+        let Some(rest) = tail_total(behind, tails, ahead, others, more, end, to) else {
             continue;
         };
         if factor * value + rest == total {
@@ -271,6 +277,7 @@ pub(crate) fn line_left(line: Option<Line<'_>>, ahead: u8) -> (Option<Line<'_>>,
 /// a line, `ahead` of them come before it.
 fn first_end(
     known: &Known<'_, '_>,
+    tails: &mut Tails<'_>,
     ahead: u8,
     arguments: &[Arg],
     factors: &[i64],
@@ -279,6 +286,8 @@ fn first_end(
     total: i64,
 ) -> u16
     requires same_problem { known.now.scores.now.problem ≡ known.now.lines.now }
+    requires same_tails { tails.old ≡ known.now.lines.now }
+    requires owner { IsOwner known.now.lines.now known.now.owner arguments.now factors.now }
     requires line { IfSome known.now.line (λ line. IsLine known.now.lines.now (drop ahead arguments.now) line) }
     requires some { 0 < length arguments.now }
     requires weighted { AreWeighted known.now.lines.now arguments.now factors.now }
@@ -288,7 +297,8 @@ fn first_end(
     requires low { AreLow known.now.lines.now arguments.now factors.now from to }
     requires greatest { IsGreatestOf (HasTotal known.now.lines.now (HasBestScore known.now.lines.now)
         arguments.now factors.now from to) (Some total) }
-    ensures { IsFirstEnd known.now.lines.now arguments.now factors.now from to total result }
+    ensures same { tails.new ≡ tails.old }
+    ensures first { IsFirstEnd known.now.lines.now arguments.now factors.now from to total result }
 {
     let Known { lines, scores, .. } = *known;
     let Some((argument, others)) = arguments.split_first() else {
@@ -305,15 +315,16 @@ fn first_end(
         lines,
         scores,
         line,
-        owner: None,
+        owner: known.owner,
     };
-    end_among(&behind, later, arguments, factors, from, to, total)
+    end_among(&behind, tails, later, arguments, factors, from, to, total)
 }
 
 /// The first ends with which the arguments, laid from `from` to `to`, have this total, their greatest; ends that are
 /// left over stand at `to`. If the arguments have a line, `ahead` of them come before it.
 fn first_ends(
     known: &Known<'_, '_>,
+    tails: &mut Tails<'_>,
     ahead: u8,
     arguments: &[Arg],
     factors: &[i64],
@@ -322,6 +333,8 @@ fn first_ends(
     total: i64,
 ) -> [u16; 4]
     requires same_problem { known.now.scores.now.problem ≡ known.now.lines.now }
+    requires same_tails { tails.old ≡ known.now.lines.now }
+    requires owner { IsOwner known.now.lines.now known.now.owner arguments.now factors.now }
     requires line { IfSome known.now.line (λ line. IsLine known.now.lines.now (drop ahead arguments.now) line) }
     requires weighted { AreWeighted known.now.lines.now arguments.now factors.now }
     requires span { IsSpan known.now.lines.now.word from to }
@@ -330,7 +343,8 @@ fn first_ends(
     requires low { AreLow known.now.lines.now arguments.now factors.now from to }
     requires greatest { IsGreatestOf (HasTotal known.now.lines.now (HasBestScore known.now.lines.now)
         arguments.now factors.now from to) (Some total) }
-    ensures { (room : ℕ) → length arguments.now ≤ room → room ≤ 4
+    ensures same { tails.new ≡ tails.old }
+    ensures first { (room : ℕ) → length arguments.now ≤ room → room ≤ 4
         → AreFirstEnds known.now.lines.now arguments.now factors.now from to total (take room result) }
 {
     let Known { lines, scores, .. } = *known;
@@ -343,19 +357,19 @@ fn first_ends(
     lines.problem().admissible();
     bounds_are_sound();
     answer_is_unique();
-    let end = first_end(known, ahead, arguments, factors, from, to, total);
+    let end = first_end(known, tails, ahead, arguments, factors, from, to, total);
     let (line, later) = line_left(known.line, ahead);
     let behind = Known {
         lines,
         scores,
         line,
-        owner: None,
+        owner: known.owner,
     };
     let Some(value) = argument_value(lines, scores, argument, from, end) else {
         unreachable!()
     };
     let rest = total - factor * value;
-    let [second, third, fourth, _] = first_ends(&behind, later, others, more, end, to, rest);
+    let [second, third, fourth, _] = first_ends(&behind, tails, later, others, more, end, to, rest);
     [end, second, third, fourth]
 }
 
@@ -363,19 +377,22 @@ fn first_ends(
 fn cuts_by_sum<'s>(
     lines: &'s Lines<'_>,
     scores: &Scores<'_>,
+    tails: &mut Tails<'_>,
     cell: Cell,
     alternative: &KeptAlternative<'s>,
     sum: &WeightedSum,
     best: Best,
 ) -> [u16; 3]
     requires same_problem { scores.now.problem ≡ lines.now }
+    requires same_tails { tails.old ≡ lines.now }
     requires rule { cell.rule < length lines.now.grammar.rules }
     requires in_word { IsSpan lines.now.word cell.from cell.to }
     requires alternative { IsAlternative lines.now cell.rule best.alt alternative.now }
     requires sum { IsSummed lines.now cell.rule best.alt alternative.now sum.now }
     requires scored { (child : Cell) → IsDemandedChild lines.now cell child → HasEntry scores.now child }
     requires best { IsCellBest lines.now cell best.score best.alt }
-    ensures { IsAnswer lines.now cell (BestAnswer best.score (record { alt = best.alt; cuts = result })) }
+    ensures same { tails.new ≡ tails.old }
+    ensures answer { IsAnswer lines.now cell (BestAnswer best.score (record { alt = best.alt; cuts = result })) }
 {
     let problem = lines.problem();
     problem.admissible();
@@ -397,10 +414,14 @@ fn cuts_by_sum<'s>(
         lines,
         scores,
         line,
-        owner: None,
+        owner: Some(Owner {
+            rule: cell.rule,
+            alt: best.alt,
+        }),
     };
     let [first, second, third, _] = first_ends(
         &known,
+        tails,
         ahead,
         arguments,
         &sum.factors[..arguments.len()],
@@ -409,6 +430,32 @@ fn cuts_by_sum<'s>(
         total,
     );
     [first, second, third]
+}
+
+/// The cuts of a cell's answer, which complete its best score and the first alternative that gives it.
+fn cuts_noting(
+    lines: &Lines<'_>,
+    scores: &Scores<'_>,
+    tails: &mut Tails<'_>,
+    cell: Cell,
+    best: Best,
+) -> [u16; 3]
+    requires same_problem { scores.now.problem ≡ lines.now }
+    requires same_tails { tails.old ≡ lines.now }
+    requires rule { cell.rule < length lines.now.grammar.rules }
+    requires in_word { IsSpan lines.now.word cell.from cell.to }
+    requires scored { (child : Cell) → IsDemandedChild lines.now cell child → HasEntry scores.now child }
+    requires best { IsCellBest lines.now cell best.score best.alt }
+    ensures same { tails.new ≡ tails.old }
+    ensures answer { IsAnswer lines.now cell (BestAnswer best.score (record { alt = best.alt; cuts = result })) }
+{
+    lines.problem().admissible();
+    bellman();
+    let alternative = &lines.alternatives(cell.rule)[best.alt as usize];
+    match &alternative.scoring {
+        Scoring::Sum(sum) => cuts_by_sum(lines, scores, tails, cell, alternative, sum, best),
+        Scoring::Term(term) => cuts_by_term(lines, scores, cell, term, best),
+    }
 }
 
 /// The cuts of a cell's answer, which complete its best score and the first alternative that gives it. Takes no memory,
@@ -421,25 +468,28 @@ pub fn first_cuts(lines: &Lines<'_>, scores: &Scores<'_>, cell: Cell, best: Best
     requires best { IsCellBest lines.now cell best.score best.alt }
     ensures { IsAnswer lines.now cell (BestAnswer best.score (record { alt = best.alt; cuts = result })) }
 {
-    lines.problem().admissible();
-    bellman();
-    let alternative = &lines.alternatives(cell.rule)[best.alt as usize];
-    match &alternative.scoring {
-        Scoring::Sum(sum) => cuts_by_sum(lines, scores, cell, alternative, sum, best),
-        Scoring::Term(term) => cuts_by_term(lines, scores, cell, term, best),
-    }
+    let mut tails = Tails::none(lines.problem());
+    cuts_noting(lines, scores, &mut tails, cell, best)
 }
 
 /// The answer of a cell that has a candidate, by its best score and the first alternative that gives it.
-fn answer_with(lines: &Lines<'_>, scores: &Scores<'_>, cell: Cell, best: Best) -> Answer
+fn answer_with(
+    lines: &Lines<'_>,
+    scores: &Scores<'_>,
+    tails: &mut Tails<'_>,
+    cell: Cell,
+    best: Best,
+) -> Answer
     requires same_problem { scores.now.problem ≡ lines.now }
+    requires same_tails { tails.old ≡ lines.now }
     requires rule { cell.rule < length lines.now.grammar.rules }
     requires in_word { IsSpan lines.now.word cell.from cell.to }
     requires scored { (child : Cell) → IsDemandedChild lines.now cell child → HasEntry scores.now child }
     requires best { IsCellBest lines.now cell best.score best.alt }
-    ensures { IsAnswer lines.now cell result }
+    ensures same { tails.new ≡ tails.old }
+    ensures answer { IsAnswer lines.now cell result }
 {
-    let cuts = first_cuts(lines, scores, cell, best);
+    let cuts = cuts_noting(lines, scores, tails, cell, best);
     let choice = Choice {
         alt: best.alt,
         cuts,
@@ -458,8 +508,28 @@ pub fn cell_answer(lines: &Lines<'_>, scores: &Scores<'_>, cell: Cell) -> Answer
     requires scored { (child : Cell) → IsDemandedChild lines.now cell child → HasEntry scores.now child }
     ensures { IsAnswer lines.now cell result }
 {
-    match cell_best(lines, scores, cell) {
-        Some(best) => answer_with(lines, scores, cell, best),
+    let mut tails = Tails::none(lines.problem());
+    cell_answer_noting(lines, scores, &mut tails, cell)
+}
+
+/// The same, with the totals of tails looked up where they are noted, and noted where they are not: the cuts find there
+/// what the best score was found from. It takes memory for notes alone, where the latest ends are kept.
+pub fn cell_answer_noting(
+    lines: &Lines<'_>,
+    scores: &Scores<'_>,
+    tails: &mut Tails<'_>,
+    cell: Cell,
+) -> Answer
+    requires same_problem { scores.now.problem ≡ lines.now }
+    requires same_tails { tails.old ≡ lines.now }
+    requires rule { cell.rule < length lines.now.grammar.rules }
+    requires in_word { IsSpan lines.now.word cell.from cell.to }
+    requires scored { (child : Cell) → IsDemandedChild lines.now cell child → HasEntry scores.now child }
+    ensures same { tails.new ≡ tails.old }
+    ensures answer { IsAnswer lines.now cell result }
+{
+    match best_noting(lines, scores, tails, cell) {
+        Some(best) => answer_with(lines, scores, tails, cell, best),
         None => Answer::NoCandidate,
     }
 }
@@ -478,5 +548,6 @@ pub fn kept_answer(lines: &Lines<'_>, scores: &Scores<'_>, cell: Cell) -> Answer
         return Answer::NoCandidate;
     };
     let alt = first_giving(lines, scores, cell, score);
-    answer_with(lines, scores, cell, Best { score, alt })
+    let mut tails = Tails::none(lines.problem());
+    answer_with(lines, scores, &mut tails, cell, Best { score, alt })
 }

@@ -8,10 +8,11 @@ ghost use Rattle.adp_model.specs.Parts.{alternatives_of};
 ghost use Rattle.adp_model.specs.Answers.{IsAnswer};
 ghost use Rattle.adp_model.specs.Bellman.{HasBestScore};
 ghost use Rattle.adp_model.specs.Demand.{IsDemandedChild};
+ghost use Rattle.split_lines.specs.Beginnings.{IsCandidate};
 ghost use Rattle.split_lines.specs.Kept.{IsAlternative, IsSummed};
 ghost use Rattle.split_lines.specs.Laid.{Demands};
 ghost use Rattle.split_lines.specs.Lines.{IsLine};
-ghost use Rattle.split_lines.specs.Ways.{IsOpening};
+ghost use Rattle.split_lines.specs.Ways.{IsClosed, IsOpening};
 ghost use Rattle.cell_answers.specs.CellBest.{IsBestOfFirst, IsCellBest};
 ghost use Rattle.cell_answers.specs.Entries.{HasEntry};
 ghost use Rattle.cell_answers.specs.Tails.{IsOwner, IsTail, tail_with};
@@ -31,8 +32,8 @@ use adp_model::laws::well_formed::{alternatives_fit, arguments_are_few_and_known
 use adp_model::{Arg, Cell};
 use score_numbers::{greater, turned};
 use split_lines::{
-    KeptAlternative, Line, Lines, Scoring, Way, WeightedSum, is_fixed, line_begins_here,
-    line_begins_later, line_here,
+    Candidates, KeptAlternative, Line, Lines, Scoring, Way, WeightedSum, is_fixed,
+    line_begins_here, line_begins_later, line_here,
 };
 
 /// The best score of a cell and the first alternative that gives it.
@@ -104,7 +105,7 @@ fn tail_of(owner: Option<Owner>, arguments: &[Arg]) -> Option<Tail>
 /// The greatest total of the arguments behind another one, noted where it was not noted before.
 #[cycle(totals)]
 #[inline(always)]
-fn tail_total(
+pub(crate) fn tail_total(
     known: &Known<'_, '_>,
     tails: &mut Tails<'_>,
     ahead: u8,
@@ -140,7 +141,7 @@ fn tail_total(
 /// The greatest total of arguments that are laid from `from` to `to`. If they have a line, `ahead` of them come before
 /// it.
 #[cycle(totals)]
-pub(crate) fn greatest_total(
+fn greatest_total(
     known: &Known<'_, '_>,
     tails: &mut Tails<'_>,
     ahead: u8,
@@ -200,33 +201,6 @@ pub(crate) fn greatest_total(
     greatest
 }
 
-/// The same, where no totals of tails are noted.
-pub(crate) fn plain_total(
-    known: &Known<'_, '_>,
-    ahead: u8,
-    arguments: &[Arg],
-    factors: &[i64],
-    from: u16,
-    to: u16,
-) -> Option<i64>
-    requires same_problem { known.now.scores.now.problem ≡ known.now.lines.now }
-    requires line { IfSome known.now.line (λ line. IsLine known.now.lines.now (drop ahead arguments.now) line) }
-    requires weighted { AreWeighted known.now.lines.now arguments.now factors.now }
-    requires span { IsSpan known.now.lines.now.word from to }
-    requires scored { (cell : Cell) → Demands known.now.lines.now arguments.now from to cell
-        → HasEntry known.now.scores.now cell }
-    requires low { AreLow known.now.lines.now arguments.now factors.now from to }
-    ensures { IsGreatestOf (HasTotal known.now.lines.now (HasBestScore known.now.lines.now)
-        arguments.now factors.now from to) result }
-{
-    let known = Known {
-        owner: None,
-        ..*known
-    };
-    let mut tails = Tails::none(known.lines.problem());
-    greatest_total(&known, &mut tails, ahead, arguments, factors, from, to)
-}
-
 /// The greatest total of several arguments that are laid from `from` to `to`, along their line if they have one.
 #[inline(always)]
 fn total_of_several(
@@ -261,7 +235,7 @@ fn total_of_several(
         lines,
         scores,
         line,
-        owner: Some(owner),
+        owner: if line.is_some() { Some(owner) } else { None },
     };
     greatest_total(&known, tails, ahead, arguments, factors, from, to)
 }
@@ -403,7 +377,7 @@ fn better(best: Option<Best>, score: Option<i64>, alt: u8) -> Option<Best>
 
 /// The best score of a cell and the first alternative that gives it, by the scores of its demanded children; `None`
 /// where it has no candidate.
-fn best_noting(
+pub(crate) fn best_noting(
     lines: &Lines<'_>,
     scores: &Scores<'_>,
     tails: &mut Tails<'_>,
@@ -471,6 +445,37 @@ fn is_score(given: Option<i64>, score: i64) -> bool
     }
 }
 
+/// The best score that an alternative gives a cell, turned, where it may begin where the cell does; any other gives none.
+#[inline(always)]
+fn candidate_score(
+    lines: &Lines<'_>,
+    scores: &Scores<'_>,
+    tails: &mut Tails<'_>,
+    cell: Cell,
+    candidates: Candidates<'_>,
+    alternative: &KeptAlternative<'_>,
+    alt: u8,
+) -> Option<i64>
+    requires same_problem { scores.now.problem ≡ lines.now }
+    requires same_tails { tails.old ≡ lines.now }
+    requires rule { cell.rule < length lines.now.grammar.rules }
+    requires in_word { IsSpan lines.now.word cell.from cell.to }
+    requires few { alt < 64 }
+    requires in_range { alt < length (alternatives_of lines.now.grammar cell.rule) }
+    requires alternative { IsAlternative lines.now cell.rule alt alternative.now }
+    requires others { (IsCandidate candidates alt → ⊥) → IsClosed lines.now alternative.now cell }
+    requires scored { (child : Cell) → IsDemandedChild lines.now cell child → HasEntry scores.now child }
+    ensures same { tails.new ≡ tails.old }
+    ensures greatest { IsGreatestOf (HasTurnedScore lines.now cell alt) result }
+{
+    lines.problem().admissible();
+    alternatives_fit();
+    if !candidates.have(alt) {
+        return None;
+    }
+    alternative_score(lines, scores, tails, cell, alternative, alt)
+}
+
 /// The first alternative that gives a cell this score, its best one. What the last alternative gives is not asked: where
 /// no other one gives it, that one does.
 pub(crate) fn first_giving(lines: &Lines<'_>, scores: &Scores<'_>, cell: Cell, score: i64) -> u8
@@ -492,11 +497,12 @@ pub(crate) fn first_giving(lines: &Lines<'_>, scores: &Scores<'_>, cell: Cell, s
     alternatives_fit();
     let sought = turned(problem.goal(), score);
     let mut tails = Tails::none(problem);
-    let alternatives = lines.alternatives(cell.rule);
-    let last = alternatives.len() - 1;
+    let candidates = lines.candidates(cell);
+    let last = candidates.alternatives.len() - 1;
     for number in 0..last {
         let alt = number as u8;
-        let given = alternative_score(lines, scores, &mut tails, cell, &alternatives[number], alt);
+        let one = &candidates.alternatives[number];
+        let given = candidate_score(lines, scores, &mut tails, cell, candidates, one, alt);
         if is_score(given, sought) {
             return alt;
         }

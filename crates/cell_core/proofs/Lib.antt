@@ -16,3 +16,4 @@ pub mod PassingNone
 pub mod Stepped
 pub mod SharedGrammars
 pub mod SharedParts
+pub mod NotedAlike

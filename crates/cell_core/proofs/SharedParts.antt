@@ -17,6 +17,8 @@ use Rattle.split_lines.proofs.kept.WeightedSum.TheSendSync as weighted
 use Rattle.split_lines.proofs.kept.Lengths.TheSendSync as lengths
 use Rattle.cell_tables.specs.contracts.noted.Noted as Noted
 use Rattle.cell_answers.specs.contracts.scores.Scores as Scores
+use Rattle.cell_answers.specs.contracts.tails.Tails as Tails
+use Rattle.cell_answers.proofs.tails.TailRows.TheSendSync as rows
 use Rattle.random_orders.specs.contracts.orders.Orders as Orders
 use Rattle.random_orders.proofs.orders.Orders.TheSendSync as orders
 use Rattle.memo_model.specs.declared.memo.Memo.{Ghosts}
@@ -68,12 +70,16 @@ noted_send a = let problem = problem_sync a in search (sendable, crosses) depth 
 scores_send : (a : NamedLft) → IsSend (Scores.the_row a)
 scores_send a = let problem = problem_sync a in search (sendable, crosses) depth 40 fits 20000
 
+tails_send : (a : NamedLft) → IsSend (Tails.the_row a)
+tails_send a = let problem = problem_sync a in search (sendable, crosses, rows.the_send) depth 40 fits 20000
+
 pub notes_send : (a : NamedLft) → IsSend (Notes.the_row a)
 notes_send a =
     let sent = prepared_send a in
     let shared = prepared_sync a in
     let noted = noted_send a in
     let scores = scores_send a in
+    let tails = tails_send a in
     search (sendable, crosses) depth 40 fits 20000
 
 notes_field : (a : NamedLft) → IsSend (as_row (Option.the_field (Notes.the_row a)))

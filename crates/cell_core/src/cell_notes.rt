@@ -9,7 +9,7 @@ use crate::notes::Notes;
 use adp_model::laws::demand::demanded_cells_are_counted;
 use adp_model::{Answer, Cell, Problem};
 use argument_search::{NotedCells, seek};
-use cell_answers::{Scores, cell_answer};
+use cell_answers::{KeptEnds, Scores, Tails, cell_answer_noting};
 use cell_tables::Noted;
 use memo_model::{Position, Visit};
 use split_lines::{Lines, Prepared};
@@ -36,13 +36,14 @@ impl NotedCells for NothingNoted {
     }
 }
 
-/// Which cells a machine has noted, and their scores. Where `skips` isn't set the search for the next argument doesn't
-/// pass over noted ones. Contracts see the notes as the problem and the bits.
+/// Which cells a machine has noted, their scores, and what the tails of alternatives are worth. Where `skips` isn't set
+/// the search for the next argument doesn't pass over noted ones. Contracts see the notes as the problem and the bits.
 #[derive(Drop)]
 pub struct CellNotes<'a> {
     prepared: Arc<Prepared<'a>, Global>,
     noted: Noted<'a>,
     scores: Scores<'a>,
+    tails: Tails<'a>,
     skips: bool,
 }
 
@@ -64,6 +65,7 @@ impl<'a> Model for CellNotes<'a> {
 
     ghost invariant = { λ notes. (shared notes.prepared ≡ notes.noted.problem)
         × (notes.scores.problem ≡ notes.noted.problem)
+        × (notes.tails ≡ notes.noted.problem)
         × ((cell : OfRule) → IsNoted notes.noted cell → HasEntry notes.scores cell) };
 }
 
@@ -79,11 +81,14 @@ impl<'a> CellNotes<'a> {
         let layout = prepared.layout();
         let noted = Noted::new(alloc, layout)?;
         let scores = Scores::new(alloc, layout)?;
+        let lines = prepared.lines();
+        let tails = Tails::new(alloc, lines, KeptEnds::All)?;
         let prepared = Arc::try_clone(prepared)?;
         Ok(CellNotes {
             prepared,
             noted,
             scores,
+            tails,
             skips: true,
         })
     }
@@ -131,10 +136,11 @@ impl<'a> Notes for CellNotes<'a> {
         self.noted.note(cell);
     }
 
-    fn answer(&self, cell: Cell) -> Answer {
+    fn answer(&mut self, cell: Cell) -> Answer {
         self.problem().admissible();
         demanded_cells_are_counted();
-        cell_answer(self.prepared.lines(), &self.scores, cell)
+        let lines = self.prepared.lines();
+        cell_answer_noting(lines, &self.scores, &mut self.tails, cell)
     }
 
     fn next_argument(&self, visit: Visit) -> Option<(Position, Cell)> {

@@ -24,11 +24,13 @@ pub(crate) trait Notes {
         ensures problem { problem self.new ≡ problem self.old }
         ensures noted { (other : Cell) → noted self.new other ↔ (noted self.old other ⊎ (other ≡ cell)) };
 
-    /// The answer of a cell whose demanded children are all noted.
-    fn answer(&self, cell: Cell) -> Answer
-        requires demanded { IsDemanded (problem self.now) cell }
-        requires noted { (child : Cell) → IsDemandedChild (problem self.now) cell child → noted self.now child }
-        ensures { IsAnswer (problem self.now) cell result };
+    /// The answer of a cell whose demanded children are all noted. No cell more is noted by it.
+    fn answer(&mut self, cell: Cell) -> Answer
+        requires demanded { IsDemanded (problem self.old) cell }
+        requires noted { (child : Cell) → IsDemandedChild (problem self.old) cell child → noted self.old child }
+        ensures problem { problem self.new ≡ problem self.old }
+        ensures noted { (other : Cell) → noted self.new other ↔ noted self.old other }
+        ensures answer { IsAnswer (problem self.old) cell result };
 
     /// The next rule argument of a visit that is to be looked up, with its cell: the first one that isn't noted.
     fn next_argument(&self, visit: Visit) -> Option<(Position, Cell)>

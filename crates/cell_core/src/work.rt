@@ -130,25 +130,26 @@ fn first_look<M: Memo, N: Notes>(
 #[inline(never)]
 fn advance<M: Memo, N: Notes>(
     problem: &Problem<'_>,
-    notes: &N,
+    notes: &mut N,
     memo: &M,
     pass: &M::Pass,
     work: &mut Work<M::Probe>,
 )
     requires memo { M.problem memo.now ≡ problem.now }
-    requires notes { N.problem notes.now ≡ problem.now }
+    requires notes { N.problem notes.old ≡ problem.now }
     requires own { M.is_of memo.now pass.now }
     requires going { work.old.ended ≡ false }
     requires no_hand { work.old.hand ≡ None }
     requires no_answer { work.old.ready ≡ None }
     requires begun { work.old.top ≢ None }
-    requires sound { IsSound M.meaning problem.now (N.noted notes.now) work.old pass.now }
+    requires sound { IsSound M.meaning problem.now (N.noted notes.old) work.old pass.now }
+    ensures notes { N.problem notes.new ≡ problem.now }
     ensures going { work.new.ended ≡ false }
     ensures under_way { IsUnderWay work.new.hand work.new.ready (all_frames work.new) }
     ensures stands { (orders : Lcg) → standing (all_frames work.new) work.new.opened orders
         ≡ standing (all_frames work.old) work.old.opened orders }
     ensures numbers { (work.new.wins ≡ work.old.wins) × (work.new.moves ≡ work.old.moves) }
-    ensures sound { IsSound M.meaning problem.now (N.noted notes.now) work.new pass.now }
+    ensures sound { IsSound M.meaning problem.now (N.noted notes.new) work.new pass.now }
     ensures lower { (m : ℕ) (arguments : List SplitArgument) → IsDemandedCount problem.now m
         → AreRuleArguments problem.now arguments
         → work_left M.meaning problem.now m arguments work.new pass.now
@@ -368,21 +369,22 @@ fn publish<M: Memo, N: Notes, L: Ledger>(
 /// Seeks the next argument where neither a look is made nor an answer is there.
 fn settle<M: Memo, N: Notes>(
     problem: &Problem<'_>,
-    notes: &N,
+    notes: &mut N,
     memo: &M,
     pass: &M::Pass,
     work: &mut Work<M::Probe>,
 )
     requires memo { M.problem memo.now ≡ problem.now }
-    requires notes { N.problem notes.now ≡ problem.now }
+    requires notes { N.problem notes.old ≡ problem.now }
     requires own { M.is_of memo.now pass.now }
     requires begun { (work.old.hand ≡ None) → (work.old.ready ≡ None) → work.old.ended ≡ false → work.old.top ≢ None }
-    requires sound { IsSound M.meaning problem.now (N.noted notes.now) work.old pass.now }
+    requires sound { IsSound M.meaning problem.now (N.noted notes.old) work.old pass.now }
+    ensures notes { N.problem notes.new ≡ problem.now }
     ensures under_way { IsUnderWay work.new.hand work.new.ready (all_frames work.new) }
     ensures stands { (orders : Lcg) → standing (all_frames work.new) work.new.opened orders
         ≡ standing (all_frames work.old) work.old.opened orders }
     ensures numbers { (work.new.wins ≡ work.old.wins) × (work.new.moves ≡ work.old.moves) }
-    ensures sound { IsSound M.meaning problem.now (N.noted notes.now) work.new pass.now }
+    ensures sound { IsSound M.meaning problem.now (N.noted notes.new) work.new pass.now }
     ensures lower { (m : ℕ) (arguments : List SplitArgument) → IsDemandedCount problem.now m
         → AreRuleArguments problem.now arguments
         → work_left M.meaning problem.now m arguments work.new pass.now

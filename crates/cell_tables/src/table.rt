@@ -75,6 +75,7 @@ impl<'a, V: Copy> Table<'a, V> {
     }
 
     /// The value of a counted cell, in its row. Takes constant time and no memory.
+    #[inline(always)]
     pub fn value(&self, cell: Cell) -> Option<V>
         ensures { result ≡ in_row self.now cell }
     {

@@ -11,7 +11,7 @@ ghost use Rattle.seq_reference.specs.Filling.{AreFilled, AreKept, IsFilledBefore
 use crate::rank_order::rules_by_rank;
 use adp_model::Cell;
 use adp_model::laws::demand::{demanded_cells_are_counted, demanded_children_are_below};
-use cell_answers::{Scores, Tails, cell_score_noting};
+use cell_answers::{KeptEnds, Scores, Tails, cell_score_noting};
 use cell_tables::{Layout, Marks};
 use split_lines::Lines;
 use std::alloc::{AllocError, Global};
@@ -58,7 +58,7 @@ impl<'a> Filling<'a> {
         let tails = if problem.word.bytes().len() < BLOCK as usize {
             Tails::none(problem)
         } else {
-            Tails::new(alloc, lines)?
+            Tails::new(alloc, lines, KeptEnds::Latest)?
         };
         Ok(Filling { scores, tails })
     }

@@ -1,6 +1,8 @@
-use Rattle.std.proofs.Common.{◌≡◌, ◌+◌, ◌≤◌, ℕ, ℤ, ◌+ℤ◌, ◌*ℤ◌, ◌∷◌, FitsSigned, w64, nat_abs, refl, sym, subst, arith, rules}
+use Rattle.std.proofs.Common.{◌≡◌, ◌+◌, ◌≤◌, ℕ, ℤ, ◌+ℤ◌, ◌*ℤ◌, List, [], ◌∷◌, length, FitsSigned, w64, nat_abs, refl, sym, ap, subst, ◌∙◌, arith, rules}
 use Rattle.std.specs.List.{AllByRecursion}
+use Rattle.std.proofs.lemmas.Bool.{eqb-true}
 use Rattle.std.proofs.lemmas.Int.{to_z-of_z}
+use Rattle.adp_model.specs.declared.grammar.Arg.{Arg}
 use Rattle.adp_model.specs.ProblemFields.{greatest_score}
 use Rattle.adp_model.specs.Tokens.{letters_between, token_value}
 use Rattle.adp_model.specs.Bellman.{HasBestScore}
@@ -128,4 +130,45 @@ returns t c =
     let here : HasTotal p (HasBestScore p) c.args.tokens.now c.args.factors.now c.args.from c.args.to total =
     subst (λ xs. HasTotal p (HasBestScore p) xs c.args.factors.now c.args.from c.args.to total) (sym c.in-Some-Some.ensures.cases.0)
     (subst (λ ys. HasTotal p (HasBestScore p) (token ∷ others) ys c.args.from c.args.to total) (sym c.in-Some-Some.ensures'.cases.0) all) in
+    simp to_z-of_z here
+
+-- ---- where there is but one token
+
+no_more : {X : Type 0} (xs : List X) → length xs ≡ 0 → xs ≡ []
+no_more [] none = refl
+no_more (x ∷ xs) none = absurd (omega arith)
+
+module _ (tokens : List Arg) (factors : List ℤ) (token : Arg) (others : List Arg) (factor : ℤ) (behind : List ℤ) (tokens_is : tokens ≡ token ∷ others) (factors_is : factors ≡ factor ∷ behind) (each : length factors ≡ length tokens) (none : length others ≡ 0) where
+  one_token : tokens ≡ token ∷ []
+  one_token = tokens_is ∙ ap (λ xs. token ∷ xs) (no_more others none)
+
+  one_factor : factors ≡ factor ∷ []
+  one_factor = factors_is ∙ ap (λ xs. factor ∷ xs) (no_more behind (omega (arith, ap length factors_is, ap length tokens_is, each, none)))
+
+  to_one : (R : List Arg → List ℤ → Type 0) → R tokens factors → R (token ∷ []) (factor ∷ [])
+  to_one R it = subst (λ xs. R xs (factor ∷ [])) one_token (subst (R tokens) one_factor it)
+
+  from_one : (R : List Arg → List ℤ → Type 0) → R (token ∷ []) (factor ∷ []) → R tokens factors
+  from_one R it = subst (R tokens) (sym one_factor) (subst (λ xs. R xs (factor ∷ [])) (sym one_token) it)
+
+pub one_total-requires-clause-weighted : goal.one_total-requires-clause-weighted
+one_total-requires-clause-weighted t c =
+    let it = c.in-Some-Some in
+    let none = eqb-true (length it.tokens.now) 0 (sym c.is_empty.ensures ∙ c.if-is_empty.true) in
+    let fits_factor : FitsSigned w64 it.factor.now = search rules in
+    subst (λ f. AreWeighted c.args.lines.now (it.token.now ∷ []) (f ∷ [])) (sym (to_z-of_z w64 it.factor.now fits_factor))
+    (to_one c.args.tokens.now c.args.factors.now it.token.now it.tokens.now it.factor.now it.factors.now it.ensures.cases.0 it.ensures'.cases.0 c.requires.weighted.factors_each none
+    (AreWeighted c.args.lines.now) c.requires.weighted)
+
+pub returns-then-is_empty : goal.returns-then-is_empty
+returns-then-is_empty t c =
+    let it = c.in-Some-Some in
+    let p = c.args.lines.now in
+    let total = c.one_total.result in
+    let none = eqb-true (length it.tokens.now) 0 (sym c.is_empty.ensures ∙ c.if-is_empty.true) in
+    let fits_factor : FitsSigned w64 it.factor.now = search rules in
+    let fits_total : FitsSigned w64 c.one_total.result = search rules in
+    let has = subst (λ f. HasTotal p (HasBestScore p) (it.token.now ∷ []) (f ∷ []) c.args.from c.args.to total) (to_z-of_z w64 it.factor.now fits_factor) c.one_total.ensures in
+    let here = from_one c.args.tokens.now c.args.factors.now it.token.now it.tokens.now it.factor.now it.factors.now it.ensures.cases.0 it.ensures'.cases.0 c.requires.weighted.factors_each none
+    (λ tokens factors. HasTotal p (HasBestScore p) tokens factors c.args.from c.args.to total) has in
     simp to_z-of_z here

@@ -9,23 +9,25 @@ use Rattle.adp_model.specs.Bellman.{HasBestScore}
 use Rattle.viable_splits.specs.Placing.{on_span}
 use Rattle.cell_answers.specs.Entries.{HasEntry}
 use Rattle.cell_answers.specs.LaidBy.{AreFirstEnds, IsFirstEnd}
+use Rattle.cell_answers.specs.Tails.{IsOwner}
 use Rattle.cell_answers.specs.Totals.{HasTotal}
 use Rattle.score_numbers.specs.Greatest.{IsGreatestOf}
 use Rattle.cell_answers.proofs.FirstEnds.{AreLaid, AreSound, first_low, first_known_entry, rest_laid, parts_low}
 use Rattle.cell_answers.proofs.Totalling.{values_cover}
 use Rattle.cell_answers.proofs.Dividing.{cover_forward}
 use Rattle.cell_answers.proofs.LaidEnds.{IsFirstEndOf, end_of_first, first_more, front_same, none_here, rest_greatest}
+use Rattle.cell_answers.proofs.TailFactors.{shorter_owner}
 use Rattle.cell_answers.proofs.Soundness.{fits_below, sound_by}
 use Rattle.cell_answers.proofs.answer_cuts.+first_ends.Goals as goal
 use Rattle.cell_answers.proofs.answer_cuts.+first_ends.Goals.{After-answer_is_unique, After-first_end-end}
 
-pub returns-in_default : goal.returns-in_default
-returns-in_default t c room l m =
+pub returns-in_default-clause-first : goal.returns-in_default-clause-first
+returns-in_default-clause-first t c room l m =
     let none : length c.args.arguments.now ≡ 0 = omega (arith, c.requires.weighted.factors_each, c.in_default.ensures'.cases) in
     none_here c.args.known.now.lines.now c.args.arguments.now c.args.factors.now c.args.from c.args.to c.args.total room none c.requires.greatest.0
 
-pub returns-in_default-2 : goal.returns-in_default-2
-returns-in_default-2 t c room l m =
+pub returns-in_default-2-clause-first : goal.returns-in_default-2-clause-first
+returns-in_default-2-clause-first t c room l m =
     none_here c.args.known.now.lines.now c.args.arguments.now c.args.factors.now c.args.from c.args.to c.args.total room c.in_default.ensures.cases c.requires.greatest.0
 
 -- the arguments, from the first one on
@@ -49,13 +51,23 @@ sound : (t : ℕ) (c : After-answer_is_unique t) → AreSound c.args.known.now.l
 sound t c =
     sound_by c.problem.result.now c.args.known.now.lines.now c.problem.ensures c.admissible.ensures (c.bounds_are_sound.ensures.score c.args.known.now.lines.now) (c.answer_is_unique.ensures c.args.known.now.lines.now)
 
+-- the alternative whose last arguments the others are
+owner_behind : (t : ℕ) (c : After-answer_is_unique t) → IsOwner c.args.known.now.lines.now c.args.known.now.owner c.in-Some-Some.others.now c.in-Some-Some.more.now
+owner_behind t c =
+    let p = c.args.known.now.lines.now in
+    let owner = c.args.known.now.owner in
+    let A : List Arg → Type 0 = λ arguments. IsOwner p owner arguments (c.in-Some-Some.factor.now ∷ c.in-Some-Some.more.now) in
+    let F : List ℤ → Type 0 = λ factors. IsOwner p owner c.args.arguments.now factors in
+    shorter_owner p owner c.in-Some-Some.argument.now c.in-Some-Some.others.now c.in-Some-Some.factor.now c.in-Some-Some.more.now
+    (subst A c.in-Some-Some.ensures.cases.0 (subst F c.in-Some-Some.ensures'.cases.0 c.requires.owner))
+
 -- the first end that was found
 first_end : (t : ℕ) (c : After-first_end-end t) → IsFirstEndOf c.args.known.now.lines.now c.in-Some-Some.argument.now c.in-Some-Some.others.now c.in-Some-Some.factor.now c.in-Some-Some.more.now c.args.from c.args.to c.args.total c.first_end-end.result
 first_end t c =
     let p = c.args.known.now.lines.now in
     let E : ℕ → Type 0 = λ end. IsFirstEnd p c.args.arguments.now c.args.factors.now c.args.from c.args.to c.args.total end in
     let fits : FitsSigned w64 c.args.total = search rules in
-    let found : E c.first_end-end.result = simp to_z-of_z at c.first_end-end.ensures in
+    let found : E c.first_end-end.result = simp to_z-of_z at c.first_end-end.ensures.first in
     end_of_first p c.args.arguments.now c.args.factors.now c.in-Some-Some.argument.now c.in-Some-Some.others.now c.in-Some-Some.factor.now c.in-Some-Some.more.now c.args.from c.args.to c.args.total c.first_end-end.result c.in-Some-Some.ensures.cases.0 c.in-Some-Some.ensures'.cases.0 found
 
 fits_end : (t : ℕ) (c : After-first_end-end t) → FitsSpan c.args.known.now.lines.now (on_span c.in-Some-Some.argument.now c.args.from c.first_end-end.result)
@@ -156,12 +168,12 @@ first_ends-requires t c =
     let same : drop 1 c.args.arguments.now ≡ c.in-Some-Some.others.now = ap (drop 1) c.in-Some-Some.ensures.cases.0 in
     let L : List Arg → Type 0 = λ them. IfSome c.line_left-later.result.0 (λ it. IsLine p (drop c.line_left-later.result.1 them) it) in
     let line = subst L same (c.line_left-later.ensures p c.args.arguments.now c.requires.line) in
-    (search rules, (c.requires.same_problem, (line, (rest.weighted, (rest.span, (rest.scored, (rest.low, is_rest)))))))
+    (search rules, (c.requires.same_problem, (c.first_end-end.ensures.same ∙ c.requires.same_tails, (owner_behind t begun, (line, (rest.weighted, (rest.span, (rest.scored, (rest.low, is_rest)))))))))
 
-pub returns : goal.returns
-returns t c room l m =
-    let begun = (goal.at.returns t c).After-answer_is_unique in
-    let joined = (goal.at.returns t c).After-first_end-end in
+pub returns-clause-first : goal.returns-clause-first
+returns-clause-first t c room l m =
+    let begun = (goal.at.returns-clause-first t c).After-answer_is_unique in
+    let joined = (goal.at.returns-clause-first t c).After-first_end-end in
     let p = c.args.known.now.lines.now in
     let end = c.first_end-end.result in
     let value = c.in-Some.value in
@@ -176,7 +188,7 @@ returns t c room l m =
     let next : room ≡ suc (room - 1) = omega (arith, ap length c.in-Some-Some.ensures.cases.0) in
     let L : ℤ → List ℕ → Type 0 = λ rest ends. AreFirstEnds p c.in-Some-Some.others.now c.in-Some-Some.more.now end c.args.to rest ends in
     let later = subst (λ rest. L rest (take (room - 1) c.first_ends.result)) (wrapped c.args.total c.in-Some-Some.factor.now value fits_total fits_factor fits_value it.product_fits it.rest_fits)
-    (c.first_ends.ensures (room - 1) long (omega arith)) in
+    (c.first_ends.ensures.first (room - 1) long (omega arith)) in
     let four : length c.first_ends.result ≡ 4 = search rules in
     let read = subst (L (c.args.total -ℤ product)) (sym (front_same c.first_ends.result (room - 1) four fewer)) later in
     let found = first_more p (sound t begun) c.in-Some-Some.argument.now c.in-Some-Some.others.now c.in-Some-Some.factor.now c.in-Some-Some.more.now c.args.from c.args.to c.args.total end first.there value (c.args.total -ℤ product) it.is_value (total_parts c.args.total product) first.first
@@ -187,3 +199,6 @@ returns t c room l m =
     subst (λ factors. A c.args.arguments.now factors (take room ends)) (sym c.in-Some-Some.ensures'.cases.0)
     (subst (λ arguments. A arguments (c.in-Some-Some.factor.now ∷ c.in-Some-Some.more.now) (take room ends)) (sym c.in-Some-Some.ensures.cases.0)
     (subst (λ n. A all (c.in-Some-Some.factor.now ∷ c.in-Some-Some.more.now) (take n ends)) (sym next) found))
+
+pub returns-clause-same : goal.returns-clause-same
+returns-clause-same t c = c.first_ends.ensures.same ∙ c.first_end-end.ensures.same

@@ -16,6 +16,7 @@ use Rattle.split_lines.specs.declared.lines.Line.{Line}
 use Rattle.split_lines.specs.Kept.{IsAlternative}
 use Rattle.split_lines.specs.Lines.{IsLine}
 use Rattle.cell_answers.specs.LaidBy.{AreFirstEnds}
+use Rattle.cell_answers.specs.Tails.{IsTail}
 use Rattle.cell_answers.specs.Totals.{HasTotal}
 use Rattle.cell_answers.proofs.Alternatives.{TokensKeepBound, alternative_laid, score_low}
 use Rattle.cell_answers.proofs.BestSplits.{best_allowed, best_gives}
@@ -26,6 +27,7 @@ use Rattle.cell_answers.proofs.LaidEnds.{four_read}
 use Rattle.cell_answers.proofs.LaidSplits.{total_greatest, answer_by_ends}
 use Rattle.cell_answers.proofs.Scoring.{turned_low}
 use Rattle.cell_answers.proofs.Soundness.{fits_below, sound_of}
+use Rattle.cell_answers.proofs.TailFactors.{all_arguments_tail}
 use Rattle.cell_answers.proofs.answer_cuts.cuts_by_sum.Goals as goal
 use Rattle.cell_answers.proofs.answer_cuts.cuts_by_sum.Goals.{After-arguments-arguments, in-Several-Some, in-Front}
 
@@ -225,9 +227,9 @@ first_ends-requires-clause-greatest c =
     let G : ℤ → List Arg → List ℤ → Type 0 = λ total arguments factors. IsGreatestOf (HasTotal p (HasBestScore p) arguments factors c.args.cell.from c.args.cell.to) (Some total) in
     subst (λ total. G total c.arguments-arguments.result.now (take (length c.arguments-arguments.result.now) (sum at).factors)) (sym read) (here at (G (the_total at)) (is_greatest at))
 
-pub returns : goal.returns
-returns c =
-    let at = (goal.at.returns c).After-arguments-arguments in
+pub returns-clause-answer : goal.returns-clause-answer
+returns-clause-answer c =
+    let at = (goal.at.returns-clause-answer c).After-arguments-arguments in
     let p = c.args.lines.now in
     let long : length c.arguments-arguments.result.now ≤ 4 = c.arguments-arguments.ensures.few in
     let four : length c.first_ends.result ≡ 4 = search rules in
@@ -240,9 +242,17 @@ returns c =
     let fits_constant : FitsSigned w64 c.args.sum.now.constant = search rules in
     let found : c.turned.result ≡ turned c.goal.result c.args.best.score = simp to_z-of_z at c.turned.ensures in
     let read = read_total at c.turned.result fits_turned fits_constant (turned_is at c.goal.result c.turned.result c.goal.ensures found) in
-    let there = subst (λ total. F all cut total (take 4 c.first_ends.result)) read (c.first_ends.ensures 4 long (omega arith)) in
+    let there = subst (λ total. F all cut total (take 4 c.first_ends.result)) read (c.first_ends.ensures.first 4 long (omega arith)) in
     let four_there = subst (λ them. F all cut (the_total at) them) (four_read c.first_ends.result four) there in
     let first = subst (λ arguments. F arguments (the_factors at) (the_total at) ends) (arguments_are at) (subst (λ factors. F all factors (the_total at) ends) (factors_are at) four_there) in
     answer_by_ends p (bellman at) c.args.cell c.requires.in_word (some at) (few at) c.args.best.alt (in_range at) (sum at).constant (the_factors at)
     c.requires.sum.scored c.args.best.score c.requires.best (the_total at) (told at)
     (get_or c.first_ends.result 0 0) (get_or c.first_ends.result 1 0) (get_or c.first_ends.result 2 0) (get_or c.first_ends.result 3 0) first
+
+-- they are the alternative's
+pub first_ends-requires-clause-owner : goal.first_ends-requires-clause-owner
+first_ends-requires-clause-owner c =
+    let at = (goal.at.first_ends-requires-clause-owner c).After-arguments-arguments in
+    let p = c.args.lines.now in
+    let T : List Arg → List ℤ → Type 0 = λ arguments factors. IsTail p (record { rule = c.args.cell.rule; alt = c.args.best.alt; count = length arguments }) arguments factors in
+    here at T (all_arguments_tail p c.args.cell.rule c.args.best.alt (sum at).constant (the_factors at) (laid at).weighted.factors_each c.requires.sum.scored)

@@ -13,8 +13,8 @@ only_end-requires c =
     let (end, fits, cover) = laid_of_total p c.args.arguments.now c.args.factors.now c.in-Some.argument.now c.in-Some.others.now c.args.from c.args.to c.args.total c.in-Some.ensures.cases.0 c.requires.weighted.factors_each c.requires.greatest.0 in
     record { laid = (p, end, fits, cover) }
 
-pub returns-in-Some-only_end : goal.returns-in-Some-only_end
-returns-in-Some-only_end c =
+pub returns-in-Some-only_end-clause-first : goal.returns-in-Some-only_end-clause-first
+returns-in-Some-only_end-clause-first c =
     let p = c.args.known.now.lines.now in
     only_first p c.args.arguments.now c.args.factors.now c.in-Some.argument.now c.in-Some.others.now c.args.from c.args.to c.args.total c.in-Some-only_end.end c.in-Some.ensures.cases.0 c.requires.weighted.factors_each c.requires.greatest.0 (c.in-Some-only_end.ensures p)
 
@@ -63,12 +63,18 @@ end_among-requires-clause-greatest c =
     let read : to_z w64 (of_z w64 c.args.total) ≡ c.args.total = to_z-of_z w64 c.args.total (search rules) in
     subst (λ total. IsGreatestOf (HasTotal p (HasBestScore p) c.args.arguments.now c.args.factors.now c.args.from c.args.to) (Some total)) (sym read) c.requires.greatest
 
-pub returns-in-Some-line_here : goal.returns-in-Some-line_here
-returns-in-Some-line_here c =
+pub returns-in-Some-line_here-clause-first : goal.returns-in-Some-line_here-clause-first
+returns-in-Some-line_here-clause-first c =
     let read : to_z w64 (of_z w64 c.args.total) ≡ c.args.total = to_z-of_z w64 c.args.total (search rules) in
     subst (λ total. IsFirstEnd c.args.known.now.lines.now c.args.arguments.now c.args.factors.now c.args.from c.args.to total c.end_along.result) read c.end_along.ensures
 
-pub returns : goal.returns
-returns c =
+pub returns-clause-first : goal.returns-clause-first
+returns-clause-first c =
     let read : to_z w64 (of_z w64 c.args.total) ≡ c.args.total = to_z-of_z w64 c.args.total (search rules) in
-    subst (λ total. IsFirstEnd c.args.known.now.lines.now c.args.arguments.now c.args.factors.now c.args.from c.args.to total c.end_among.result) read c.end_among.ensures
+    subst (λ total. IsFirstEnd c.args.known.now.lines.now c.args.arguments.now c.args.factors.now c.args.from c.args.to total c.end_among.result) read c.end_among.ensures.first
+
+pub end_among-requires-clause-same_tails : goal.end_among-requires-clause-same_tails
+end_among-requires-clause-same_tails c = c.requires.same_tails
+
+pub end_among-requires-clause-owner : goal.end_among-requires-clause-owner
+end_among-requires-clause-owner c = c.requires.owner

@@ -17,7 +17,7 @@ use Rattle.cell_answers.proofs.FirstGiving.{first_is, gives_other, none_further}
 use Rattle.cell_answers.proofs.Scoring.{scored_in, turned_low}
 use Rattle.cell_answers.proofs.Soundness.{sound_of}
 use Rattle.cell_answers.proofs.filling.first_giving.Goals as goal
-use Rattle.cell_answers.proofs.filling.first_giving.Goals.{After-goal, After-turned-sought, After-alternatives-alternatives}
+use Rattle.cell_answers.proofs.filling.first_giving.Goals.{After-goal, After-turned-sought, After-candidates-candidates}
 
 admissible : (c : After-goal) → IsAdmissible c.args.lines.now
 admissible c = let A : PosedProblem → Type 0 = IsAdmissible in subst A c.problem-problem.ensures c.admissible.ensures
@@ -68,26 +68,35 @@ sought_is c =
 sound : (c : After-goal) → AreSound c.args.lines.now
 sound c = sound_of c.args.lines.now (admissible c) (c.bounds_are_sound.ensures.score c.args.lines.now) (c.answer_is_unique.ensures c.args.lines.now)
 
-count_is : (c : After-alternatives-alternatives) → length c.alternatives-alternatives.result.now ≡ length (alternatives_of c.args.lines.now.grammar c.args.cell.rule)
-count_is c = c.alternatives-alternatives.ensures.each
+count_is : (c : After-candidates-candidates) → length c.candidates-candidates.result.alternatives.now ≡ length (alternatives_of c.args.lines.now.grammar c.args.cell.rule)
+count_is c = c.candidates-candidates.ensures.each
 
 pub overflow_sub-last : goal.overflow_sub-last
 overflow_sub-last c =
     let at = (goal.at.overflow_sub-last c).After-goal in
-    let at' = (goal.at.overflow_sub-last c).After-alternatives-alternatives in
+    let at' = (goal.at.overflow_sub-last c).After-candidates-candidates in
     omega (arith, one_or_more at, count_is at')
 
 pub overflow_cast-alt : goal.overflow_cast-alt
 overflow_cast-alt c =
     let at = (goal.at.overflow_cast-alt c).After-goal in
-    let at' = (goal.at.overflow_cast-alt c).After-alternatives-alternatives in
+    let at' = (goal.at.overflow_cast-alt c).After-candidates-candidates in
     omega (arith, few_alternatives at, count_is at', c.loop-number-test.true)
 
 pub overflow_cast-result : goal.overflow_cast-result
 overflow_cast-result c =
     let at = (goal.at.overflow_cast-result c).After-goal in
-    let at' = (goal.at.overflow_cast-result c).After-alternatives-alternatives in
+    let at' = (goal.at.overflow_cast-result c).After-candidates-candidates in
     omega (arith, few_alternatives at, count_is at')
+
+-- what is no candidate has no viable split
+pub candidate_score-given-requires-clause-others : goal.candidate_score-given-requires-clause-others
+candidate_score-given-requires-clause-others c = λ none.
+    let told = c.candidates-candidates.ensures in
+    let alternatives = c.candidates-candidates.result.alternatives.now in
+    let number = c.loop-number.number in
+    let there : number < length alternatives = omega (arith, c.loop-number-test.true) in
+    told.others number c.index-candidates-number.result there none
 
 pub loop-number-init : goal.loop-number-init
 loop-number-init c = record {
@@ -110,17 +119,17 @@ pub loop-number-preserved : goal.loop-number-preserved
 loop-number-preserved c =
     let at = (goal.at.loop-number-preserved c).After-goal in
     let found = (goal.at.loop-number-preserved c).After-turned-sought in
-    let at' = (goal.at.loop-number-preserved c).After-alternatives-alternatives in
+    let at' = (goal.at.loop-number-preserved c).After-candidates-candidates in
     let p = c.args.lines.now in
     let number = c.loop-number.number in
     let l : number < length (alternatives_of p.grammar c.args.cell.rule) = omega (arith, one_or_more at, count_is at', c.loop-number-test.true) in
     let fits : FitsSigned w64 c.turned-sought.result = search rules in
-    let told : IsTrue c.is_score.result ↔ (c.alternative_score-given.result ≡ Some c.turned-sought.result) = simp to_z-of_z at c.is_score.ensures in
-    let differs : c.alternative_score-given.result ≡ Some (the_sought at) → ⊥ = λ is. false≢true (sym c.if-is_score.false ∙ told.1 (is ∙ ap Some (sym (sought_is found)))) in
-    let here = gives_other p (bellman at) c.args.cell c.requires.in_word (some at) (few at) c.args.score c.requires.best number c.alternative_score-given.result l c.alternative_score-given.ensures.greatest differs in
+    let told : IsTrue c.is_score.result ↔ (c.candidate_score-given.result ≡ Some c.turned-sought.result) = simp to_z-of_z at c.is_score.ensures in
+    let differs : c.candidate_score-given.result ≡ Some (the_sought at) → ⊥ = λ is. false≢true (sym c.if-is_score.false ∙ told.1 (is ∙ ap Some (sym (sought_is found)))) in
+    let here = gives_other p (bellman at) c.args.cell c.requires.in_word (some at) (few at) c.args.score c.requires.best number c.candidate_score-given.result l c.candidate_score-given.ensures.greatest differs in
     let none : NoneGive at number = λ other before. c.loop-number.invariant.none other c.args.score before c.requires.best in
     record {
-      same = c.alternative_score-given.ensures.same ∙ c.loop-number.invariant.same;
+      same = c.candidate_score-given.ensures.same ∙ c.loop-number.invariant.same;
       none = no_other at (number + 1) (none_further p (bellman at) c.args.cell c.requires.in_word (some at) (few at) c.args.score c.requires.best number none here);
     }
 
@@ -128,25 +137,25 @@ pub returns-then-is_score : goal.returns-then-is_score
 returns-then-is_score c =
     let at = (goal.at.returns-then-is_score c).After-goal in
     let found = (goal.at.returns-then-is_score c).After-turned-sought in
-    let at' = (goal.at.returns-then-is_score c).After-alternatives-alternatives in
+    let at' = (goal.at.returns-then-is_score c).After-candidates-candidates in
     let p = c.args.lines.now in
     let number = c.loop-number.number in
     let l : number < length (alternatives_of p.grammar c.args.cell.rule) = omega (arith, one_or_more at, count_is at', c.loop-number-test.true) in
     let fits : FitsSigned w64 c.turned-sought.result = search rules in
-    let told : IsTrue c.is_score.result ↔ (c.alternative_score-given.result ≡ Some c.turned-sought.result) = simp to_z-of_z at c.is_score.ensures in
-    let is : c.alternative_score-given.result ≡ Some (the_sought at) = told.0 c.if-is_score.true ∙ ap Some (sought_is found) in
-    let gives = (subst (IsGreatestOf (HasTurnedScore p c.args.cell number)) is c.alternative_score-given.ensures.greatest).0 in
+    let told : IsTrue c.is_score.result ↔ (c.candidate_score-given.result ≡ Some c.turned-sought.result) = simp to_z-of_z at c.is_score.ensures in
+    let is : c.candidate_score-given.result ≡ Some (the_sought at) = told.0 c.if-is_score.true ∙ ap Some (sought_is found) in
+    let gives = (subst (IsGreatestOf (HasTurnedScore p c.args.cell number)) is c.candidate_score-given.ensures.greatest).0 in
     let none : NoneGive at number = λ other before. c.loop-number.invariant.none other c.args.score before c.requires.best in
     first_is p (bellman at) c.args.cell c.requires.in_word (some at) (few at) c.args.score c.requires.best number l none (inl gives)
 
 pub returns : goal.returns
 returns c =
     let at = (goal.at.returns c).After-goal in
-    let at' = (goal.at.returns c).After-alternatives-alternatives in
+    let at' = (goal.at.returns c).After-candidates-candidates in
     let p = c.args.lines.now in
     let number = c.loop-number.number in
     let is_last : length (alternatives_of p.grammar c.args.cell.rule) ≡ number + 1 = omega (arith, one_or_more at, count_is at', c.loop-number-test.false, c.loop-number.auto.number-end) in
-    let last_is : length c.alternatives-alternatives.result.now - 1 ≡ number = omega (arith, is_last, count_is at') in
+    let last_is : length c.candidates-candidates.result.alternatives.now - 1 ≡ number = omega (arith, is_last, count_is at') in
     let none : NoneGive at number = λ other before. c.loop-number.invariant.none other c.args.score before c.requires.best in
     let found = first_is p (bellman at) c.args.cell c.requires.in_word (some at) (few at) c.args.score c.requires.best number (omega (arith, is_last)) none (inr is_last) in
     subst (IsCellBest p c.args.cell c.args.score) (sym last_is) found

@@ -1,4 +1,4 @@
-use Rattle.std.proofs.Common.{◌∷◌, None, refl, sym, subst, ap}
+use Rattle.std.proofs.Common.{◌∷◌, None, refl, sym, subst, ap, ◌∙◌}
 use Rattle.std.specs.Prelude.{reverse}
 use Rattle.adp_model.specs.Answers.{IsAnswer}
 use Rattle.adp_model.specs.Demand.{IsDemanded, IsDemandedChild, IsDemandedCount}
@@ -7,6 +7,7 @@ use Rattle.memo_model.specs.Visits.{argument_at}
 use Rattle.argument_search.specs.Seeking.{IsNextSought, IsNoneSought}
 use Rattle.cell_core.specs.Working.{frames_of}
 use Rattle.cell_core.proofs.Heights.{heights}
+use Rattle.cell_core.proofs.NotedAlike.{sound_alike}
 use Rattle.cell_core.proofs.Worked.{IsWorking, next_demanded, noted_children, next_sound, next_left, ready_sound, room_top}
 use Rattle.cell_core.proofs.work.advance.Given.{Over}
 use Rattle.cell_core.proofs.work.advance.Goals as goal
@@ -92,9 +93,14 @@ pub returns-in-None-clause-sound : goal.returns-in-None-clause-sound
 returns-in-None-clause-sound g c =
     let at = goal.at.returns-in-None-clause-sound g c in
     let w = c.args.work.now in
-    ready_sound (seeking g at.In-Some)
+    sound_alike g.M.Memo.meaning c.args.problem.now (g.N.Notes.noted c.args.notes.now) (g.N.Notes.noted c.answer.new.self)
+    c.answer.ensures.noted _ c.args.pass.now
+    (ready_sound (seeking g at.In-Some)
     (room_top c.requires.sound.has_room _ _ w.opened w.wins w.moves w.score {ended = w.ended})
     (record { opened = refl; wins = refl })
     (record { going = c.requires.going; hand_is = c.requires.no_hand; frames_are = refl; ready_is = refl })
-    (subst (λ q. IsAnswer q c.in-Some.top.visit.cell c.answer.result) c.requires.notes c.answer.ensures)
-    (none_left g at.In-None)
+    (subst (λ q. IsAnswer q c.in-Some.top.visit.cell c.answer.result) c.requires.notes c.answer.ensures.answer)
+    (none_left g at.In-None))
+
+pub returns-in-None-clause-notes : goal.returns-in-None-clause-notes
+returns-in-None-clause-notes g c = c.answer.ensures.problem ∙ c.requires.notes

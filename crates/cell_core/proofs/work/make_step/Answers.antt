@@ -1,8 +1,8 @@
-use Rattle.std.proofs.Common.{◌≡◌, ◌↔◌, ℕ, true, false, Some, None, refl, sym, subst, ap, ◌∙◌}
+use Rattle.std.proofs.Common.{◌≡◌, ◌↔◌, ℕ, true, false, None, refl, sym, subst, ◌∙◌}
 use native.Mathlib.Nat.{le_trans}
 use Rattle.adp_model.specs.declared.cell.Cell.{Cell}
 use Rattle.memo_model.specs.Memos.{HasLoaded}
-use Rattle.cell_core.specs.Working.{frames_of, all_frames}
+use Rattle.cell_core.specs.Working.{all_frames}
 use Rattle.cell_core.specs.FrameChanges.{Standing, standing, ChangesFrames}
 use Rattle.cell_core.proofs.Stepped.{falls_then, sound_by_parts, left_by_parts, loads_by_parts}
 use Rattle.cell_core.proofs.work.make_step.Goals as goal
@@ -161,7 +161,7 @@ pub settle-requires-in-None-ready-clause-begun : goal.settle-requires-in-None-re
 settle-requires-in-None-ready-clause-begun g c = λ h r e. c.look-in-None-ready.ensures.next h e
 
 pub returns-in-Some-clause-notes : goal.returns-in-Some-clause-notes
-returns-in-Some-clause-notes g c = c.look.ensures.notes
+returns-in-Some-clause-notes g c = c.settle.ensures.notes
 
 pub returns-in-Some-clause-own : goal.returns-in-Some-clause-own
 returns-in-Some-clause-own g c = c.look.ensures.own
@@ -201,7 +201,7 @@ returns-in-Some-clause-lower g c = λ m arguments counted all.
     (sym c.take.ensures.value ∙ c.in-Some.is) refl)
 
 pub returns-in-Some-ready-clause-notes : goal.returns-in-Some-ready-clause-notes
-returns-in-Some-ready-clause-notes g c = c.publish.ensures.notes
+returns-in-Some-ready-clause-notes g c = c.settle-in-Some-ready.ensures.notes
 
 pub returns-in-Some-ready-clause-own : goal.returns-in-Some-ready-clause-own
 returns-in-Some-ready-clause-own g c = c.publish.ensures.own
@@ -241,7 +241,7 @@ returns-in-Some-ready-clause-lower g c = λ m arguments counted all.
     (sym c.take.ensures.value ∙ c.in-None.is ∙ sym c.take.ensures.after) refl)
 
 pub returns-in-None-ready-clause-notes : goal.returns-in-None-ready-clause-notes
-returns-in-None-ready-clause-notes g c = c.look-in-None-ready.ensures.notes
+returns-in-None-ready-clause-notes g c = c.settle-in-None-ready.ensures.notes
 
 pub returns-in-None-ready-clause-own : goal.returns-in-None-ready-clause-own
 returns-in-None-ready-clause-own g c = c.look-in-None-ready.ensures.own

@@ -14,11 +14,12 @@ pub invariant_of-self : goal.invariant_of-self
 invariant_of-self c = (
   c.self.invariant.0 ∙ sym c.note.ensures.problem,
   c.keep.ensures.problem ∙ c.self.invariant.1 ∙ sym c.note.ensures.problem,
+  c.self.invariant.2 ∙ sym c.note.ensures.problem,
   λ other noted. entered other ((c.note.ensures.noted other).0 noted),
 )
   where
     entered : (other : Cell) → IsNoted c.self.inside.noted other ⊎ (other ≡ c.args.cell) → HasEntry c.keep.new.self other
-    entered other (inl was) = c.keep.ensures.others other (c.self.invariant.2 other was)
+    entered other (inl was) = c.keep.ensures.others other (c.self.invariant.3 other was)
     entered other (inr e) = subst (HasEntry c.keep.new.self) (sym e) c.keep.ensures.kept
 
 pub returns-clause-noted : goal.returns-clause-noted

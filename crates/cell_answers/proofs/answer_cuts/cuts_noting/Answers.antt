@@ -5,8 +5,8 @@ use Rattle.adp_model.specs.ProblemFields.{IsAdmissible}
 use Rattle.adp_model.specs.Parts.{alternatives_of}
 use Rattle.split_lines.specs.declared.kept.KeptAlternative.{KeptAlternative}
 use Rattle.split_lines.specs.Kept.{IsAlternative, IsScored}
-use Rattle.cell_answers.proofs.answer_cuts.first_cuts.Goals as goal
-use Rattle.cell_answers.proofs.answer_cuts.first_cuts.Goals.{After-index-alternatives-best}
+use Rattle.cell_answers.proofs.answer_cuts.cuts_noting.Goals as goal
+use Rattle.cell_answers.proofs.answer_cuts.cuts_noting.Goals.{After-index-alternatives-best}
 
 -- the best alternative is one of the rule's
 in_range : (c : After-index-alternatives-best) → c.args.best.alt < length (alternatives_of c.args.lines.now.grammar c.args.cell.rule)
