@@ -1,9 +1,9 @@
 -- Pieces that were written one behind the other.
-use Rattle.std.proofs.Common.{◌≡◌, ℕ, zero, suc, ◌+◌, ◌<◌, ◌≤◌, ◌⊎◌, inl, inr, List, [], ◌∷◌, ◌++◌, length, take, Option, None, Result, Ok, Err, refl, sym, ap, subst, ◌∙◌, arith}
+use Rattle.std.proofs.Common.{◌≡◌, ℕ, zero, suc, ◌+◌, ◌<◌, ◌≤◌, List, [], ◌∷◌, ◌++◌, length, take, Option, None, Result, Ok, Err, refl, sym, ap, subst, ◌∙◌, arith}
 use Rattle.std.specs.List.{concat}
 use Rattle.std.specs.Io.KnownBytes.{Appends}
 use Rattle.std.proofs.KnownBytes.{Appends-nil, Appends-trans}
-use Rattle.std.proofs.lemmas.List.{append-nil, append_assoc, take_at, take-append-le, length-append}
+use Rattle.std.proofs.lemmas.List.{append-nil, take_at, take-append-le, length-append}
 use Rattle.std.proofs.lemmas.List.Folds.{concat-append}
 use Rattle.adp_io.specs.Streams.{AppendsProperPrefix}
 use Rattle.adp_model.specs.PosedProblem.{PosedProblem}
@@ -16,7 +16,7 @@ use Rattle.report.specs.declared.fault.Fault.{Fault}
 use Rattle.report.specs.declared.fault.Fault.TheVariants as faults
 use Rattle.adp_main.specs.declared.status.Status.{Status}
 use Rattle.adp_main.specs.declared.status.Status.TheVariants.{Done}
-use Rattle.adp_main.specs.Faults.{status_after, status_of}
+use Rattle.adp_main.specs.Faults.{status_after}
 use Rattle.adp_main.specs.Reporting.{HasWritten}
 use Rattle.adp_main.specs.RunNotes.{AreNoted}
 use Rattle.adp_main.specs.Writing.{IsReportWritten}

@@ -3,7 +3,6 @@ use Rattle.std.proofs.Common.{◌≡◌, ℕ, ◌≤◌, Option, Some, List, ◌
 use Rattle.std.proofs.lemmas.List.{append_cancel_left}
 use Rattle.std.specs.List.{concat}
 use Rattle.std.specs.Io.KnownBytes.{Appends}
-use Rattle.verdicts.specs.declared.command.Mode.{Mode}
 use Rattle.verdicts.specs.declared.command.Mode.TheVariants.{Cert, Verify}
 use Rattle.verdicts.specs.CheckableJobs.{IsCheckableInput}
 use Rattle.verdicts.specs.Command.{Command, IsCommand}

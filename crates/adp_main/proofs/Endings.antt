@@ -11,7 +11,7 @@ use Rattle.adp_io.specs.Streams.{AppendsProperPrefix, AsksForAtMost, CallsAtMost
 use Rattle.adp_model.specs.declared.fault.LimitFault.{LimitFault}
 use Rattle.verdicts.specs.CheckableJobs.{IsCheckableInput}
 use Rattle.verdicts.specs.declared.command.Mode.{Mode}
-use Rattle.verdicts.specs.declared.command.Mode.TheVariants.{Best, Serial, Wins, Replay, Lex, Cert, Verify, Big}
+use Rattle.verdicts.specs.declared.command.Mode.TheVariants.{Verify, Big}
 use Rattle.verdicts.specs.Command.{Command, IsCommand, HasCommand, AsksForJob, AsksToVerify}
 use Rattle.verdicts.specs.Verdict.{Verdict, IsLimit, IsReports, IsVerdict, greatest_length}
 use Rattle.evaluators.specs.declared.finished.RunNote.{RunNote}

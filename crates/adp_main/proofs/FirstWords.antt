@@ -25,7 +25,7 @@ use Rattle.adp_main.specs.Faults.{status_of}
 use Rattle.adp_main.specs.FirstWords.{AreFirstEnding, AreReported, IsReportedUpTo}
 use Rattle.adp_main.specs.Groups.{HaveCells, IsGrouped, IsSolvedFor}
 use Rattle.adp_main.specs.Reporting.{AreReportsOf, HasWritten}
-use Rattle.adp_main.specs.RunNotes.{AddsNotes, AreNoted, AreRunsOf, IsRunOf}
+use Rattle.adp_main.specs.RunNotes.{AreNoted, IsRunOf}
 use Rattle.adp_main.specs.Writing.{IsRunWith, IsWordEnding}
 use Rattle.adp_main.proofs.CompiledWords.{is_compiled}
 use Rattle.adp_main.proofs.FirstLimit.{posed_at}

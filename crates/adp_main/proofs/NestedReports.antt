@@ -1,5 +1,5 @@
 -- From reports under a job's own grammar to those under its nested one, where its text has nested alternatives.
-use Rattle.std.proofs.Common.{◌≡◌, ◌↔◌, ℕ, zero, suc, ◌+◌, List, [], ◌∷◌, take, Option, None, inl, inr, sym, subst}
+use Rattle.std.proofs.Common.{◌↔◌, ℕ, zero, suc, ◌+◌, List, [], ◌∷◌, take, Option, None, inl, inr, sym, subst}
 use Rattle.adp_model.specs.declared.grammar.Grammar.{Grammar}
 use Rattle.adp_model.specs.declared.job.Job.{Job}
 use Rattle.adp_model.specs.Checks.{IsChecked}

@@ -1,14 +1,12 @@
 -- How a certificate with its job was checked: from what was told of its words to the verdict on the words of the command
 -- line and the bytes.
-use Rattle.std.proofs.Common.{◌≡◌, ℕ, zero, suc, ◌+◌, ◌<◌, ◌≤◌, ◌⊎◌, inl, inr, ℤ, List, [], ◌∷◌, ◌++◌, length, take, get_or, Option, None, IfSome, Result, Ok, Err, IfErr, IsErrOf, refl, sym, ap, subst, ◌∙◌, arith}
-use Rattle.std.specs.List.{All, AllByRecursion, concat}
+use Rattle.std.proofs.Common.{◌≡◌, ℕ, zero, suc, ◌+◌, ◌<◌, ◌≤◌, inl, inr, ℤ, List, [], ◌∷◌, ◌++◌, length, take, get_or, Option, None, IfSome, Result, Ok, Err, IfErr, IsErrOf, refl, sym, ap, subst, ◌∙◌, arith}
+use Rattle.std.specs.List.{All, AllByRecursion}
 use Rattle.std.proofs.lemmas.List.Elements.{All-nil, All-cons}
 use Rattle.std.specs.Io.KnownBytes.{Appends}
 use Rattle.std.proofs.KnownBytes.{Appends-nil}
-use Rattle.adp_io.specs.Streams.{AppendsProperPrefix}
 use Rattle.adp_model.specs.declared.fault.LimitFault.{LimitFault}
 use Rattle.adp_model.specs.declared.grammar.Grammar.{Grammar}
-use Rattle.adp_model.specs.PosedProblem.{PosedProblem}
 use Rattle.adp_model.specs.ProblemFields.{KeepsLimits}
 use Rattle.table_certificate.specs.BestScores.{AreBestScores}
 use Rattle.table_certificate.specs.JobSplit.{IsSplitAtJob}
@@ -17,13 +15,12 @@ use Rattle.table_certificate.specs.Verified.{IsRejection}
 use Rattle.table_certificate.specs.CertificateLines.{forms_of}
 use Rattle.table_certificate.specs.declared.verifying.VerifyError.{VerifyError}
 use Rattle.table_certificate.specs.declared.verifying.VerifyError.TheVariants as verify_errors
-use Rattle.verdicts.specs.declared.command.Mode.{Mode}
 use Rattle.verdicts.specs.declared.command.Mode.TheVariants.{Verify}
 use Rattle.verdicts.specs.Certificates.{IsFalseFor, IsRightFor, IsWithoutJob}
 use Rattle.verdicts.specs.CheckableJobs.{AreCheckable, IsCheckableInput, IsJobPart}
 use Rattle.verdicts.specs.Command.{Command, IsCommand, AsksToVerify}
 use Rattle.verdicts.specs.Posed.{posed_word, posed_words}
-use Rattle.verdicts.specs.Verdict.{AreReports, AsksUnder, AsksWithin, IsReportWith, IsVerdict, greatest_length}
+use Rattle.verdicts.specs.Verdict.{AreReports, AsksWithin, IsReportWith, IsVerdict, greatest_length}
 use Rattle.verdicts.specs.WordLimits.{IsFirstLimit, KeepLimits}
 use Rattle.verdicts.specs.Verdict as verdicts
 use Rattle.nested_jobs.specs.NestedJob.{hidden_in}
@@ -33,7 +30,7 @@ use Rattle.report.specs.declared.fault.Fault.TheVariants as faults
 use Rattle.adp_main.specs.declared.checking.CheckedJob.{CheckedJob}
 use Rattle.adp_main.specs.Ending.{IsOfVerdict, ShowsFirst, ShowsPart, ShowsVerdict}
 use Rattle.adp_main.specs.Faults.{fault_verdict, status_after}
-use Rattle.adp_main.specs.Reporting.{HasWritten, IsAdmissibleIn, IsCheckedJob, IsJobRefusal, IsLimitOf, IsReported}
+use Rattle.adp_main.specs.Reporting.{HasWritten, IsAdmissibleIn, IsCheckedJob, IsJobRefusal, IsLimitOf}
 use Rattle.adp_main.specs.Verifying.{IsCertificateEnding, IsTold, score_reports, verify_refusal}
 use Rattle.adp_main.proofs.FirstLimit.{own_limits}
 use Rattle.adp_main.proofs.NestedReports.{TellsNested}

@@ -22,10 +22,10 @@ IsGrouped mode = ⊥
 abbrev pub TakesGroups : Command → Type 0
 TakesGroups command = IsGrouped command.mode × (1 < command.workers)
 
--- a group of so many words takes one more, with which it has so many counted cells: it stays with 64 words and with the
+-- a group of so many words takes one more, with which it has so many counted cells: it stays with 1,024 words and with the
 -- cells that one word may have, and with fewer once there is a word for each worker
 abbrev pub HasRoom : ℕ → ℕ → ℕ → Type 0
-HasRoom words cells workers = (words < 64) × (cells ≤ most_cells) × ((words < workers) ⊎ (cells ≤ 32768))
+HasRoom words cells workers = (words < 1024) × (cells ≤ most_cells) × ((words < workers) ⊎ (cells ≤ 131072))
 
 -- these problems have so many counted cells together
 abbrev pub HaveCells : List PosedProblem → ℕ → Type 0

@@ -1,5 +1,6 @@
 pub mod Status
 pub mod Faults
+pub mod JudgedWords
 pub mod KeptLengths
 pub mod Seconds
 pub mod CompiledWords

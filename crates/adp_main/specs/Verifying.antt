@@ -1,5 +1,5 @@
 -- How a certificate with its job was checked, and what was written of it.
-use Rattle.std.specs.Prelude.{◌≡◌, ℕ, ◌+◌, ◌⊎◌, ℤ, Option, List, [], ◌∷◌, Result, Ok, Err}
+use Rattle.std.specs.Prelude.{ℕ, ◌+◌, ◌⊎◌, ℤ, Option, List, [], ◌∷◌, Result, Err}
 use Rattle.std.specs.Io.KnownBytes.{Appends}
 use Rattle.adp_model.specs.declared.grammar.Grammar.{Grammar}
 use Rattle.table_certificate.specs.declared.verifying.VerifyError.{VerifyError}

@@ -1,6 +1,6 @@
 //! Groups of words: solved side by side, each on one thread, and reported in order.
 ghost use Rattle.std.specs.Prelude.{◌≡◌, ◌↔◌, ◌++◌, ◌+◌, ◌<◌, ◌≤◌, List, ℕ, None, IfOk, IfSome, IsTrue, drop, length};
-ghost use Rattle.std.specs.List.{AllByRecursion, AllZip};
+ghost use Rattle.std.specs.List.{AllZip};
 ghost use Rattle.std.specs.Option.{option_copied};
 ghost use Rattle.adp_io.specs.Causes.{RisesWhere};
 ghost use Rattle.adp_io.specs.Streams.{SameTold};
@@ -12,18 +12,10 @@ ghost use Rattle.verdicts.specs.SecondAlgebra.{IsAdmissibleWith};
 ghost use Rattle.verdicts.specs.Verdict.{IsReportWith};
 ghost use Rattle.adp_main.specs.CompiledWords.{ServesItsLength};
 ghost use Rattle.adp_main.specs.FirstWords.{AreFirstEnding, IsWriteFault};
-ghost use Rattle.adp_main.specs.Groups.{
-  HasItsLength,
-  HasRoom,
-  HaveCells,
-  IsGrouped,
-  IsMadeFor,
-  IsSolvedFor,
-  TakesGroups,
-};
-ghost use Rattle.adp_main.specs.KeptLengths.{HasKept, HaveKept};
-ghost use Rattle.adp_main.specs.Reporting.{AreShort};
-ghost use Rattle.adp_main.specs.Seconds.{AreJobRows, IsSecondOf};
+ghost use Rattle.adp_main.specs.Groups.{HasItsLength, HasRoom, HaveCells, IsGrouped, IsMadeFor, IsSolvedFor, TakesGroups};
+ghost use Rattle.adp_main.specs.JudgedWords.{AreJudged};
+ghost use Rattle.adp_main.specs.KeptLengths.{HasKept};
+ghost use Rattle.adp_main.specs.Seconds.{AreJobRows};
 ghost use Rattle.adp_main.specs.Writing.{IsRunFor};
 
 use crate::admitting::admitted;
@@ -43,10 +35,10 @@ use verdicts::{Command, Mode};
 use word_groups::run_group;
 
 /// The most words of a group.
-const MOST_WORDS: usize = 64;
+const MOST_WORDS: usize = 1_024;
 
 /// The most counted cells that the words of a group have together, unless it had fewer words than there are workers.
-const ENOUGH_CELLS: u64 = 32_768;
+const ENOUGH_CELLS: u64 = 131_072;
 
 /// The most counted cells that the words of a group have together: as many as one word may have.
 const MOST_CELLS: u64 = 2_097_152;
@@ -76,15 +68,8 @@ pub(crate) fn write_side_by_side<R: Threads + Sync, K: Sink, G: Gate>(
     out: &mut K,
     gate: &mut G,
 ) -> Result<usize, Fault>
-    requires few { length job.now.words ≤ 65536 }
     requires inside { place < length job.now.words }
-    requires second { IsSecondOf command.now.second job.now.checked job.now.second }
-    requires rows { AreJobRows job.now.checked job.now.second judged.now.rows }
-    requires known { AreShort judged.now.rows.first.longest job.now.words }
-    requires bounds { HaveKept command.now.second job.now.checked.grammar job.now.checked.algebra
-        judged.now.compiled.items job.now.words }
-    requires admissible { AllByRecursion (IsAdmissibleWith command.now.second)
-        (posed_words job.now.checked.grammar job.now.checked.algebra job.now.words) }
+    requires judged { AreJudged command.now job.now judged.now }
     requires kept { IfSome kept.old (ServesItsLength command.now.second job.now.checked) }
     ensures kept { IfSome kept.new (ServesItsLength command.now.second job.now.checked) }
     ensures told { SameTold (K.held out.old) (K.held out.new) }
@@ -148,14 +133,8 @@ fn write_next_group<R: Threads + Sync, K: Sink, G: Gate>(
     gate: &mut G,
 ) -> Result<usize, Fault>
     requires mode { IsGrouped command.now.mode }
-    requires few { length job.now.words ≤ 65536 }
     requires inside { place < length job.now.words }
-    requires rows { AreJobRows job.now.checked job.now.second judged.now.rows }
-    requires known { AreShort judged.now.rows.first.longest job.now.words }
-    requires bounds { HaveKept command.now.second job.now.checked.grammar job.now.checked.algebra
-        judged.now.compiled.items job.now.words }
-    requires admissible { AllByRecursion (IsAdmissibleWith command.now.second)
-        (posed_words job.now.checked.grammar job.now.checked.algebra job.now.words) }
+    requires judged { AreJudged command.now job.now judged.now }
     requires made { IsMadeFor command.now job.now.checked (option_copied made) }
     ensures told { SameTold (K.held out.old) (K.held out.new) }
     ensures faults { RisesWhere (K.faults out.old) (K.faults out.new) (IsWriteFault result) }
@@ -184,14 +163,9 @@ fn next_group<'a>(
     place: usize,
 ) -> Vec<Problem<'a>>
     requires inside { place < length job.now.words }
-    requires rows { AreJobRows job.now.checked job.now.second judged.now.rows }
-    requires known { AreShort judged.now.rows.first.longest job.now.words }
-    requires bounds { HaveKept command.now.second job.now.checked.grammar job.now.checked.algebra
-        judged.now.compiled.items job.now.words }
-    requires admissible { AllByRecursion (IsAdmissibleWith command.now.second)
-        (posed_words job.now.checked.grammar job.now.checked.algebra job.now.words) }
+    requires judged { AreJudged command.now job.now judged.now }
     requires made { IsMadeFor command.now job.now.checked (option_copied made) }
-    ensures few { length result.items ≤ 64 }
+    ensures few { length result.items ≤ 1024 }
     ensures small { (cells : ℕ) × HaveCells result.items cells × (cells ≤ most_cells) }
     ensures first { (asked : List PosedProblem) × (rest : List PosedProblem)
         × AllZip (IsSolvedFor command.now (option_copied made.entry)) asked result.items × (asked ++ rest

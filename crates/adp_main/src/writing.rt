@@ -1,6 +1,5 @@
 //! The reports of words that keep the limits, found and written one by one.
 ghost use Rattle.std.specs.Prelude.{◌≡◌, ◌++◌, ◌+◌, ◌<◌, ◌≤◌, [], List, ℕ, IfOk, IfSome, drop, get_or, length, None};
-ghost use Rattle.std.specs.List.{AllByRecursion};
 ghost use Rattle.adp_io.specs.Causes.{RisesWhere};
 ghost use Rattle.adp_io.specs.Streams.{SameTold};
 ghost use Rattle.verdicts.specs.Command.{ReadsJob};
@@ -10,9 +9,10 @@ ghost use Rattle.verdicts.specs.SecondAlgebra.{IsAdmissibleWith};
 ghost use Rattle.adp_main.specs.CompiledWords.{ServesItsLength};
 ghost use Rattle.adp_main.specs.Faults.{status_after};
 ghost use Rattle.adp_main.specs.FirstWords.{AreFirstEnding, IsWriteFault};
-ghost use Rattle.adp_main.specs.KeptLengths.{HasKept, HaveKept};
+ghost use Rattle.adp_main.specs.JudgedWords.{AreJudged};
+ghost use Rattle.adp_main.specs.KeptLengths.{HasKept};
 ghost use Rattle.verdicts.specs.Posed.{posed_word, posed_words};
-ghost use Rattle.adp_main.specs.Reporting.{AreReportsOf, AreShort, HasWritten};
+ghost use Rattle.adp_main.specs.Reporting.{AreReportsOf, HasWritten};
 ghost use Rattle.adp_main.specs.RunNotes.{AreNoted, IsRunOf};
 ghost use Rattle.adp_main.specs.Seconds.{AreJobRows, IsSecondOf};
 ghost use Rattle.adp_main.specs.Writing.{IsReportWritten, IsWordEnding};
@@ -46,14 +46,7 @@ pub(crate) fn write_pieces<R: Threads + Sync, K: Sink, G: Gate>(
 ) -> Result<(), Fault>
     requires reads { ReadsJob command.now.mode }
     requires finds { command.now.mode ≡ Verify → ⊥ }
-    requires few { length job.now.words ≤ 65536 }
-    requires second { IsSecondOf command.now.second job.now.checked job.now.second }
-    requires rows { AreJobRows job.now.checked job.now.second judged.now.rows }
-    requires known { AreShort judged.now.rows.first.longest job.now.words }
-    requires bounds { HaveKept command.now.second job.now.checked.grammar job.now.checked.algebra
-        judged.now.compiled.items job.now.words }
-    requires admissible { AllByRecursion (IsAdmissibleWith command.now.second)
-        (posed_words job.now.checked.grammar job.now.checked.algebra job.now.words) }
+    requires judged { AreJudged command.now job.now judged.now }
     ensures told { SameTold (K.held out.old) (K.held out.new) }
     ensures faults { RisesWhere (K.faults out.old) (K.faults out.new) (status_after result ≡ WriteFault) }
     ensures written { (reports : List (List ℕ))
@@ -103,14 +96,7 @@ pub(crate) fn write_words<R: Threads + Sync, K: Sink, G: Gate>(
 ) -> Result<(), Fault>
     requires reads { ReadsJob command.now.mode }
     requires finds { command.now.mode ≡ Verify → ⊥ }
-    requires few { length job.now.words ≤ 65536 }
-    requires second { IsSecondOf command.now.second job.now.checked job.now.second }
-    requires rows { AreJobRows job.now.checked job.now.second judged.now.rows }
-    requires known { AreShort judged.now.rows.first.longest job.now.words }
-    requires bounds { HaveKept command.now.second job.now.checked.grammar job.now.checked.algebra
-        judged.now.compiled.items job.now.words }
-    requires admissible { AllByRecursion (IsAdmissibleWith command.now.second)
-        (posed_words job.now.checked.grammar job.now.checked.algebra job.now.words) }
+    requires judged { AreJudged command.now job.now judged.now }
     ensures told { SameTold (K.held out.old) (K.held out.new) }
     ensures faults { RisesWhere (K.faults out.old) (K.faults out.new) (status_after result ≡ WriteFault) }
     ensures written { (reports : List (List ℕ))
@@ -159,15 +145,8 @@ fn write_next<R: Threads + Sync, K: Sink, G: Gate>(
 ) -> Result<usize, Fault>
     requires reads { ReadsJob command.now.mode }
     requires finds { command.now.mode ≡ Verify → ⊥ }
-    requires few { length job.now.words ≤ 65536 }
     requires inside { place < length job.now.words }
-    requires second { IsSecondOf command.now.second job.now.checked job.now.second }
-    requires rows { AreJobRows job.now.checked job.now.second judged.now.rows }
-    requires known { AreShort judged.now.rows.first.longest job.now.words }
-    requires bounds { HaveKept command.now.second job.now.checked.grammar job.now.checked.algebra
-        judged.now.compiled.items job.now.words }
-    requires admissible { AllByRecursion (IsAdmissibleWith command.now.second)
-        (posed_words job.now.checked.grammar job.now.checked.algebra job.now.words) }
+    requires judged { AreJudged command.now job.now judged.now }
     requires kept { IfSome kept.old (ServesItsLength command.now.second job.now.checked) }
     ensures kept { IfSome kept.new (ServesItsLength command.now.second job.now.checked) }
     ensures told { SameTold (K.held out.old) (K.held out.new) }
@@ -214,11 +193,7 @@ pub(crate) fn is_admitted(
     requires words { words.now ≡ job.now.words }
     requires inside { place < length words.now }
     requires word { word.now ≡ get_or words.now place word.now }
-    requires known { AreShort judged.now.rows.first.longest job.now.words }
-    requires bounds { HaveKept command.now.second job.now.checked.grammar job.now.checked.algebra
-        judged.now.compiled.items job.now.words }
-    requires admissible { AllByRecursion (IsAdmissibleWith command.now.second)
-        (posed_words job.now.checked.grammar job.now.checked.algebra job.now.words) }
+    requires judged { AreJudged command.now job.now judged.now }
     ensures known { length word.now ≤ judged.now.rows.first.longest }
     ensures bound { HasKept command.now.second job.now.checked.grammar job.now.checked.algebra
         judged.now.compiled.items (length word.now) }

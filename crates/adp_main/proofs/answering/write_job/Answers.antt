@@ -6,12 +6,18 @@ use Rattle.adp_main.proofs.Reported.{job_ending}
 use Rattle.adp_main.proofs.Told.{undone}
 use Rattle.adp_main.proofs.answering.write_job.Goals as goal
 
-pub write_pieces-requires-clause-admissible : goal.write_pieces-requires-clause-admissible
-write_pieces-requires-clause-admissible g c =
+pub write_pieces-requires-clause-judged : goal.write_pieces-requires-clause-judged
+write_pieces-requires-clause-judged g c =
     let job = c.args.job.now in
-    λ lifetimes inside.
-    own_admitted c.args.command.now (posed_words job.checked.grammar job.checked.algebra job.words)
-    c.in_ok-judged.ensures.admissible
+    λ lifetimes inside. record {
+      few = c.requires.few;
+      second = c.requires.second;
+      rows = c.in_ok-judged.ensures.rows;
+      known = c.in_ok-judged.ensures.known;
+      bounds = c.in_ok-judged.ensures.bounds;
+      admissible = own_admitted c.args.command.now
+          (posed_words job.checked.grammar job.checked.algebra job.words) c.in_ok-judged.ensures.admissible;
+    }
 
 pub returns-clause-ending : goal.returns-clause-ending
 returns-clause-ending g c =

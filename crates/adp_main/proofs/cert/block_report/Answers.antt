@@ -1,4 +1,4 @@
-use Rattle.std.proofs.Common.{List, ℕ, ◌++◌, ◌∙◌, refl, sym, ap, ap₂}
+use Rattle.std.proofs.Common.{List, ℕ, ◌++◌, ◌∙◌, sym, ap, ap₂}
 use Rattle.std.proofs.lemmas.Result.{IfOk-weaker}
 use Rattle.adp_main.proofs.Blocks.{before_first, before_later}
 use Rattle.adp_main.proofs.cert.block_report.Goals as goal

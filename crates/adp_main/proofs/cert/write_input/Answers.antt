@@ -1,7 +1,6 @@
-use Rattle.std.proofs.Common.{◌≡◌, List, ℕ, [], ◌∷◌, ◌++◌, ◌∙◌, Result, Ok, Err, codes, sym, ap, subst, arith}
+use Rattle.std.proofs.Common.{◌≡◌, [], ◌∷◌, ◌++◌, ◌∙◌, Ok, Err, codes, subst, arith}
 use Rattle.std.proofs.lemmas.Result.{err_from_is_err_and}
 use Rattle.adp_model.specs.Report.{line}
-use Rattle.verdicts.specs.Certificates.{behind_blocks}
 use Rattle.adp_main.specs.Reporting.{HasWritten}
 use Rattle.adp_main.specs.Writing.{IsReportWritten}
 use Rattle.adp_main.proofs.Behind.{behind_none, behind_some, has_first, has_joined, no_piece, one_piece}

@@ -10,7 +10,7 @@ use Rattle.adp_main.proofs.groups.next_group.Given as goal
 
 abbrev pub invariant-loop-at : goal.invariant-loop-at
 invariant-loop-at l = record {
-  few : length l.problems.items ≤ 64;
+  few : length l.problems.items ≤ 1024;
   together : HaveCells l.problems.items l.cells;
   small : l.cells ≤ most_cells;
   first : (asked : List PosedProblem) × AllZip (IsSolvedFor l.command (option_copied l.made)) asked l.problems.items

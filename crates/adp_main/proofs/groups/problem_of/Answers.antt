@@ -1,7 +1,4 @@
-use Rattle.std.proofs.Common.{Some, None, sym, ap, subst}
-use Rattle.std.specs.Option.{option_copied}
 use Rattle.verdicts.specs.Posed.{posed_word}
-use Rattle.adp_main.specs.Groups.{HasItsLength, IsMadeFor, IsSolvedFor}
 use Rattle.adp_main.proofs.FirstLimit.{own_limits}
 use Rattle.adp_main.proofs.groups.problem_of.Goals as goal
 

@@ -1,5 +1,4 @@
 use Rattle.std.proofs.Common.{ap}
-use Rattle.std.specs.List.{AllZip}
 use Rattle.std.proofs.lemmas.Result.{IfOk-weaker}
 use Rattle.verdicts.specs.declared.command.Mode.TheVariants.{Replay}
 use Rattle.verdicts.specs.Command.{Command}

@@ -1,4 +1,4 @@
-use Rattle.std.proofs.Common.{arith, subst, sym}
+use Rattle.std.proofs.Common.{arith}
 use Rattle.adp_main.proofs.FirstWords.{none_reported}
 use Rattle.adp_main.proofs.groups.write_group.Goals as goal
 

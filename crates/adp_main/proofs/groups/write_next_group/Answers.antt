@@ -1,4 +1,4 @@
-use Rattle.std.proofs.Common.{◌≡◌, ◌+◌, ◌++◌, ◌-◌, List, Ok, Err, length, drop, sym, subst, arith, ap}
+use Rattle.std.proofs.Common.{◌≡◌, ◌+◌, List, Ok, Err, length, drop, sym, subst, arith, ap}
 use Rattle.std.specs.List.{AllZip}
 use Rattle.std.specs.Option.{option_copied}
 use Rattle.std.proofs.lemmas.List.{length-append, length-drop, length-map}
@@ -7,7 +7,7 @@ use Rattle.adp_model.specs.PosedProblem.{PosedProblem}
 use Rattle.verdicts.specs.Posed.{posed_words}
 use Rattle.adp_main.specs.FirstWords.{AreFirstEnding}
 use Rattle.adp_main.specs.Groups.{IsSolvedFor}
-use Rattle.adp_main.proofs.FirstWords.{none_reported, of_more, zip_length}
+use Rattle.adp_main.proofs.FirstWords.{of_more, zip_length}
 use Rattle.adp_main.proofs.groups.write_next_group.Goals as goal
 
 pub write_group-requires-clause-few : goal.write_group-requires-clause-few

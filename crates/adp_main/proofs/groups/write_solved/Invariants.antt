@@ -1,5 +1,5 @@
 -- The problems before this place were reported and noted.
-use Rattle.std.proofs.Common.{◌≡◌, ◌≤◌, List, length, take}
+use Rattle.std.proofs.Common.{◌≡◌, List, take}
 use Rattle.std.specs.List.{AllZip}
 use Rattle.std.specs.Option.{option_copied}
 use Rattle.adp_io.specs.Streams.{SameTold}

@@ -3,7 +3,7 @@ use Rattle.adp_model.specs.Bounds.{IsNodeBound}
 use Rattle.adp_model.specs.PosedProblem.{PosedProblem}
 use Rattle.verdicts.specs.Posed.{posed_word}
 use Rattle.verdicts.specs.Command.{Command}
-use Rattle.adp_main.proofs.FirstLimit.{lists_kept, lists_passed, none_asked, own_limits}
+use Rattle.adp_main.proofs.FirstLimit.{lists_kept, lists_passed, own_limits}
 use Rattle.adp_main.proofs.limits.judge_lists.Goals as goal
 
 pub admitted-problem-requires-clause-limits : goal.admitted-problem-requires-clause-limits

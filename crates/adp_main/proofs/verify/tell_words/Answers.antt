@@ -7,7 +7,6 @@ use Rattle.table_certificate.specs.Verified.{IsRejection}
 use Rattle.verdicts.specs.Certificates.{IsRightFor}
 use Rattle.verdicts.specs.Posed.{posed_words}
 use Rattle.adp_main.specs.Reporting.{IsAdmissibleIn}
-use Rattle.adp_main.specs.Reporting.{HasWritten}
 use Rattle.adp_main.specs.Verifying.{score_reports}
 use Rattle.adp_main.proofs.Verifying.{is_told, limit_ending, rejected_ending, scores-length, told_ending, words_keep}
 use Rattle.adp_main.proofs.verify.tell_words.Goals as goal

@@ -1,5 +1,5 @@
 -- The first reports were written.
-use Rattle.std.proofs.Common.{◌≡◌, List, ℕ, take}
+use Rattle.std.proofs.Common.{◌≡◌, take}
 use Rattle.std.specs.List.{concat}
 use Rattle.std.specs.Io.KnownBytes.{Appends}
 use Rattle.adp_io.specs.Streams.{SameTold}

@@ -1,10 +1,7 @@
-use Rattle.std.proofs.Common.{◌≡◌, ◌+◌, ◌<◌, List, ℕ, [], None, length, take, drop, get_or, refl, sym, ap, subst, ◌∙◌, arith}
-use Rattle.std.proofs.lemmas.List.{get_or-drop, length-drop, length-map}
+use Rattle.std.proofs.Common.{◌≡◌, ◌+◌, ℕ, take, drop, subst, arith}
 use Rattle.std.proofs.lemmas.Result.{err_from_is_err_and}
-use Rattle.adp_model.specs.PosedProblem.{PosedProblem}
 use Rattle.verdicts.specs.Posed.{posed_word, posed_words}
 use Rattle.adp_main.specs.FirstWords.{AreReported}
-use Rattle.adp_main.proofs.FirstLimit.{posed_at}
 use Rattle.adp_main.proofs.FirstWords.{first_at, first_done, first_failed}
 use Rattle.adp_main.proofs.writing.write_next.Goals as goal
 

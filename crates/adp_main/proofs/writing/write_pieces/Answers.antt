@@ -1,7 +1,6 @@
-use Rattle.std.proofs.Common.{List, ℕ, length, ◌++◌, sym, ap, subst}
+use Rattle.std.proofs.Common.{List, ℕ, length, subst}
 use Rattle.std.proofs.lemmas.Result.{err_from_is_err_and}
 use Rattle.verdicts.specs.Certificates.{behind_reports}
-use Rattle.verdicts.specs.Posed.{posed_words}
 use Rattle.adp_main.specs.Reporting.{HasWritten}
 use Rattle.adp_main.proofs.Behind.{has_first, has_joined, noted_behind, noted_undone}
 use Rattle.adp_main.proofs.Told.{undone}

@@ -26,7 +26,7 @@ returns-in_err-place-clause-written g c =
     rw (p.1, p.2) (up_to_written command
     (λ number q admissible. c.words_have_reports.ensures command None number q c.requires.reads
     c.in_range.ensures.paired c.in_range.ensures.some_workers admissible tt)
-    all c.requires.admissible _ _ _ _ (c.loop-place.place + up.0) c.in_err-place.field-0.0
+    all c.requires.judged.admissible _ _ _ _ (c.loop-place.place + up.0) c.in_err-place.field-0.0
     (next_failed command all c.loop-place.place up.0 c.in_err-place.field-0.0 _ _ _ _ _ _
     (omega (arith, number, c.loop-place.invariant.inside)) c.loop-place.invariant.ran up.1))
 
@@ -41,7 +41,7 @@ returns-in_err-place-clause-noted g c =
     rw (p.1, p.2) (up_to_noted command
     (λ number q admissible. c.words_have_reports.ensures command None number q c.requires.reads
     c.in_range.ensures.paired c.in_range.ensures.some_workers admissible tt)
-    all c.requires.admissible _ _ _ _ (c.loop-place.place + up.0) c.in_err-place.field-0.0
+    all c.requires.judged.admissible _ _ _ _ (c.loop-place.place + up.0) c.in_err-place.field-0.0
     (next_failed command all c.loop-place.place up.0 c.in_err-place.field-0.0 _ _ _ _ _ _
     (omega (arith, number, c.loop-place.invariant.inside)) c.loop-place.invariant.ran up.1))
 
@@ -72,7 +72,7 @@ returns-clause-written g c =
     whole_written command
     (λ number q admissible. c.words_have_reports.ensures command None number q c.requires.reads
     c.in_range.ensures.paired c.in_range.ensures.some_workers admissible tt)
-    all c.requires.admissible _ _ _ _ c.loop-place.place past (take_all c.loop-place.place all past)
+    all c.requires.judged.admissible _ _ _ _ c.loop-place.place past (take_all c.loop-place.place all past)
     c.loop-place.invariant.ran
 
 pub returns-clause-noted : goal.returns-clause-noted
@@ -85,4 +85,4 @@ returns-clause-noted g c =
     whole_noted command
     (λ number q admissible. c.words_have_reports.ensures command None number q c.requires.reads
     c.in_range.ensures.paired c.in_range.ensures.some_workers admissible tt)
-    all c.requires.admissible _ _ _ _ c.loop-place.place past c.loop-place.invariant.ran
+    all c.requires.judged.admissible _ _ _ _ c.loop-place.place past c.loop-place.invariant.ran

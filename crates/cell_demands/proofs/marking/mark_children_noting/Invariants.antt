@@ -1,5 +1,4 @@
 use Rattle.std.proofs.Common.{◌-◌, ◌≤◌, length}
-use Rattle.adp_model.specs.Parts.{alternatives_of}
 use Rattle.cell_tables.specs.Marks.{AreMarkedFrom}
 use Rattle.cell_demands.specs.TailNotes.{AreTrue}
 use Rattle.cell_demands.proofs.LineDemands.{DemandsByFirst}
