@@ -607,13 +607,15 @@ find_finished() {
   finished=$(tail -n 2 "$counts" | awk '/^word/ { last = $2 } END { print last + 0 }')
 }
 
-# Has the C library ask for large pages, in which a large table is worked at faster: where the system gives them to those
-# who ask, and the caller has no settings of that library.
-ask_for_large_pages() {
+# Has the C library keep what is freed, since the next group of words takes as much again, and ask for large pages, in
+# which a large table is worked at faster, where the system gives them to those who ask. Settings of that library that
+# the caller has stand as they are.
+tune_memory() {
   local pages
   [ -z "${GLIBC_TUNABLES+set}" ] || return 0
+  export GLIBC_TUNABLES=glibc.malloc.trim_threshold=1073741824:glibc.malloc.mmap_threshold=33554432
   { read -r pages </sys/kernel/mm/transparent_hugepage/enabled; } 2>/dev/null || return 0
-  case $pages in *'[madvise]'*) export GLIBC_TUNABLES=glibc.malloc.hugetlb=1 ;; esac
+  case $pages in *'[madvise]'*) GLIBC_TUNABLES+=:glibc.malloc.hugetlb=1 ;; esac
 }
 
 # Runs the program over `input`: `fault` is then what it wrote on standard error, `status` how it ended, `finished` the
@@ -835,7 +837,7 @@ if [ -n "$time_limit" ]; then
   case $time_limit in *.*) fraction=${time_limit#*.}000000 ;; esac
   limit=$((10#${time_limit%.*} * 1000000 + 10#${fraction:0:6}))
 fi
-ask_for_large_pages
+tune_memory
 follows=
 if [ -t 2 ] || [ -n "$explains$time_limit" ]; then
   need awk dd grep tail tee

@@ -674,16 +674,19 @@ def find_program() -> str:
 
 
 def run_environment() -> dict[str, str] | None:
-    """The environment of a run, or none where it is that of this process: the C library asks for large pages, in which
-    large tables are faster, where the system gives them to those who ask, unless GLIBC_TUNABLES is set already."""
+    """The environment of a run, or none where it is that of this process, since GLIBC_TUNABLES is set already: the C
+    library keeps what is freed, since the next group of words takes as much again, and asks for large pages, in which
+    large tables are faster, where the system gives them to those who ask."""
+    if "GLIBC_TUNABLES" in os.environ:
+        return None
+    settings = ["glibc.malloc.trim_threshold=1073741824", "glibc.malloc.mmap_threshold=33554432"]
     try:
         with open("/sys/kernel/mm/transparent_hugepage/enabled", encoding="ascii") as setting:
-            given = "[madvise]" in setting.read()
+            if "[madvise]" in setting.read():
+                settings.append("glibc.malloc.hugetlb=1")
     except OSError:
-        return None
-    if not given or "GLIBC_TUNABLES" in os.environ:
-        return None
-    return {**os.environ, "GLIBC_TUNABLES": "glibc.malloc.hugetlb=1"}
+        pass
+    return {**os.environ, "GLIBC_TUNABLES": ":".join(settings)}
 
 
 def solve(job: str | None = None, *, words: Iterable[str] | None = None, mode: str | None = None,
