@@ -1,11 +1,14 @@
 -- The blocks of rows and of columns: which far ends the counted cells of a rule and a near end have, and where what is
 -- kept of them stands.
 use Rattle.std.specs.Prelude.{◌≡◌, ◌↔◌, ℕ, ◌+◌, ◌-◌, ◌*◌, ◌/◌, ◌<◌, ◌≤◌, List, length, take, sum_by, slice_index_or}
+use Rattle.std.specs.Arc.{arc_value}
 use Rattle.adp_model.specs.declared.grammar.Grammar.{Grammar}
 use Rattle.adp_model.specs.declared.cell.Cell.{Cell}
 use Rattle.adp_model.specs.Cells.{IsCounted, IsPlaceOf}
 use Rattle.cell_layouts.specs.declared.cells.RuleBounds.{RuleBounds}
+use Rattle.cell_layouts.specs.declared.laid_out.LaidOut.{LaidOut}
 use Rattle.cell_layouts.specs.declared.layout.Block.{Block}
+use Rattle.cell_layouts.specs.declared.layout.Laid.{Laid}
 use Rattle.cell_layouts.specs.declared.layout.Side.{Side}
 use Rattle.cell_layouts.specs.declared.layout.Side.TheVariants.{Rows, Columns}
 use Rattle.cell_layouts.specs.CountedCells.{LeavesSpan}
@@ -83,3 +86,18 @@ pub record AreCountedWords (grammar : Grammar) (len : ℕ) (side : Side) (count 
   pub laid : AreLaid words count
   pub there : (rule near far : ℕ) → IsCounted grammar len (cell_at side rule near far)
       → ((block_in words len rule near).first ≤ far / 64) × (far / 64 < (block_in words len rule near).past)
+
+-- the blocks are those of the counted cells of words of this length
+abbrev pub AreLaidBlocks : Grammar → ℕ → Side → Laid → Type 0
+AreLaidBlocks grammar len side laid = AreCountedBlocks grammar len side laid.count laid.blocks.items
+
+-- the blocks of numbers hold a bit for each counted cell of words of this length
+abbrev pub AreLaidWords : Grammar → ℕ → Side → Laid → Type 0
+AreLaidWords grammar len side laid = AreCountedWords grammar len side laid.count laid.blocks.items
+
+-- what is laid out is that of the counted cells of words of this length
+pub record IsLaidOut (grammar : Grammar) (len : ℕ) (laid : LaidOut) : Type 0 where
+  pub rows : AreLaidBlocks grammar len Rows (arc_value laid.rows)
+  pub columns : AreLaidBlocks grammar len Columns (arc_value laid.columns)
+  pub row_words : AreLaidWords grammar len Rows (arc_value laid.row_words)
+  pub column_words : AreLaidWords grammar len Columns (arc_value laid.column_words)

@@ -1,3 +1,2 @@
 pub mod CountedCells
 pub mod Layout
-pub mod LayoutFields

@@ -3,7 +3,7 @@
 ghost use Rattle.std.specs.Prelude.{◌≡◌, ℕ, ◌<◌, IfOk, length};
 ghost use Rattle.std.specs.Arc.{arc_value};
 ghost use Rattle.adp_model.specs.Cells.{IsCellBound, IsCounted, IsPlaceOf};
-ghost use Rattle.cell_layouts.specs.LayoutFields.{AreLaidBlocks};
+ghost use Rattle.cell_layouts.specs.Layout.{AreLaidBlocks};
 ghost use Rattle.cell_layouts.specs.declared.layout.Side.TheVariants.{Rows};
 
 use crate::layout::{Laid, Layout};
@@ -28,7 +28,10 @@ impl<'a> Model for Places<'a> {
 
     ghost Value = { PosedProblem };
 
-    ghost use Rattle.cell_layouts.specs.LayoutFields.{ArePlaces};
+    ghost use Rattle.std.specs.Prelude.{length};
+    ghost use Rattle.std.specs.Arc.{arc_value};
+    ghost use Rattle.cell_layouts.specs.Layout.{AreLaidBlocks};
+    ghost use Rattle.cell_layouts.specs.declared.layout.Side.TheVariants.{Rows};
     ghost use Rattle.adp_model.specs.WideForm.{form_code};
     ghost use Rattle.std.specs.Coded.{codes};
 
@@ -36,13 +39,14 @@ impl<'a> Model for Places<'a> {
 
     ghost view = { λ places. places.problem.now };
 
-    ghost invariant = { ArePlaces };
+    ghost invariant = { λ places.
+        AreLaidBlocks places.problem.now.grammar (length places.problem.now.word) Rows (arc_value places.rows) };
 }
 
 impl<'a> Places<'a> {
     /// The places by the blocks of the problem's counted cells in rows.
     pub(crate) fn new(problem: &'a Problem<'a>, rows: Arc<Laid, Global>) -> Places<'a>
-        requires { AreLaidBlocks problem.now Rows (arc_value rows) }
+        requires { AreLaidBlocks problem.now.grammar (length problem.now.word) Rows (arc_value rows) }
         ensures { result ≡ problem.now }
     {
         Places { problem, rows }

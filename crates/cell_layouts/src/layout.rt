@@ -3,10 +3,10 @@
 ghost use Rattle.std.specs.Prelude.{◌≡◌, ◌↔◌, ◌<◌, ◌≤◌, ◌+◌, IfOk, IsTrue, length};
 ghost use Rattle.std.specs.Arc.{arc_value};
 ghost use Rattle.adp_model.specs.Cells.{AreCountedEnds, IsCellBound, IsCounted};
-ghost use Rattle.cell_layouts.specs.Layout.{AreCountedBlocks, AreCountedWords, ArePlaced};
+ghost use Rattle.cell_layouts.specs.Layout.{AreCountedBlocks, AreCountedWords, ArePlaced, IsLaidOut};
 ghost use Rattle.cell_layouts.specs.declared.layout.Side.TheVariants.{Rows as RowSide, Columns as ColumnSide};
 
-use crate::laying::{laid_blocks, laid_words};
+use crate::laid_out::LaidOut;
 use adp_model::laws::cells::places_go_on;
 use adp_model::laws::well_formed::numbers_fit_together;
 use adp_model::{Cell, Problem};
@@ -38,16 +38,13 @@ pub struct Laid {
     pub count: u32,
 }
 
-/// Where what is kept of the counted cells of a problem lies in rows and in columns: a value for each, or a bit, 64 in
-/// a number. It is worked out once; what is kept of the cells counts its blocks up and copies none. Takes 32 bytes for
-/// each rule and position. Contracts see it as the problem.
+/// Where what is kept of the counted cells of a problem lies in rows and in columns: what is laid out for words of its
+/// grammar that are as long as its word. It is worked out once; what is kept of the cells counts its blocks up and
+/// copies none. Contracts see it as the problem.
 #[derive(Drop)]
 pub struct Layout<'a> {
     problem: &'a Problem<'a>,
-    rows: Arc<Laid, Global>,
-    columns: Arc<Laid, Global>,
-    row_words: Arc<Laid, Global>,
-    column_words: Arc<Laid, Global>,
+    laid: LaidOut,
 }
 
 impl<'a> Model for Layout<'a> {
@@ -55,7 +52,8 @@ impl<'a> Model for Layout<'a> {
 
     ghost Value = { PosedProblem };
 
-    ghost use Rattle.cell_layouts.specs.LayoutFields.{AreLaidOut};
+    ghost use Rattle.std.specs.Prelude.{length};
+    ghost use Rattle.cell_layouts.specs.Layout.{IsLaidOut};
     ghost use Rattle.adp_model.specs.WideForm.{form_code};
     ghost use Rattle.std.specs.Coded.{codes};
 
@@ -63,7 +61,8 @@ impl<'a> Model for Layout<'a> {
 
     ghost view = { λ layout. layout.problem.now };
 
-    ghost invariant = { AreLaidOut };
+    ghost invariant = { λ layout.
+        IsLaidOut layout.problem.now.grammar (length layout.problem.now.word) layout.laid };
 }
 
 impl<'a> Layout<'a> {
@@ -71,17 +70,18 @@ impl<'a> Layout<'a> {
     pub fn new(alloc: Global, problem: &'a Problem<'a>) -> Result<Layout<'a>, AllocError>
         ensures { IfOk result (λ layout. layout ≡ problem.now) }
     {
-        let rows = laid_blocks(alloc, problem, Side::Rows)?;
-        let columns = laid_blocks(alloc, problem, Side::Columns)?;
-        let row_words = laid_words(alloc, problem, Side::Rows, &rows)?;
-        let column_words = laid_words(alloc, problem, Side::Columns, &columns)?;
         Ok(Layout {
             problem,
-            rows: Arc::new(alloc, rows)?,
-            columns: Arc::new(alloc, columns)?,
-            row_words: Arc::new(alloc, row_words)?,
-            column_words: Arc::new(alloc, column_words)?,
+            laid: LaidOut::new(alloc, problem)?,
         })
+    }
+
+    /// The layout of a problem by what was laid out for a word of its grammar that is as long. Takes no memory.
+    pub fn over(problem: &'a Problem<'a>, laid: LaidOut) -> Layout<'a>
+        requires { IsLaidOut problem.now.grammar (length problem.now.word) laid }
+        ensures { result ≡ problem.now }
+    {
+        Layout { problem, laid }
     }
 
     /// The same layout once more: it is counted up, and nothing is copied. Fails where it was counted up too often.
@@ -90,11 +90,16 @@ impl<'a> Layout<'a> {
     {
         Ok(Layout {
             problem: self.problem,
-            rows: Arc::try_clone(&self.rows)?,
-            columns: Arc::try_clone(&self.columns)?,
-            row_words: Arc::try_clone(&self.row_words)?,
-            column_words: Arc::try_clone(&self.column_words)?,
+            laid: self.laid.shared()?,
         })
+    }
+
+    /// What is laid out, once more, for other words of the grammar that are as long: it is counted up, and nothing is
+    /// copied. Fails where it was counted up too often.
+    pub fn laid(&self) -> Result<LaidOut, AllocError>
+        ensures { IfOk result (IsLaidOut self.now.grammar (length self.now.word)) }
+    {
+        self.laid.shared()
     }
 
     /// The problem. Takes no memory.
@@ -120,7 +125,7 @@ impl<'a> Layout<'a> {
         ensures count { IsCellBound self.now.grammar (length self.now.word) (arc_value result.now).count }
     {
         places_go_on();
-        &self.rows
+        &self.laid.rows
     }
 
     /// The blocks of the counted cells in columns. Takes no memory.
@@ -128,7 +133,7 @@ impl<'a> Layout<'a> {
         ensures { AreCountedBlocks self.now.grammar (length self.now.word) ColumnSide
             (arc_value result.now).count (arc_value result.now).blocks.items }
     {
-        &self.columns
+        &self.laid.columns
     }
 
     /// The blocks of the numbers that hold a bit for each counted cell, in rows or in columns. Takes no memory.
@@ -137,8 +142,8 @@ impl<'a> Layout<'a> {
             (arc_value result.now).count (arc_value result.now).blocks.items }
     {
         match side {
-            Side::Rows => &self.row_words,
-            Side::Columns => &self.column_words,
+            Side::Rows => &self.laid.row_words,
+            Side::Columns => &self.laid.column_words,
         }
     }
 
@@ -152,7 +157,7 @@ impl<'a> Layout<'a> {
     {
         numbers_fit_together();
         let number = rule as usize * self.positions() as usize + from as usize;
-        let block = self.rows.blocks[number];
+        let block = self.laid.rows.blocks[number];
         block.first..block.past
     }
 

@@ -4,12 +4,14 @@
 
 mod cells;
 mod counted_places;
+mod laid_out;
 mod laying;
 mod layout;
 mod numbering;
 
 pub use cells::cell_bound;
 pub use counted_places::Places;
+pub use laid_out::LaidOut;
 pub use laying::WORD;
 pub use layout::{Block, Laid, Layout, Side};
 pub use numbering::places;

@@ -11,7 +11,7 @@ mod noted;
 mod table;
 
 pub use bits::set_each;
-pub use cell_layouts::{Layout, Side, WORD};
+pub use cell_layouts::{LaidOut, Layout, Side, WORD};
 pub use grid::{Grid, set_places};
 pub use marks::Marks;
 pub use noted::Noted;

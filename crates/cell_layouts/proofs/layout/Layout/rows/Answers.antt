@@ -9,7 +9,7 @@ use Rattle.cell_layouts.proofs.layout.Layout.rows.Goals as goal
 pub returns-clause-places : goal.returns-clause-places
 returns-clause-places c =
     let p = c.self.inside.problem.now in
-    let laid = arc_value c.self.inside.rows in
+    let laid = arc_value c.self.inside.laid.rows in
     let go_on = c.places_go_on.ensures in
     let P : PosedProblem → Type 0 = λ q. ArePlaced q.grammar (length q.word) laid.blocks.items in
     subst P c.self.view_is
@@ -20,7 +20,7 @@ returns-clause-places c =
 pub returns-clause-count : goal.returns-clause-count
 returns-clause-count c =
     let p = c.self.inside.problem.now in
-    let laid = arc_value c.self.inside.rows in
+    let laid = arc_value c.self.inside.laid.rows in
     let go_on = c.places_go_on.ensures in
     let P : PosedProblem → Type 0 = λ q. IsCellBound q.grammar (length q.word) laid.count in
     subst P c.self.view_is
