@@ -2,7 +2,8 @@
 use Rattle.std.proofs.Common.{◌≡◌, ◌↔◌, ℕ, suc, ◌+◌, ◌-◌, ◌*◌, ◌^◌, ◌<◌, ◌≤◌, min, ℤ, pos, ◌+ℤ◌, ◌-ℤ◌, nat_abs, true, false, Option, Some, None, List, [], ◌∷◌, ◌++◌, length, take, drop, get_or, refl, sym, ap, subst, ◌∙◌, inl, inr, arith, length-drop}
 use Rattle.std.specs.List.{AllByRecursion}
 use Rattle.std.specs.Option.{is_some}
-use Rattle.std.proofs.lemmas.Bool.{cases_lt, false≢true}
+use Rattle.std.specs.Prelude.{◌==◌}
+use Rattle.std.proofs.lemmas.Bool.{cases_Bool, cases_lt, false≢true}
 use Rattle.std.proofs.lemmas.Int.{ints}
 use Rattle.std.proofs.lemmas.List.{take_more, get_or-drop, drop_more, take-take, take-append-drop, drop-take}
 use Rattle.adp_model.specs.PosedProblem.{PosedProblem, IsSpan}
@@ -166,3 +167,32 @@ class_end_at p class from last end ahead span are end_is =
   where
     none : (from : ℕ) → AllByRecursion (IsIn (letters_of p.grammar class)) (letters_between p.word from from)
     none from = rw (no_letters p.word from from (omega arith)) tt
+
+-- ---- a class whose letters weigh nothing
+
+abbrev pub WeighNothing : List (ℕ × ℤ) → Type 0
+WeighNothing class = (k : ℕ) (d : ℕ × ℤ) → k < length class → (get_or class k d).1 ≡ pos 0
+
+weighs_nothing : (class : List (ℕ × ℤ)) (letter : ℕ) (weight : ℤ) → WeighNothing class → weight_of class letter ≡ Some weight → weight ≡ pos 0
+weighs_nothing [] letter weight nothing e = absurd cc
+weighs_nothing (entry ∷ entries) letter weight nothing e =
+    elim (cases_Bool (entry.0 == letter)) [
+      | inl here ↦
+          let found : weight_of (entry ∷ entries) letter ≡ Some entry.1 = rw here refl in
+          let none : entry.1 ≡ pos 0 = nothing 0 entry (omega arith) in
+          let same : entry.1 ≡ weight = cc in
+          sym same ∙ none
+      | inr there ↦
+          let missed : weight_of (entry ∷ entries) letter ≡ weight_of entries letter = rw there refl in
+          weighs_nothing entries letter weight (λ k d l. nothing (suc k) d (omega (arith, l))) (sym missed ∙ e)
+    ]
+
+total_nothing_more : (class : List (ℕ × ℤ)) (letter : ℕ) (letters : List ℕ) (found : Option ℤ) → WeighNothing class → weight_of class letter ≡ found → total_weight class letters ≡ pos 0 → total_weight class (letter ∷ letters) ≡ pos 0
+total_nothing_more class letter letters None nothing e others = total_missed class letter letters e ∙ others
+total_nothing_more class letter letters (Some weight) nothing e others =
+    omega (arith, ints, total_found class letter letters weight e, weighs_nothing class letter weight nothing e, others)
+
+pub total_nothing : (class : List (ℕ × ℤ)) (letters : List ℕ) → WeighNothing class → total_weight class letters ≡ pos 0
+total_nothing class [] nothing = refl
+total_nothing class (letter ∷ letters) nothing =
+    total_nothing_more class letter letters (weight_of class letter) nothing refl (total_nothing class letters nothing)

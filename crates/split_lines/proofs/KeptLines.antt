@@ -1,6 +1,5 @@
--- Lists of tokens under their numbers, and what is kept of alternatives, as both grow.
-use Rattle.std.proofs.Common.{◌≡◌, ℕ, ◌+◌, ◌<◌, Option, Some, None, List, [], ◌∷◌, ◌++◌, length, get_or, refl, sym, ap, subst, ◌∙◌, inl, inr, arith}
-use Rattle.std.specs.Prelude.{IfSome}
+-- Middles under their numbers, and what is kept of alternatives, as both grow.
+use Rattle.std.proofs.Common.{◌≡◌, ℕ, ◌+◌, ◌<◌, ◌≤◌, Option, Some, None, List, [], ◌∷◌, ◌++◌, length, get_or, refl, sym, ap, subst, ◌∙◌, inl, inr, arith}
 use Rattle.std.proofs.lemmas.Bool.{cases_lt}
 use Rattle.std.proofs.lemmas.List.{get_or_past, get_or_append_left, get_or_push, length_push}
 use Rattle.adp_model.specs.declared.grammar.Arg.{Arg}
@@ -8,23 +7,24 @@ use Rattle.adp_model.specs.declared.grammar.Rule as rules
 use Rattle.adp_model.specs.declared.grammar.Grammar.{Grammar}
 use Rattle.adp_model.specs.PosedProblem.{PosedProblem}
 use Rattle.adp_model.specs.Parts.{alternatives_of, arguments_of}
+use Rattle.adp_model.specs.ProblemFields.{most_letters}
 use Rattle.split_lines.specs.declared.kept.KeptAlternative.{KeptAlternative}
-use Rattle.split_lines.specs.declared.lines.KeptLine.{KeptLine}
-use Rattle.split_lines.specs.declared.lines.KeptRule.{KeptRule}
-use Rattle.split_lines.specs.declared.lines.Middle.{Middle}
-use Rattle.split_lines.specs.Matching.{AreMatches}
-use Rattle.split_lines.specs.LinesFields.{AreMiddles, HasAllOf, IsNumberOf, IsMiddle, IsKeptOrNone, IsKeptOf, AreKept, IsKeptRule, AreKeptRules}
+use Rattle.split_lines.specs.declared.kept_rules.KeptLine.{KeptLine}
+use Rattle.split_lines.specs.declared.kept_rules.KeptRule.{KeptRule}
+use Rattle.split_lines.specs.declared.kept_rules.KeptRules.{KeptRules}
+use Rattle.split_lines.specs.declared.kept_rules.Middle.{Middle}
+use Rattle.split_lines.specs.KeptRules.{AreMiddles, AreKeptFor, AreTokens, HasAllOf, IsNumberOf, IsKeptOrNone, IsKeptOf, AreKept, IsKeptRule, AreKeptRules}
 use Rattle.split_lines.proofs.Growing.{each_more}
 
--- one more list of tokens
-pub middles_more : (p : PosedProblem) (middles : List Middle) (middle : Middle) → AreMiddles p middles → AreMatches p middle.tokens.now middle.matches → AreMiddles p (middles ++ middle ∷ [])
-middles_more p middles middle are is number d l =
-    each_more (λ k (it : Middle). AreMatches p it.tokens.now it.matches) middles (length middles) middle refl are is number d (omega (arith, l, length_push middles middle))
+-- one more middle
+pub middles_more : (grammar : Grammar) (middles : List Middle) (middle : Middle) → AreMiddles grammar middles → AreTokens grammar middle.tokens.now → AreMiddles grammar (middles ++ middle ∷ [])
+middles_more grammar middles middle are is number d l =
+    each_more (λ k (it : Middle). AreTokens grammar it.tokens.now) middles (length middles) middle refl are is number d (omega (arith, l, length_push middles middle))
 
-pub has_all_more : (middles : List Middle) (middle : Middle) → HasAllOf middles (middles ++ middle ∷ [])
-has_all_more middles middle = record {
-  longer = λ number l. omega (arith, l, length_push middles middle);
-  same = λ number d l. get_or_append_left middles (middle ∷ []) d number l;
+pub has_all_more : {X : Type 0} (items : List X) (item : X) → HasAllOf items (items ++ item ∷ [])
+has_all_more items item = record {
+  longer = λ number l. omega (arith, l, length_push items item);
+  same = λ number d l. get_or_append_left items (item ∷ []) d number l;
 }
 
 pub number_of_last : (middles : List Middle) (middle : Middle) (tokens : List Arg) (number : ℕ) → number ≡ length middles → middle.tokens.now ≡ tokens → IsNumberOf (middles ++ middle ∷ []) tokens number
@@ -35,7 +35,10 @@ number_of_last middles middle tokens number last are = record {
 
 -- ---- what was kept before is kept still
 
-pub has_all-trans : (first second third : List Middle) → HasAllOf first second → HasAllOf second third → HasAllOf first third
+pub has_all-refl : {X : Type 0} (items : List X) → HasAllOf items items
+has_all-refl items = record { longer = λ number l. l; same = λ number d l. refl }
+
+pub has_all-trans : {X : Type 0} (first second third : List X) → HasAllOf first second → HasAllOf second third → HasAllOf first third
 has_all-trans first second third one two = record {
   longer = λ number l. two.longer number (one.longer number l);
   same = λ number d l. two.same number d (one.longer number l) ∙ one.same number d l;
@@ -47,15 +50,11 @@ number_still old new tokens number longer is = record {
   tokens_are = λ d. ap (λ (it : Middle). it.tokens.now) (longer.same number d is.within) ∙ is.tokens_are d;
 }
 
-middle_still : (p : PosedProblem) (old new : List Middle) (tokens : List Arg) (number : Option ℕ) → HasAllOf old new → IsMiddle p old tokens number → IsMiddle p new tokens number
-middle_still p old new tokens None longer none = none
-middle_still p old new tokens (Some number) longer is = number_still old new tokens number longer is
-
 pub line_still : (p : PosedProblem) (old new : List Middle) (arguments : List Arg) (line : Option KeptLine) → HasAllOf old new → IsKeptOrNone p old arguments line → IsKeptOrNone p new arguments line
 line_still p old new arguments None longer none = none
 line_still p old new arguments (Some line) longer kept = record {
   has_line = kept.has_line;
-  middle = middle_still p old new _ line.middle longer kept.middle;
+  middle = number_still old new _ line.middle longer kept.middle;
   tail = kept.tail;
   before = kept.before;
   behind = kept.behind;
@@ -105,22 +104,15 @@ rule_there grammar rule alternative l =
 pub kept_of_rule : (p : PosedProblem) (middles : List Middle) (rules : List KeptRule) (rule : ℕ) (it : KeptRule) → rule < length p.grammar.rules → AreKeptRules p middles (length p.grammar.rules) rules → it ≡ get_or rules rule it → IsKeptRule p middles rule it
 kept_of_rule p middles rules rule it l are is = subst (IsKeptRule p middles rule) (sym is) (are.are rule it l)
 
--- what is kept of the line of an alternative
-pub kept_at : (p : PosedProblem) (middles : List Middle) (rules : List KeptRule) (rule alternative : ℕ) (it : KeptRule) (kept : KeptAlternative) → alternative < length (alternatives_of p.grammar rule) → AreKeptRules p middles (length p.grammar.rules) rules → it ≡ get_or rules rule it → kept ≡ get_or it.alternatives.items alternative kept → IsKeptOrNone p middles (arguments_of p.grammar rule alternative) kept.line
-kept_at p middles rules rule alternative it kept l are it_is kept_is =
-    let of_rule = kept_of_rule p middles rules rule it (rule_there p.grammar rule alternative l) are it_is in
-    let L : KeptAlternative → Type 0 = λ it. IsKeptOrNone p middles (arguments_of p.grammar rule alternative) it.line in
-    subst L (sym kept_is) (of_rule.alternatives.are alternative kept l).line
+-- what is kept for all words, for the word of this problem
+pub rules_now : (p : PosedProblem) (kept : KeptRules) → length p.word ≤ most_letters → AreKeptFor p.grammar p.algebra kept → AreKeptRules p kept.middles.items (length p.grammar.rules) kept.rules.items
+rules_now p kept short are = are.rules_are p.word short
 
--- where the tokens match that a list is of
-pub middle_at : (p : PosedProblem) (middles : List Middle) (tokens : List Arg) (number : ℕ) (middle : Middle) → AreMiddles p middles → IsNumberOf middles tokens number → middle ≡ get_or middles number middle → AreMatches p tokens middle.matches
-middle_at p middles tokens number middle are of is =
-    let M : Middle → Type 0 = λ it. AreMatches p it.tokens.now it.matches in
-    let here : M middle = subst M (sym is) (are number middle of.within) in
-    let tokens_are : middle.tokens.now ≡ tokens = ap (λ (it : Middle). it.tokens.now) is ∙ of.tokens_are middle in
-    subst (λ tokens. AreMatches p tokens middle.matches) tokens_are here
+-- a kept rule that is read
+pub kept_rule_read : (p : PosedProblem) (kept read : KeptRules) (rule : ℕ) (it : KeptRule) → rule < length p.grammar.rules → length p.word ≤ most_letters → AreKeptFor p.grammar p.algebra kept → read ≡ kept → it ≡ get_or read.rules.items rule it → IsKeptRule p kept.middles.items rule it
+kept_rule_read p kept read rule it l short are same is =
+    kept_of_rule p kept.middles.items kept.rules.items rule it l (rules_now p kept short are) (is ∙ ap (λ (read : KeptRules). get_or read.rules.items rule it) same)
 
--- the number of a list that there is
-pub middle_within : (p : PosedProblem) (middles : List Middle) (tokens : List Arg) (number : Option ℕ) → IsMiddle p middles tokens number → IfSome number (λ number. number < length middles)
-middle_within p middles tokens None none = tt
-middle_within p middles tokens (Some number) of = of.within
+-- a kept alternative that is read
+pub alternative_read : (p : PosedProblem) (middles : List Middle) (rule alternative : ℕ) (it : KeptRule) (kept : KeptAlternative) → alternative < length (alternatives_of p.grammar rule) → IsKeptRule p middles rule it → kept ≡ get_or it.alternatives.items alternative kept → IsKeptOf p middles rule alternative kept
+alternative_read p middles rule alternative it kept l of_rule is = subst (IsKeptOf p middles rule alternative) (sym is) (of_rule.alternatives.are alternative kept l)

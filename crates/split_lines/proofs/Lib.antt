@@ -3,6 +3,7 @@ pub mod OpeningBits
 pub mod ClassFacts
 pub mod Dividing
 pub mod ExtentPositions
+pub mod FoundLists
 pub mod Fronts
 pub mod Growing
 pub mod KeptLines

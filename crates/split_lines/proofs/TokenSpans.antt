@@ -31,9 +31,9 @@ cover_within p [] from to l h = omega arith
 cover_within p (argument ∷ arguments) from to l h = cover_within p arguments h.0 to h.1.0.in_word h.2
 
 -- one more token before others
-pub more_letters : (p : PosedProblem) (token : Arg) (later : List Arg) (first rest all : ℕ) → IsFixed token → HaveLetters p later rest → first ≡ min (fixed_length token) (length p.word + 1) → all ≡ min (length p.word + 1) (first + rest) → HaveLetters p (token ∷ later) all
-more_letters p token later first rest all fixed others first_is all_is from to h =
+pub more_letters : (p : PosedProblem) (token : Arg) (later : List Arg) (first rest all : ℕ) → length p.word ≤ 4000 → IsFixed token → HaveLetters p later rest → first ≡ min (fixed_length token) 4001 → all ≡ min 4001 (first + rest) → HaveLetters p (token ∷ later) all
+more_letters p token later first rest all short fixed others first_is all_is from to h =
     let one = fixed_span p token from h.0 fixed h.1 in
     let two = others h.0 to h.2 in
     let within = cover_within p later h.0 to h.1.0.in_word h.2 in
-    omega (arith, one, two, within)
+    omega (arith, one, two, within, short)

@@ -2,12 +2,17 @@ pub mod Beginnings
 pub mod Begins
 pub mod ClassFields
 pub mod Classes
+pub mod EachWord
 pub mod Ends
 pub mod Extents
 pub mod Flags
+pub mod Found
 pub mod Kept
+pub mod KeptRules
 pub mod Laid
 pub mod Lines
 pub mod LinesFields
 pub mod Matching
+pub mod Shared
+pub mod SharedFields
 pub mod Ways

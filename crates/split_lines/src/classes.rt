@@ -1,8 +1,9 @@
 //! What the letters of a word tell of its problem's classes.
 
-ghost use Rattle.std.specs.Prelude.{◌≡◌, ◌<◌, ◌≤◌, IfOk, length};
+ghost use Rattle.std.specs.Prelude.{◌≡◌, ℕ, ◌<◌, ◌≤◌, IfOk, List, length, pos};
+ghost use Rattle.std.specs.Bool.{OnTrue};
 ghost use Rattle.adp_model.specs.Parts.{letters_of};
-ghost use Rattle.adp_model.specs.Tokens.{weight_of};
+ghost use Rattle.adp_model.specs.Tokens.{total_weight, weight_of};
 ghost use Rattle.split_lines.specs.Classes.{AreLetterWeights, AreSums, IsAhead, IsBehind, IsTable};
 
 use adp_model::Problem;
@@ -89,12 +90,27 @@ fn ahead(alloc: Global, class: Weighed<'_>, word: &[u8]) -> Result<Vec<u16>, All
     Ok(ahead)
 }
 
+/// Whether no letter of the class weighs anything.
+fn is_weightless(class: &[(u8, i64)]) -> bool
+    ensures { OnTrue result ((letters : List ℕ) → total_weight class.now letters ≡ pos 0) }
+{
+    for (_, weight) in class {
+        if *weight != 0 {
+            return false;
+        }
+    }
+    true
+}
+
 /// For each position the weights of the letters before it, added up.
 fn sums(alloc: Global, class: Weighed<'_>, word: &[u8]) -> Result<Vec<i128>, AllocError>
     requires short { length word.now ≤ 4000 }
     requires class { AreLetterWeights class.class.now class.weights.now }
     ensures { IfOk result (λ sums. AreSums class.entry.class.now word.now sums.items) }
 {
+    if is_weightless(class.class) {
+        return vec![in alloc; 0; word.len() + 1];
+    }
     let mut sums = Vec::with_capacity(alloc, word.len() + 1)?;
     let mut sum = 0;
     sums.push(sum)?;

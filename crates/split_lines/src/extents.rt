@@ -7,6 +7,7 @@ ghost use Rattle.adp_model.specs.ProblemFields.{most_letters};
 ghost use Rattle.adp_model.specs.WellFormed.{IsKnown};
 ghost use Rattle.viable_splits.specs.Placing.{AreEnds};
 ghost use Rattle.split_lines.specs.Begins.{AreStarts};
+ghost use Rattle.split_lines.specs.EachWord.{AtEachWord};
 ghost use Rattle.split_lines.specs.Extents.{AreOfClass, IsExtent};
 ghost use Rattle.split_lines.specs.Laid.{IsFixed};
 
@@ -48,7 +49,7 @@ fn extent_between(least: u32, most: Option<u32>, class: Option<u32>) -> Extent
 pub fn extent_of(problem: &Problem<'_>, argument: &Arg) -> Extent
     requires known { IsKnown problem.now.grammar argument.now }
     requires open_length { IsFixed argument.now → ⊥ }
-    ensures { IsExtent problem.now argument.now result }
+    ensures { AtEachWord problem.now.grammar problem.now.algebra (λ p. IsExtent p argument.now result) }
 {
     match argument {
         Arg::Rule(rule) => {

@@ -13,11 +13,12 @@ ghost use Rattle.split_lines.specs.declared.kept.WeightedSum.{WeightedSum as Dec
 ghost use Rattle.score_numbers.specs.Turned.{turned};
 ghost use Rattle.score_numbers.specs.Worthless.{AreWorthless};
 ghost use Rattle.split_lines.specs.Laid.{IsFixed};
+ghost use Rattle.split_lines.specs.EachWord.{AtEachWord};
 ghost use Rattle.split_lines.specs.Kept.{AreInFront, AreOneLetter, AreOneOfClass, HasLengths, IsAlternative, IsAmong, factors_behind, factors_in_front};
 ghost use Rattle.split_lines.specs.Ways.{MayFill, MaySpan, IsClosed, IsOpening};
 
 use crate::classes::ClassTables;
-use crate::lines::KeptLine;
+use crate::kept_rules::KeptLine;
 use crate::matches::{covers, fixed_letters};
 use crate::tokens::{first_letter, is_fixed, stands};
 use adp_model::laws::well_formed::alternatives_fit;
@@ -34,7 +35,7 @@ pub struct KeptAlternative<'a> {
     pub front: &'a [Arg],
     /// The arguments from that one on.
     pub others: &'a [Arg],
-    /// How many letters the tokens in front have, or one more than the word has, where they have more than that.
+    /// How many letters the tokens in front have, or 4,001, where they have more than any word.
     pub letters: u16,
     /// The letter with which they begin, where the first one is a literal that is not empty.
     pub first: Option<u8>,
@@ -214,14 +215,15 @@ fn lengths_of(alternative: &Alt) -> Lengths
 /// An alternative, made ready; its line is found apart. By a term that is linear, or is so by its form, it is scored as
 /// a sum, by any other term by that. Takes time for each argument and for the letters of literals.
 pub fn kept_alternative<'a>(
-    problem: &'a Problem<'a>,
+    problem: &Problem<'a>,
     rule: u32,
     alt: u8,
     line: Option<KeptLine>,
 ) -> KeptAlternative<'a>
     requires rule { rule < length problem.now.grammar.rules }
     requires alternative { alt < length (alternatives_of problem.now.grammar rule) }
-    ensures alternative { IsAlternative problem.now rule alt result }
+    ensures alternative { AtEachWord problem.now.grammar problem.now.algebra
+        (λ p. IsAlternative p rule alt result) }
     ensures line { result.line ≡ line }
 {
     further_factors_add_nothing();
@@ -237,7 +239,7 @@ pub fn kept_alternative<'a>(
     KeptAlternative {
         front,
         others,
-        letters: fixed_letters(problem, front) as u16,
+        letters: fixed_letters(front) as u16,
         first: first_letter(front),
         alone: are_one_letter(front),
         class: class_of(front),

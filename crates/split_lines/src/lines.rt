@@ -20,17 +20,18 @@ ghost use Rattle.split_lines.specs.Flags.{AreBitsAmong};
 ghost use Rattle.score_numbers.specs.Limits.{AreLimited};
 ghost use Rattle.split_lines.specs.Lines.{IsLine, IsLastOpen, HasLine, LeavesPosition, parts_by};
 ghost use Rattle.split_lines.specs.Ways.{IsClosed, IsOpening, IsWay};
-ghost use Rattle.split_lines.specs.LinesFields.{AreMiddles, AreNowhere, HasAllOf, IsKeptOrNone, IsKeptRule, IsMiddle};
+ghost use Rattle.split_lines.specs.KeptRules.{AreKeptFor, kept_of};
 ghost use Rattle.split_lines.specs.Beginnings.{IsCandidate};
 ghost use Rattle.split_lines.specs.Matching.{AreMatches};
 
-use crate::beginnings::{Beginnings, Candidates};
+use crate::beginnings::Candidates;
 use crate::classes::ClassTables;
-use crate::extents::{Extent, extent_of};
-use crate::kept::{KeptAlternative, kept_alternative, opening};
-use crate::matches::{Matches, covers, fixed_letters, match_nowhere};
+use crate::extents::Extent;
+use crate::found::Found;
+use crate::kept::{KeptAlternative, opening};
+use crate::kept_rules::{Kept, kept_rules};
+use crate::matches::{Matches, covers};
 use crate::spans;
-use crate::tokens::{first_letter, first_text, is_fixed};
 use crate::ways::Way;
 use adp_model::laws::well_formed::{alternatives_fit, arguments_are_few_and_known};
 use adp_model::{Arg, Cell, Problem};
@@ -38,9 +39,6 @@ use std::alloc::{AllocError, Global};
 use std::marker::Model;
 use std::ops::Range;
 use viable_splits::{Cuts, Matcher, first_ends, first_visited, next_visited};
-
-/// How many of the kept lists are compared with tokens before these get a list of their own.
-const MOST_COMPARED: usize = 64;
 
 /// The line of an alternative: which of its arguments are the last two of open length, and where the tokens between
 /// them match.
@@ -73,187 +71,6 @@ pub struct Boundary<'l> {
     pub last: u16,
 }
 
-/// Tokens of fixed length, the letter with which they begin, if one is known, and where they match.
-#[derive(Drop)]
-pub struct Middle<'a> {
-    pub tokens: &'a [Arg],
-    pub first: Option<u8>,
-    pub matches: Matches,
-}
-
-/// A line as it is kept: with the number of the list of its middle, unless that matches nowhere.
-#[derive(Clone, Copy)]
-pub struct KeptLine {
-    pub first: u8,
-    pub between: u8,
-    pub tail: u16,
-    pub before: Extent,
-    pub behind: Extent,
-    pub middle: Option<usize>,
-}
-
-/// What is kept of a rule: its alternatives, and which of them may begin with some letters.
-#[derive(Drop)]
-pub struct KeptRule<'a> {
-    pub alternatives: Vec<KeptAlternative<'a>>,
-    pub beginnings: Beginnings,
-}
-
-/// The number of the last argument of open length.
-fn last_open(arguments: &[Arg]) -> Option<usize>
-    ensures { MatchOption result (AllByRecursion IsFixed arguments.now) (IsLastOpen arguments.now) }
-{
-    for number in (0..arguments.len()).rev() {
-        if !is_fixed(&arguments[number]) {
-            return Some(number);
-        }
-    }
-    None
-}
-
-/// The number of the first argument of the line, and how many tokens stand between it and the second one.
-fn line_of(arguments: &[Arg]) -> Option<(usize, usize)>
-    ensures { MatchOption result ((first between : ℕ) → HasLine (drop first arguments.now) between → ⊥)
-        (λ line. HasLine (drop line.0 arguments.now) line.1) }
-{
-    let second = last_open(arguments)?;
-    let first = last_open(&arguments[..second])?;
-    Some((first, second - first - 1))
-}
-
-/// Whether the tokens are the same. Tokens of open length never are.
-fn is_same(first: &Arg, second: &Arg) -> bool
-    ensures { OnTrue result (first.now ≡ second.now) }
-{
-    match (first, second) {
-        (Arg::Literal(text), Arg::Literal(other)) => text.bytes() == other.bytes(),
-        (Arg::Letter(class), Arg::Letter(other)) => class == other,
-        _ => false,
-    }
-}
-
-/// The same of lists of tokens.
-fn are_same(tokens: &[Arg], others: &[Arg]) -> bool
-    ensures { OnTrue result (tokens.now ≡ others.now) }
-{
-    if tokens.is_empty() || others.is_empty() {
-        return tokens.len() == others.len();
-    }
-    is_same(&tokens[0], &others[0]) && are_same(&tokens[1..], &others[1..])
-}
-
-/// The number of the list of these tokens, which is put at the end, unless it is found among the first ones; `None`
-/// where they match nowhere.
-fn number_of<'a>(
-    alloc: Global,
-    tables: &ClassTables<'_>,
-    tokens: &'a [Arg],
-    middles: &mut Vec<Middle<'a>>,
-) -> Result<Option<usize>, AllocError>
-    requires known { AllByRecursion (IsKnown tables.now.grammar) tokens.now }
-    requires fixed { AllByRecursion IsFixed tokens.now }
-    requires middles { AreMiddles tables.now middles.old.items }
-    ensures middles { IfOk result (λ _. AreMiddles tables.now middles.new.items) }
-    ensures kept { IfOk result (λ _. HasAllOf middles.old.items middles.new.items) }
-    ensures number { IfOk result (IsMiddle tables.now middles.new.items tokens.now) }
-{
-    if match_nowhere(tables, tokens) {
-        return Ok(None);
-    }
-    let first = first_letter(tokens);
-    for number in 0..middles.len().min(MOST_COMPARED) {
-        let middle = &middles[number];
-        if middle.first == first && are_same(middle.tokens, tokens) {
-            return Ok(Some(number));
-        }
-    }
-    let matches = Matches::new(alloc, tables, tokens)?;
-    let number = middles.len();
-    middles.push(Middle {
-        tokens,
-        first,
-        matches,
-    })?;
-    Ok(Some(number))
-}
-
-/// The line of these arguments, as it is kept.
-fn kept_line<'a>(
-    alloc: Global,
-    tables: &ClassTables<'_>,
-    arguments: &'a [Arg],
-    middles: &mut Vec<Middle<'a>>,
-) -> Result<Option<KeptLine>, AllocError>
-    requires known { AllByRecursion (IsKnown tables.now.grammar) arguments.now }
-    requires few { length arguments.now ≤ 4 }
-    requires middles { AreMiddles tables.now middles.old.items }
-    ensures middles { IfOk result (λ _. AreMiddles tables.now middles.new.items) }
-    ensures kept { IfOk result (λ _. HasAllOf middles.old.items middles.new.items) }
-    ensures line { IfOk result (IsKeptOrNone tables.now middles.new.items arguments.now) }
-{
-    let Some((first, between)) = line_of(arguments) else {
-        return Ok(None);
-    };
-    let second = first + between + 1;
-    let middle = number_of(alloc, tables, &arguments[first + 1..second], middles)?;
-    let tail = fixed_letters(tables.problem(), &arguments[second + 1..]);
-    Ok(Some(KeptLine {
-        first: first as u8,
-        between: between as u8,
-        tail: tail as u16,
-        before: extent_of(tables.problem(), &arguments[first]),
-        behind: extent_of(tables.problem(), &arguments[second]),
-        middle,
-    }))
-}
-
-/// Where the tokens of a middle match: at the list of this number, or nowhere.
-#[inline(always)]
-fn matches_of<'l>(
-    middles: &'l [Middle<'_>],
-    nowhere: &'l Matches,
-    number: Option<usize>,
-) -> &'l Matches
-    requires { IfSome number (λ number. number < length middles.now) }
-    ensures { (p : PosedProblem) (tokens : List Argument) → AreMiddles p middles.now → AreNowhere p nowhere.now
-        → IsMiddle p middles.now tokens number → AreMatches p tokens result.now }
-{
-    match number {
-        Some(number) => &middles[number].matches,
-        None => nowhere,
-    }
-}
-
-/// What is kept of a rule.
-fn kept_rule<'a>(
-    alloc: Global,
-    tables: &ClassTables<'a>,
-    rule: u32,
-    middles: &mut Vec<Middle<'a>>,
-) -> Result<KeptRule<'a>, AllocError>
-    requires rule { rule < length tables.now.grammar.rules }
-    requires middles { AreMiddles tables.now middles.old.items }
-    ensures middles { IfOk result (λ _. AreMiddles tables.now middles.new.items) }
-    ensures longer { IfOk result (λ _. HasAllOf middles.old.items middles.new.items) }
-    ensures kept { IfOk result (IsKeptRule tables.now middles.new.items rule) }
-{
-    let problem = tables.problem();
-    let count = problem.alternatives(rule).len();
-    let mut alternatives = Vec::with_capacity(alloc, count)?;
-    let mut beginnings = Beginnings::none();
-    for number in 0..count {
-        let alt = number as u8;
-        let line = kept_line(alloc, tables, problem.arguments(rule, alt), middles)?;
-        let kept = kept_alternative(problem, rule, alt, line);
-        beginnings.add(alt, first_text(kept.front));
-        alternatives.push(kept)?;
-    }
-    Ok(KeptRule {
-        alternatives,
-        beginnings,
-    })
-}
-
 /// Whether tokens of fixed length match the letters from `from` to `to`; in most cases there are none.
 #[inline(always)]
 fn tail_covers(tables: &ClassTables<'_>, tokens: &[Arg], from: usize, to: usize) -> bool
@@ -278,13 +95,13 @@ pub fn line_here<'s, 'l>(line: Option<&'s Line<'l>>, ahead: u8) -> Option<&'s Li
     if ahead == 0 { line } else { None }
 }
 
-/// What is worked out of a problem once, for all its cells. Contracts see it as the problem.
+/// What is worked out of a problem once, for all its cells: its classes and where tokens match, and what its grammar and
+/// its algebra tell of the alternatives, which other words may share. Contracts see it as the problem.
 #[derive(Drop)]
 pub struct Lines<'a> {
     tables: ClassTables<'a>,
-    nowhere: Matches,
-    middles: Vec<Middle<'a>>,
-    rules: Vec<KeptRule<'a>>,
+    kept: Kept<'a>,
+    found: Found,
 }
 
 impl<'a> Model for Lines<'a> {
@@ -304,27 +121,32 @@ impl<'a> Model for Lines<'a> {
 }
 
 impl<'a> Lines<'a> {
-    /// Works it out, in time for each alternative and each letter of a class, and for each letter of the word once for
-    /// each class and once for each list of tokens that may match. Memory is 20 bytes for each class and letter, four to
-    /// six for each list and letter, about a hundred for each alternative, and about 800 for each rule.
+    /// Works it out, with what may be shared. Fails for want of memory alone.
     pub fn new(alloc: Global, problem: &'a Problem<'a>) -> Result<Lines<'a>, AllocError>
+        ensures { IfOk result (λ lines. lines ≡ problem.now) }
+    {
+        let kept = kept_rules(alloc, problem)?;
+        Lines::over(alloc, problem, Kept::Own(kept))
+    }
+
+    /// Works it out over what was kept of the alternatives, in time for each letter of a class, for each letter of the
+    /// word once for each class and once for each middle of lines. Memory is 20 bytes for each class and letter, and what
+    /// `Found::new` takes. Fails for want of memory alone.
+    pub(crate) fn over(
+        alloc: Global,
+        problem: &'a Problem<'a>,
+        kept: Kept<'a>,
+    ) -> Result<Lines<'a>, AllocError>
+        requires { AreKeptFor problem.now.grammar problem.now.algebra (kept_of kept) }
         ensures { IfOk result (λ lines. lines ≡ problem.now) }
     {
         problem.admissible();
         let tables = ClassTables::new(alloc, problem)?;
-        let nowhere = Matches::nowhere(alloc, problem)?;
-        let mut middles = Vec::new(alloc);
-        let count = problem.grammar.rules.as_slice().len();
-        let mut rules = Vec::with_capacity(alloc, count)?;
-        for rule in 0..count {
-            let kept = kept_rule(alloc, &tables, rule as u32, &mut middles)?;
-            rules.push(kept)?;
-        }
+        let found = Found::new(alloc, &tables, &kept.rules().middles)?;
         Ok(Lines {
             tables,
-            nowhere,
-            middles,
-            rules,
+            kept,
+            found,
         })
     }
 
@@ -343,14 +165,14 @@ impl<'a> Lines<'a> {
             ((first between : ℕ) → HasLine (drop first (arguments_of self.now.grammar rule alt)) between → ⊥)
             (λ line. IsLine self.now (drop line.first (arguments_of self.now.grammar rule alt)) line) }
     {
-        let kept = self.rules[rule as usize].alternatives[alt as usize].line?;
+        let kept = self.kept.rules().rules[rule as usize].alternatives[alt as usize].line?;
         Some(Line {
             first: kept.first,
             between: kept.between,
             tail: kept.tail,
             before: kept.before,
             behind: kept.behind,
-            middle: matches_of(&self.middles, &self.nowhere, kept.middle),
+            middle: self.found.of(kept.middle),
         })
     }
 
@@ -363,7 +185,7 @@ impl<'a> Lines<'a> {
             → IsAlternative self.now rule alternative (slice_index_or result.now alternative d) }
     {
         let _ = &self.tables;
-        &self.rules[rule as usize].alternatives
+        &self.kept.rules().rules[rule as usize].alternatives
     }
 
     /// The alternatives of the cell's rule, and which of them may begin where the cell does. Takes constant time and no
@@ -381,7 +203,7 @@ impl<'a> Lines<'a> {
     {
         self.problem().admissible();
         alternatives_fit();
-        let rule = &self.rules[cell.rule as usize];
+        let rule = &self.kept.rules().rules[cell.rule as usize];
         let word = self.problem().letters();
         Candidates {
             alternatives: &rule.alternatives,

@@ -4,7 +4,8 @@ ghost use Rattle.std.specs.Prelude.{◌≡◌, ◌↔◌, ℕ, ◌+◌, ◌^◌,
 ghost use Rattle.std.specs.Bool.{OnTrue};
 ghost use Rattle.std.specs.List.{AllAdjacentBelow, AllByRecursion, Contains};
 ghost use Rattle.adp_model.specs.declared.grammar.Arg.{Arg as Argument};
-ghost use Rattle.adp_model.specs.PosedProblem.{IsSpan};
+ghost use Rattle.adp_model.specs.PosedProblem.{IsSpan, PosedProblem};
+ghost use Rattle.adp_model.specs.ProblemFields.{most_letters};
 ghost use Rattle.adp_model.specs.WellFormed.{IsKnown};
 ghost use Rattle.viable_splits.specs.Placing.{Cover};
 ghost use Rattle.split_lines.specs.Kept.{BeginWith};
@@ -16,7 +17,7 @@ ghost use Rattle.split_lines.specs.Matching.{fixed_length, HaveLetters, AreCount
 use crate::classes::ClassTables;
 use crate::spans::token_end;
 use crate::tokens::{first_letter, fixed_length, occurs, stands};
-use adp_model::{Arg, Problem};
+use adp_model::{Arg, MOST_LETTERS, Problem};
 use cell_tables::{WORD, set_each, set_places};
 use score_numbers::{NO_LIMIT, SHORT_MARK};
 use std::alloc::{AllocError, Global};
@@ -25,7 +26,7 @@ use std::alloc::{AllocError, Global};
 /// order, and for each position how many of them come before it.
 #[derive(Drop)]
 pub struct Matches {
-    /// How many letters the tokens have, or one more than the word has, where they have more than that.
+    /// How many letters the tokens have, or 4,001, where they have more than any word.
     pub letters: u16,
     pub positions: Vec<u16>,
     pub before: Vec<u16>,
@@ -37,19 +38,18 @@ pub struct Matches {
     pub behind: Vec<u64>,
 }
 
-/// How many letters tokens of fixed length have, or one more than the word has, where they have more than that.
-pub fn fixed_letters(problem: &Problem<'_>, tokens: &[Arg]) -> usize
+/// How many letters tokens of fixed length have, or 4,001, where they have more than any word.
+pub fn fixed_letters(tokens: &[Arg]) -> usize
     requires { AllByRecursion IsFixed tokens.now }
-    ensures letters { HaveLetters problem.now tokens.now result }
-    ensures within { result ≤ length problem.now.word + 1 }
+    ensures letters { (p : PosedProblem) → length p.word ≤ most_letters → HaveLetters p tokens.now result }
     ensures short { result ≤ 4001 }
 {
     if tokens.is_empty() {
         return 0;
     }
-    let most = problem.letters().len() + 1;
+    let most = MOST_LETTERS + 1;
     let first = fixed_length(&tokens[0]).min(most);
-    most.min(first + fixed_letters(problem, &tokens[1..]))
+    most.min(first + fixed_letters(&tokens[1..]))
 }
 
 /// Whether tokens of fixed length match the letters from `from` to `to`.
@@ -136,7 +136,7 @@ pub fn match_nowhere(tables: &ClassTables<'_>, tokens: &[Arg]) -> bool
         return true;
     }
     problem.admissible();
-    let width = fixed_letters(problem, tokens);
+    let width = fixed_letters(tokens);
     for position in 0..(word.len() + 1).saturating_sub(width) {
         if cover_there(tables, tokens, Some(letter), position, position + width) {
             return false;
@@ -176,7 +176,7 @@ impl Matches {
     {
         let problem = tables.problem();
         let len = problem.letters().len();
-        let width = fixed_letters(problem, tokens);
+        let width = fixed_letters(tokens);
         let first = first_letter(tokens);
         let mut positions = Vec::new(alloc);
         let mut before = Vec::with_capacity(alloc, len + 2)?;

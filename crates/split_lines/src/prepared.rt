@@ -1,8 +1,10 @@
 //! What is worked out of a problem once, for all that evaluate it.
 
 ghost use Rattle.std.specs.Prelude.{◌≡◌, IfOk};
+ghost use Rattle.split_lines.specs.Shared.{without_word};
 
 use crate::lines::Lines;
+use crate::shared::Shared;
 use adp_model::Problem;
 use cell_tables::Layout;
 use std::alloc::{AllocError, Global};
@@ -40,6 +42,30 @@ impl<'a> Prepared<'a> {
         let lines = Lines::new(alloc, problem)?;
         let layout = Layout::new(alloc, problem)?;
         Ok(Prepared { lines, layout })
+    }
+
+    /// The same over what words of its grammar share. Blocks that are laid out for words of another length do not serve
+    /// it, and are laid out anew. Fails for want of memory alone.
+    pub(crate) fn over(
+        alloc: Global,
+        problem: &'a Problem<'a>,
+        shared: &'a Shared<'a>,
+    ) -> Result<Prepared<'a>, AllocError>
+        requires { shared.now ≡ without_word problem.now }
+        ensures { IfOk result (λ prepared. prepared ≡ problem.now) }
+    {
+        let lines = shared.lines(alloc, problem)?;
+        let layout = shared.layout(alloc, problem)?;
+        Ok(Prepared { lines, layout })
+    }
+
+    /// Its lines and its layout, by themselves. Takes no memory.
+    pub fn into_parts(self) -> (Lines<'a>, Layout<'a>)
+        ensures lines { result.0 ≡ self.entry }
+        ensures layout { result.1 ≡ self.entry }
+    {
+        let Prepared { lines, layout } = self;
+        (lines, layout)
     }
 
     /// The lines of its splits. Takes no memory.

@@ -10,6 +10,7 @@ use Rattle.split_lines.specs.declared.kept.KeptAlternative.{KeptAlternative}
 use Rattle.split_lines.specs.declared.kept.Scoring.{Scoring}
 use Rattle.split_lines.specs.declared.kept.Scoring.TheVariants.{Sum, Term}
 use Rattle.split_lines.specs.declared.kept.WeightedSum.{WeightedSum}
+use Rattle.split_lines.specs.EachWord.{with_word}
 use Rattle.split_lines.specs.Kept.{AreOneLetter, HasLengths, IsScored, IsSummed}
 use Rattle.score_numbers.specs.Turned.{turned}
 use Rattle.split_lines.proofs.MakingReady.{alternative_kept, alternative_summed}
@@ -36,8 +37,8 @@ lowered-requires c = record {
 }
 
 pub returns-clause-alternative : goal.returns-clause-alternative
-returns-clause-alternative c =
-    let p = c.args.problem.now in
+returns-clause-alternative c = λ word short.
+    let p = with_word c.args.problem.now.grammar c.args.problem.now.algebra word in
     let all = c.arguments-arguments.result.now in
     let n = c.front_length-number.result in
     let are = c.arguments-arguments.ensures in
@@ -57,5 +58,5 @@ returns-clause-alternative c =
       | in-None w ↦ by_term p c.args.rule c.args.alt _ c.match-lowered.scoring c.term-term.result w.scoring-is term_is
     ] in
     alternative_kept p c.args.rule c.args.alt _ all n are.arguments are.few are.known c.front_length-number.ensures.within c.front_length-number.ensures.fixed
-    refl (take_rest all n) c.fixed_letters.ensures.letters c.first_letter.ensures (on_true c.are_one_letter.result (AreOneLetter (take n all)) c.are_one_letter.ensures) c.class_of.ensures
+    refl (take_rest all n) (c.fixed_letters.ensures.letters p short) c.first_letter.ensures (on_true c.are_one_letter.result (AreOneLetter (take n all)) c.are_one_letter.ensures) c.class_of.ensures
     (subst (λ (it : Alt). HasLengths it c.lengths_of.result) c.alternative.ensures c.lengths_of.ensures) scored

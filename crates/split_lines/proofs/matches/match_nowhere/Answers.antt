@@ -23,6 +23,6 @@ returns c = λ from to cover.
     let long : length c.letters-word.result.now ≡ length p.word = ap (λ (word : List ℕ). length word) word_is in
     let inside = within_word p.word from c.in-Some.letter (letter_stands p tokens c.in-Some.letter from to c.in-Some.ensures cover) in
     let within = cover_within p tokens from to (omega (arith, inside)) cover in
-    let letters : HaveLetters p tokens width = subst (λ (p : PosedProblem). HaveLetters p tokens width) c.problem-problem.ensures c.fixed_letters-width.ensures.letters in
+    let letters : HaveLetters p tokens width = c.fixed_letters-width.ensures.letters p (omega (arith, long, c.letters-word.ensures.few)) in
     let end = letters from to cover in
     c.loop-position.invariant from (omega (arith, c.saturating_sub-position-end.ensures, c.loop-position-test.false, end, within, long)) (subst (Cover p tokens from) end cover)

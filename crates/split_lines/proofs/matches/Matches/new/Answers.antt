@@ -6,7 +6,7 @@ use Rattle.adp_model.specs.declared.grammar.Arg.{Arg}
 use Rattle.adp_model.specs.PosedProblem.{PosedProblem}
 use Rattle.viable_splits.specs.Placing.{Cover}
 use Rattle.split_lines.specs.Flags.{AreBits}
-use Rattle.split_lines.specs.Matching.{HaveLetters, AreMatchPositions, AreCounts, AreLimitsOf}
+use Rattle.split_lines.specs.Matching.{AreMatchPositions, AreCounts, AreLimitsOf}
 use Rattle.split_lines.proofs.Matched.{no_counts, one_count_more, one_position_more, no_positions, positions_below, one_match_more, no_match_there}
 use Rattle.split_lines.proofs.TokenSpans.{cover_within}
 use Rattle.split_lines.proofs.matches.Matches.new.Goals as goal
@@ -77,13 +77,12 @@ returns c =
     let kept = c.loop-position.invariant in
     let len_is : length c.letters-len.result.now ≡ length p.word = ap length c.letters-len.ensures.word ∙ ap (λ (p : PosedProblem). length p.word) c.problem-problem.ensures in
     let past : position ≡ length p.word + 1 = omega (arith, len_is) in
-    let H : PosedProblem → Type 0 = λ p. HaveLetters p tokens width in
     let M : ℕ → Type 0 = λ past. AreMatchPositions p tokens width past positions in
     let P : List ℕ → Type 0 = λ told. AreLimitsOf (length c.letters-len.result.now + 1) told c.in_ok-limits.limits.items in
     let F : ℕ → Type 0 = λ count. AreLimitsOf count positions c.in_ok-limits.limits.items in
     let limits : F (length c.letters-len.result.now + 1) = subst P c.deref.ensures.value c.in_ok-limits.ensures in
     record {
-      letters = subst H c.problem-problem.ensures c.fixed_letters-width.ensures.letters;
+      letters = c.fixed_letters-width.ensures.letters p (omega (arith, len_is, c.letters-len.ensures.few));
       positions = subst M past kept.positions;
       each = omega (arith, c.in_ok-push-3.ensures.len, kept.each, past);
       before = counted positions c.loop-position.before.items c.push-2.new.self.items c.len-2.result position kept.before kept.each (λ number. positions_below p tokens width position positions kept.positions number 0) (omega (arith, c.len-2.ensures)) c.in_ok-push-3.ensures.items;

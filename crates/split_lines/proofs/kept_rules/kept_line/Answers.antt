@@ -10,9 +10,10 @@ use Rattle.split_lines.specs.Laid.{IsFixed}
 use Rattle.split_lines.specs.Lines.{HasLine}
 use Rattle.split_lines.specs.Extents.{IsExtent}
 use Rattle.split_lines.specs.Matching.{HaveLetters}
-use Rattle.split_lines.specs.LinesFields.{IsMiddle}
+use Rattle.split_lines.specs.EachWord.{with_word}
+use Rattle.split_lines.specs.KeptRules.{IsNumberOf}
 use Rattle.split_lines.proofs.LineFacts.{middle_taken, tail_taken}
-use Rattle.split_lines.proofs.lines.kept_line.Goals as goal
+use Rattle.split_lines.proofs.kept_rules.kept_line.Goals as goal
 
 -- an argument that is read stands so far behind the first one of the line
 read_behind : (all : List Arg) (first between at : ℕ) (read : Arg) → at ≡ first + between → at < length all → read ≡ get_or all at read → read ≡ get_or (drop first all) between (Rule 0)
@@ -20,9 +21,8 @@ read_behind all first between at read at_is within is =
     get_or_read all at read within is (Rule 0) ∙ ap (λ n. get_or all n (Rule 0)) at_is ∙ sym (get_or-drop first all between (Rule 0))
 
 -- an argument that is read is known
-known_at : (p q : PosedProblem) → q ≡ p → (all : List Arg) (k : ℕ) (read : Arg) → read ≡ get_or all k read → k < length all → AllByRecursion (IsKnown p.grammar) all → IsKnown q.grammar read
-known_at p q same all k read is l known =
-    subst (λ (r : PosedProblem). IsKnown r.grammar read) (sym same) (subst (IsKnown p.grammar) (sym is) (All-from_recursion (IsKnown p.grammar) all known k read l))
+known_at : (p : PosedProblem) (all : List Arg) (k : ℕ) (read : Arg) → read ≡ get_or all k read → k < length all → AllByRecursion (IsKnown p.grammar) all → IsKnown p.grammar read
+known_at p all k read is l known = subst (IsKnown p.grammar) (sym is) (All-from_recursion (IsKnown p.grammar) all known k read l)
 
 line_within : (all : List Arg) (first between : ℕ) → HasLine (drop first all) between → first + between + 1 < length all
 line_within all first between line = omega (arith, line.several, length-drop first all)
@@ -60,8 +60,8 @@ bounds-arguments-first c = omega (arith, line_within c.args.arguments.now c.in-S
 pub bounds-arguments-second : goal.bounds-arguments-second
 bounds-arguments-second c = omega (arith, line_within c.args.arguments.now c.in-Some.first c.in-Some.between c.in-Some.ensures, c.requires.few)
 
-pub number_of-requires-clause-fixed : goal.number_of-requires-clause-fixed
-number_of-requires-clause-fixed c = subst (AllByRecursion IsFixed) (sym (middle_taken c.args.arguments.now c.in-Some.first c.in-Some.between)) c.in-Some.ensures.parts.middle_fixed
+pub number_of-requires : goal.number_of-requires
+number_of-requires c = subst (AllByRecursion IsFixed) (sym (middle_taken c.args.arguments.now c.in-Some.first c.in-Some.between)) c.in-Some.ensures.parts.middle_fixed
 
 pub fixed_letters-tail-requires : goal.fixed_letters-tail-requires
 fixed_letters-tail-requires c = subst (AllByRecursion IsFixed) (sym (tail_taken c.args.arguments.now c.in-Some.first c.in-Some.between)) c.in-Some.ensures.parts.tail_fixed
@@ -69,7 +69,7 @@ fixed_letters-tail-requires c = subst (AllByRecursion IsFixed) (sym (tail_taken 
 pub extent_of-requires-clause-known : goal.extent_of-requires-clause-known
 extent_of-requires-clause-known c =
     let within = line_within c.args.arguments.now c.in-Some.first c.in-Some.between c.in-Some.ensures in
-    known_at c.args.tables.now c.problem-2.result.now c.problem-2.ensures c.args.arguments.now c.in-Some.first c.index-arguments-first.result c.index-arguments-first.is (omega (arith, within)) c.requires.known
+    known_at c.args.problem.now c.args.arguments.now c.in-Some.first c.index-arguments-first.result c.index-arguments-first.is (omega (arith, within)) c.requires.known
 
 pub extent_of-requires-clause-open_length : goal.extent_of-requires-clause-open_length
 extent_of-requires-clause-open_length c =
@@ -80,7 +80,7 @@ extent_of-requires-clause-open_length c =
 pub extent_of-requires-2-clause-known : goal.extent_of-requires-2-clause-known
 extent_of-requires-2-clause-known c =
     let within = line_within c.args.arguments.now c.in-Some.first c.in-Some.between c.in-Some.ensures in
-    known_at c.args.tables.now c.problem-3.result.now c.problem-3.ensures c.args.arguments.now (c.in-Some.first + c.in-Some.between + 1) c.index-arguments-second.result c.index-arguments-second.is (omega (arith, within)) c.requires.known
+    known_at c.args.problem.now c.args.arguments.now (c.in-Some.first + c.in-Some.between + 1) c.index-arguments-second.result c.index-arguments-second.is (omega (arith, within)) c.requires.known
 
 pub extent_of-requires-2-clause-open_length : goal.extent_of-requires-2-clause-open_length
 extent_of-requires-2-clause-open_length c =
@@ -89,14 +89,13 @@ extent_of-requires-2-clause-open_length c =
     λ fixed. c.in-Some.ensures.second_open (subst IsFixed is fixed)
 
 pub returns-clause-middles : goal.returns-clause-middles
-returns-clause-middles c = c.in_ok-middle.ensures.middles
+returns-clause-middles c =
+    let first = c.in-Some.first in
+    let known = all_in_part (IsKnown c.args.problem.now.grammar) (first + c.in-Some.between + 1 - (first + 1)) (first + 1) c.args.arguments.now c.requires.known in
+    c.in_ok-middle.ensures.middles c.args.problem.now.grammar known c.requires.middles
 
 pub returns-clause-kept : goal.returns-clause-kept
 returns-clause-kept c = c.in_ok-middle.ensures.kept
-
-pub number_of-requires-clause-known : goal.number_of-requires-clause-known
-number_of-requires-clause-known c =
-    all_in_part (IsKnown c.args.tables.now.grammar) (c.in-Some.first + c.in-Some.between + 1 - (c.in-Some.first + 1)) (c.in-Some.first + 1) c.args.arguments.now c.requires.known
 
 pub overflow_cast-result-3 : goal.overflow_cast-result-3
 overflow_cast-result-3 c = omega (arith, c.fixed_letters-tail.ensures.short)
@@ -105,21 +104,21 @@ pub slice_bounds-number_of-start : goal.slice_bounds-number_of-start
 slice_bounds-number_of-start c = omega (arith, line_within c.args.arguments.now c.in-Some.first c.in-Some.between c.in-Some.ensures, c.requires.few)
 
 pub returns-clause-line : goal.returns-clause-line
-returns-clause-line c =
+returns-clause-line c = λ word short.
+    let p = with_word c.args.problem.now.grammar c.args.problem.now.algebra word in
     let all = c.args.arguments.now in
     let first = c.in-Some.first in
     let between = c.in-Some.between in
-    let p = c.args.tables.now in
     let several = c.in-Some.ensures.several in
     let long = length-drop first all in
-    let N : List Arg → Type 0 = λ tokens. IsMiddle p c.number_of.new.middles.items tokens c.in_ok-middle.middle in
-    let H : PosedProblem → List Arg → Type 0 = λ p tokens. HaveLetters p tokens c.fixed_letters-tail.result in
+    let N : List Arg → Type 0 = λ tokens. IsNumberOf c.number_of.new.middles.items tokens c.in_ok-middle.middle in
+    let H : List Arg → Type 0 = λ tokens. HaveLetters p tokens c.fixed_letters-tail.result in
     let first_is = read_behind all first 0 first c.index-arguments-first.result (omega arith) (omega arith) c.index-arguments-first.is in
     let second_is = read_behind all first (between + 1) (first + between + 1) c.index-arguments-second.result (omega arith) (omega arith) c.index-arguments-second.is in
     record {
       has_line = c.in-Some.ensures;
       middle = subst N (middle_taken all first between) c.in_ok-middle.ensures.number;
-      tail = subst (λ p. H p (drop (between + 2) (drop first all))) c.problem.ensures (subst (H c.problem.result.now) (tail_taken all first between) c.fixed_letters-tail.ensures.letters);
-      before = subst (λ argument. IsExtent p argument c.extent_of.result) first_is (subst (λ p. IsExtent p c.index-arguments-first.result c.extent_of.result) c.problem-2.ensures c.extent_of.ensures);
-      behind = subst (λ argument. IsExtent p argument c.extent_of-2.result) second_is (subst (λ p. IsExtent p c.index-arguments-second.result c.extent_of-2.result) c.problem-3.ensures c.extent_of-2.ensures);
+      tail = subst H (tail_taken all first between) (c.fixed_letters-tail.ensures.letters p short);
+      before = subst (λ argument. IsExtent p argument c.extent_of.result) first_is (c.extent_of.ensures word short);
+      behind = subst (λ argument. IsExtent p argument c.extent_of-2.result) second_is (c.extent_of-2.ensures word short);
     }

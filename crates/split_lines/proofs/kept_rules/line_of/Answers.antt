@@ -1,7 +1,7 @@
 use Rattle.std.proofs.Common.{ℕ, drop, Option, MatchOption, sym, subst}
 use Rattle.split_lines.specs.Lines.{HasLine}
 use Rattle.split_lines.proofs.LineFacts.{line_there, no_line_of_one}
-use Rattle.split_lines.proofs.lines.line_of.Goals as goal
+use Rattle.split_lines.proofs.kept_rules.line_of.Goals as goal
 
 pub returns-in_err-first : goal.returns-in_err-first
 returns-in_err-first c =

@@ -1,7 +1,7 @@
 use Rattle.std.proofs.Common.{drop}
 use Rattle.std.specs.List.{AllByRecursion}
 use Rattle.split_lines.specs.Laid.{IsFixed}
-use Rattle.split_lines.proofs.lines.last_open.Given as goal
+use Rattle.split_lines.proofs.kept_rules.last_open.Given as goal
 
 -- those so far are fixed
 abbrev pub invariant-loop-number : goal.invariant-loop-number
