@@ -51,24 +51,53 @@ pub fn run_workers<'a, R: Threads + Sync, G: Gate>(
     ensures machines { IfOk result (λ finished. vec_len finished.machines ≡ workers) }
     ensures ended { IfOk result HaveAllEnded }
 {
+    run_prepared(
+        rt,
+        alloc,
+        Prepared::new(alloc, problem)?,
+        workers,
+        seed,
+        gate,
+    )
+}
+
+/// The same of a problem that is prepared, so that what it shares with other words is not worked out anew.
+///
+/// # Errors
+///
+/// Where there is no memory.
+pub fn run_prepared<'a, R: Threads + Sync, G: Gate>(
+    rt: &R,
+    alloc: Global,
+    prepared: Prepared<'a>,
+    workers: u32,
+    seed: u64,
+    gate: &G,
+) -> Result<Finished<'a>, AllocError>
+    requires { (1 ≤ workers) × (workers ≤ 32) }
+    ensures finished { IfOk result (IsFinished prepared.entry seed) }
+    ensures machines { IfOk result (λ finished. vec_len finished.machines ≡ workers) }
+    ensures ended { IfOk result HaveAllEnded }
+{
+    let problem = prepared.problem();
     let (table, pass) = Table::new(alloc, problem, workers)?;
-    let mut crew = team_for(alloc, &table, problem, gate, pass, workers, seed)?;
+    let mut crew = team_for(alloc, &table, prepared, gate, pass, workers, seed)?;
     run_all(rt, &table, crew.as_mut_slice());
     let left = join_all(alloc, &table, seed, workers, crew)?;
     Ok(finish(table, problem, seed, left))
 }
 
-/// The problem is prepared for a team that works on it.
+/// A team that works on the prepared problem.
 pub(crate) fn team_for<'a, 'g, G>(
     alloc: Global,
     table: &Table,
-    problem: &'a Problem<'a>,
+    prepared: Prepared<'a>,
     gate: &'g G,
     pass: Pass,
     count: u32,
     seed: u64,
 ) -> Result<Vec<GatedWorker<'g, TableWorker<'a>, G>>, AllocError>
-    requires same { problem_of table.now ≡ problem.now }
+    requires same { problem_of table.now ≡ prepared }
     requires own { IsPassOf table.now pass }
     requires first { view_of pass ≡ first_view (plan_of table.now) }
     requires unmarked { marks_of pass ≡ [] }
@@ -76,22 +105,21 @@ pub(crate) fn team_for<'a, 'g, G>(
     requires some { 1 ≤ count }
     ensures ready { IfOk result (λ team. All (λ gated. IsReady table.now gated.worker) team.items) }
     ensures posts { IfOk result (λ team. map (λ gated. post_of gated.worker) team.items
-        ≡ posts_of problem.now seed count) }
+        ≡ posts_of prepared.entry seed count) }
 {
-    let prepared = prepare(alloc, problem)?;
-    team(alloc, table, &prepared, gate, pass, count, seed)
+    let shared = shared_by_all(alloc, prepared)?;
+    team(alloc, table, &shared, gate, pass, count, seed)
 }
 
 /// The prepared problem, shared by all workers.
-fn prepare<'a>(
+fn shared_by_all<'a>(
     alloc: Global,
-    problem: &'a Problem<'a>,
+    prepared: Prepared<'a>,
 ) -> Result<Arc<Prepared<'a>, Global>, AllocError>
-    ensures problem { IfOk result (λ prepared. arc_value prepared ≡ problem.now) }
-    ensures admissible { IsAdmissible problem.now }
+    ensures problem { IfOk result (λ shared. arc_value shared ≡ prepared.entry) }
+    ensures admissible { IsAdmissible prepared.entry }
 {
-    problem.admissible();
-    let prepared = Prepared::new(alloc, problem)?;
+    prepared.problem().admissible();
     Ok(Arc::new(alloc, prepared)?)
 }
 

@@ -14,6 +14,7 @@ use crate::gated::GatedWorker;
 use crate::watcher::Unwatched;
 use crate::worker::{TableWorker, work};
 use adp_model::Problem;
+use cell_core::Prepared;
 use memo_table::Table;
 use std::alloc::{AllocError, Global};
 
@@ -44,24 +45,25 @@ impl<'a> Ended<'a> {
     }
 }
 
-/// Solves the problem as `run_workers` does, on one thread, but for closing the table: each of so many evaluators, 1 to
-/// 32, runs to its end before the next begins. The door is passed before each load of a record word.
+/// Solves the prepared problem as `run_prepared` does, on one thread, but for closing the table: each of so many
+/// evaluators, 1 to 32, runs to its end before the next begins. The door is passed before each load of a record word.
 ///
 /// # Errors
 ///
 /// Where there is no memory.
 pub fn run_in_turn<'a, D: Door>(
     alloc: Global,
-    problem: &'a Problem<'a>,
+    prepared: Prepared<'a>,
     workers: u32,
     seed: u64,
     door: &D,
 ) -> Result<Ended<'a>, AllocError>
     requires { (1 ≤ workers) × (workers ≤ 32) }
-    ensures { IfOk result (IsEnded workers seed problem.now) }
+    ensures { IfOk result (IsEnded workers seed prepared.entry) }
 {
+    let problem = prepared.problem();
     let (table, pass) = Table::new(alloc, problem, workers)?;
-    let mut crew = team_for(alloc, &table, problem, door, pass, workers, seed)?;
+    let mut crew = team_for(alloc, &table, prepared, door, pass, workers, seed)?;
     work_in_turn(&table, crew.as_mut_slice());
     let left = join_all(alloc, &table, seed, workers, crew)?;
     Ok(Ended {

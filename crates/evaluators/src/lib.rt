@@ -12,7 +12,7 @@ mod schedule;
 mod watcher;
 mod worker;
 
-pub use crew::run_workers;
+pub use crew::{run_prepared, run_workers};
 pub use driving::Door;
 pub use finished::{Finished, RunNote};
 pub use gate::{Gate, LogGate, OpenGate};

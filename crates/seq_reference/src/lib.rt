@@ -13,4 +13,4 @@ mod solving;
 pub use demand::demanded_marks;
 pub use rank_order::rules_by_rank;
 pub use solved::Solved;
-pub use solving::solve;
+pub use solving::{solve, solve_prepared};

@@ -1,2 +1,3 @@
 pub mod Zipped
+pub mod SharedParts
 pub mod SentSlots

@@ -11,6 +11,7 @@ use Rattle.evaluators.proofs.SentProbes.{probe_send}
 use Rattle.evaluators.specs.contracts.crew.Leavings as Leavings
 use Rattle.evaluators.specs.contracts.in_turn.Ended as Ended
 use Rattle.word_groups.specs.contracts.slot.Slot as Slot
+use Rattle.word_groups.proofs.SharedParts.{sharing_send}
 
 leavings_send : (a : NamedLft) → IsSend (Leavings.the_row a)
 leavings_send a =
@@ -36,6 +37,6 @@ ended_send a =
 pub slot_send : (a b : NamedLft) (G : RattleType) → IsSync G → IsSend (Slot.the_row a b G)
 slot_send a b G shared =
     declared_send (Slot.the_type a b G) (
-      search (sendable, crosses, problem_sync) depth 60 fits 100000,
+      search (sendable, crosses, sharing_send) depth 60 fits 100000,
       (search (sendable, crosses) depth 60 fits 100000, (search (sendable, crosses, ended_send) depth 60 fits 100000, tt)),
     )

@@ -12,7 +12,7 @@ use Rattle.evaluators.proofs.in_turn.run_in_turn.Goals as goal
 pub join_all-requires-clause-posts : goal.join_all-requires-clause-posts
 join_all-requires-clause-posts g c =
     let crew = c.in_ok-crew.crew in
-    let same = sym (c.in_ok-table.ensures {u = tt}).problem in
+    let same = sym ((c.in_ok-table.ensures {u = tt}).problem ∙ c.problem-problem.ensures) in
     map_written_back (λ (gated : GatedWorker TableWorker _). post_of gated.worker) crew.items c.work_in_turn.new.workers
     crew.len crew.ok.0
     (c.work_in_turn.ensures.posts
@@ -30,7 +30,8 @@ join_all-requires-clause-first g c =
     subst HasFirstEnded (sym machines)
     (first_of_ended (λ (gated : GatedWorker TableWorker _). gated.worker) c.in_ok-table.table left
     (problem_of c.in_ok-table.table) c.args.seed c.args.workers c.work_in_turn.ensures.done
-    (posts ∙ (c.in_ok-crew.ensures {u = tt}).posts ∙ ap (λ p. posts_of p c.args.seed c.args.workers) (sym (c.in_ok-table.ensures {u = tt}).problem))
+    (posts ∙ (c.in_ok-crew.ensures {u = tt}).posts
+    ∙ ap (λ p. posts_of p c.args.seed c.args.workers) (sym ((c.in_ok-table.ensures {u = tt}).problem ∙ c.problem-problem.ensures)))
     c.requires.0)
 
 pub returns : goal.returns
@@ -43,7 +44,7 @@ returns g c =
     (λ (gated : GatedWorker TableWorker _). post_of gated.worker) crew.items left crew.len crew.ok.0 posts in
     let seats = (c.in_ok-table.ensures {u = tt}).seats in
     record {
-      problem = refl;
+      problem = c.problem-problem.ensures;
       seed_is = refl;
       same = (c.in_ok-table.ensures {u = tt}).problem;
       joined = subst (λ count. IsJoined c.in_ok-table.table c.args.seed count c.in_ok-left.left) (sym seats)

@@ -5,7 +5,7 @@ use Rattle.evaluators.specs.Posts.{posts_of}
 use Rattle.evaluators.specs.Runs.{HasFirstEnded, moves_of, ended_of}
 use Rattle.evaluators.specs.Working.{TableWorker, IsAtWork, post_of}
 use Rattle.evaluators.specs.Schedules.{AreScheduled}
-use Rattle.evaluators.specs.Playing.{HaveKeptSchedule}
+use Rattle.evaluators.specs.Playing.{HasKeptEntries, HaveKeptSchedule}
 use Rattle.evaluators.specs.Watching.{HasToldMoves, HaveToldMoves}
 use Rattle.evaluators.specs.declared.gated.GatedWorker.{GatedWorker}
 use Rattle.evaluators.proofs.Listed.{map_after, map_written_back, written_back}
@@ -81,3 +81,8 @@ join_all-requires-clause-at_work g c =
     subst (All (λ (gated : GatedWorker TableWorker _). IsAtWork c.in_ok-table.table gated.worker))
     (sym (written_back (λ (gated : GatedWorker TableWorker _). post_of gated.worker) crew.items left crew.len crew.ok.0
     posts)) c.play.ensures.at_work
+
+pub play-requires-clause-unmoved : goal.play-requires-clause-unmoved
+play-requires-clause-unmoved g c =
+    subst (All (λ (gated : GatedWorker TableWorker _). HasKeptEntries 0 gated.worker.machine))
+    (sym c.as_mut_slice.ensures.value) (c.in_ok-crew.ensures {u = tt}).unmoved

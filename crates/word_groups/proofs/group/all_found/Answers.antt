@@ -11,10 +11,10 @@ pub closed-requires : goal.closed-requires
 closed-requires g c =
     let order = c.args.order.now in
     let slot = c.in-Some.slot in
-    let left : Slot _ → Type 0 = λ it. IfSome it.found (IsEnded order.workers order.seed it.problem.now) in
+    let left : Slot _ → Type 0 = λ it. IfSome it.found (IsEnded order.workers order.seed it.sharing) in
     let whole = sym c.loop-slot.invariant.left
     ∙ ap (λ items. c.loop-slot.yielded ++ items) c.in-Some.ensures.steps.0 in
-    some_ended order.workers order.seed slot.problem.now slot.found
+    some_ended order.workers order.seed slot.sharing slot.found
     (all_between left c.loop-slot.yielded _ slot (subst (All left) whole c.requires))
 
 pub loop-slot-preserved : goal.loop-slot-preserved
@@ -22,8 +22,8 @@ loop-slot-preserved g c =
     let order = c.args.order.now in
     let slot = c.in-Some.slot in
     let yielded = c.loop-slot.yielded in
-    let asked : Slot _ → _ = λ it. it.problem.now in
-    let left : Slot _ → Type 0 = λ it. IfSome it.found (IsEnded order.workers order.seed it.problem.now) in
+    let asked : Slot _ → _ = λ it. it.sharing in
+    let left : Slot _ → Type 0 = λ it. IfSome it.found (IsEnded order.workers order.seed it.sharing) in
     let whole = sym c.loop-slot.invariant.left ∙ ap (λ items. yielded ++ items) c.in-Some.ensures.steps.0 in
     let here = all_between left yielded _ slot (subst (All left) whole c.requires) in
     let run = IsRunToEnd order.workers order.seed in
@@ -32,5 +32,5 @@ loop-slot-preserved g c =
           ∙ sym (ap (λ items. yielded ++ items) c.in-Some.ensures.steps.0) ∙ c.loop-slot.invariant.left;
       found = subst (AllZip run (map asked (yielded ++ slot ∷ []))) (sym (c.in_ok-push.ensures {u = tt}).items)
           (zip_push asked run yielded c.loop-slot.all.items slot c.in_ok-closed.field-0 c.loop-slot.invariant.found
-          (c.in_ok-closed.ensures order.workers order.seed slot.problem.now here));
+          (c.in_ok-closed.ensures order.workers order.seed slot.sharing here));
     }

@@ -7,5 +7,5 @@ use Rattle.word_groups.proofs.group.all_found.Given as goal
 abbrev pub invariant-loop-slot : goal.invariant-loop-slot
 invariant-loop-slot g l = record {
   left : l.yielded ++ into_iter_items l.slot-iterator ≡ l.fn.slots.items;
-  found : AllZip (IsRunToEnd l.order.workers l.order.seed) (map (λ slot. slot.problem.now) l.yielded) l.all.items;
+  found : AllZip (IsRunToEnd l.order.workers l.order.seed) (map (λ slot. slot.sharing) l.yielded) l.all.items;
 }

@@ -3,16 +3,16 @@ use Rattle.adp_model.specs.declared.cell.Cell.{Cell}
 use Rattle.adp_model.specs.PosedProblem.{PosedProblem}
 use Rattle.adp_model.specs.Demand.{IsDemanded, IsDemandedCount}
 use Rattle.cell_tables.specs.Marks.{IsMarkedInRow}
-use Rattle.seq_reference.proofs.solving.solve.Goals as goal
+use Rattle.seq_reference.proofs.solving.solve_prepared.Goals as goal
 
 pub demanded_marks-requires : goal.demanded_marks-requires
-demanded_marks-requires c = c.in_ok-layout.ensures ∙ sym c.in_ok-lines.ensures
+demanded_marks-requires c = c.into_parts-lines.ensures.layout ∙ sym c.into_parts-lines.ensures.lines
 
 pub filled_scores-requires-clause-same_problem : goal.filled_scores-requires-clause-same_problem
 filled_scores-requires-clause-same_problem c = c.in_ok-marks.ensures.problem
 
 pub filled_scores-requires-clause-same_layout : goal.filled_scores-requires-clause-same_layout
-filled_scores-requires-clause-same_layout c = c.in_ok-layout.ensures ∙ sym c.in_ok-lines.ensures
+filled_scores-requires-clause-same_layout c = c.into_parts-lines.ensures.layout ∙ sym c.into_parts-lines.ensures.lines
 
 pub filled_scores-requires-clause-marked : goal.filled_scores-requires-clause-marked
 filled_scores-requires-clause-marked c = c.in_ok-marks.ensures.rows
@@ -22,18 +22,18 @@ count-cells-requires c =
     let R : PosedProblem → Type 0 = λ p. (cell : Cell) → IsMarkedInRow c.in_ok-marks.marks cell ↔ IsDemanded p cell in
     subst R (sym c.in_ok-marks.ensures.problem) c.in_ok-marks.ensures.rows
 
-pub new-requires-3-clause-same_problem : goal.new-requires-3-clause-same_problem
-new-requires-3-clause-same_problem c = c.in_ok-scores.ensures.problem
+pub new-requires-clause-same_problem : goal.new-requires-clause-same_problem
+new-requires-clause-same_problem c = c.in_ok-scores.ensures.problem
 
-pub new-requires-3-clause-marked : goal.new-requires-3-clause-marked
-new-requires-3-clause-marked c = c.in_ok-marks.ensures.rows
+pub new-requires-clause-marked : goal.new-requires-clause-marked
+new-requires-clause-marked c = c.in_ok-marks.ensures.rows
 
-pub new-requires-3-clause-scored : goal.new-requires-3-clause-scored
-new-requires-3-clause-scored c = c.in_ok-scores.ensures.scored
+pub new-requires-clause-scored : goal.new-requires-clause-scored
+new-requires-clause-scored c = c.in_ok-scores.ensures.scored
 
-pub new-requires-3-clause-counted : goal.new-requires-3-clause-counted
-new-requires-3-clause-counted c =
+pub new-requires-clause-counted : goal.new-requires-clause-counted
+new-requires-clause-counted c =
     subst (λ (p : PosedProblem). IsDemandedCount p c.count-cells.result) c.in_ok-marks.ensures.problem c.count-cells.ensures
 
 pub returns : goal.returns
-returns c = c.new-3.ensures ∙ c.in_ok-lines.ensures
+returns c = c.new.ensures ∙ c.into_parts-lines.ensures.lines

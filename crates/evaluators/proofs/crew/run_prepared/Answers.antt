@@ -3,22 +3,23 @@ use Rattle.evaluators.proofs.worker.Worker.TheSendSync as worker
 use denote.Param.Send.{sendable}
 use Rattle.std.proofs.Crossing.{crosses}
 use Rattle.std.proofs.Common.{◌≡◌, true, map, All, sym, ap, ◌∙◌, subst}
+use Rattle.adp_model.specs.PosedProblem.{PosedProblem}
 use Rattle.memo_words.specs.Passes.{problem_of}
 use Rattle.evaluators.specs.Posts.{posts_of}
 use Rattle.evaluators.specs.Joined.{IsJoined}
-use Rattle.evaluators.specs.Runs.{HasFirstEnded, ended_of}
+use Rattle.evaluators.specs.Runs.{IsFinished, HasFirstEnded, ended_of}
 use Rattle.evaluators.specs.Working.{TableWorker, post_of}
 use Rattle.evaluators.specs.declared.gated.GatedWorker.{GatedWorker}
 use Rattle.cell_core.proofs.SharedParts.{machine_send}
 use Rattle.evaluators.proofs.SentProbes.{probe_send}
 use Rattle.evaluators.proofs.Listed.{map_after, map_written_back}
 use Rattle.evaluators.proofs.Finishing.{all_ended, first_of_ended}
-use Rattle.evaluators.proofs.crew.run_workers.Goals as goal
+use Rattle.evaluators.proofs.crew.run_prepared.Goals as goal
 
 pub join_all-requires-clause-posts : goal.join_all-requires-clause-posts
 join_all-requires-clause-posts g c =
     let crew = c.in_ok-crew.crew in
-    let same = sym (c.in_ok-table.ensures {u = tt}).problem in
+    let same = sym ((c.in_ok-table.ensures {u = tt}).problem ∙ c.problem-problem.ensures) in
     map_written_back (λ (gated : GatedWorker TableWorker _). post_of gated.worker) crew.items c.run_all.new.workers
     crew.len crew.ok.0
     (c.run_all.ensures.posts
@@ -36,8 +37,13 @@ join_all-requires-clause-first g c =
     subst HasFirstEnded (sym machines)
     (first_of_ended (λ (gated : GatedWorker TableWorker _). gated.worker) c.in_ok-table.table left
     (problem_of c.in_ok-table.table) c.args.seed c.args.workers c.run_all.ensures.done
-    (posts ∙ (c.in_ok-crew.ensures {u = tt}).posts ∙ ap (λ p. posts_of p c.args.seed c.args.workers) (sym (c.in_ok-table.ensures {u = tt}).problem))
+    (posts ∙ (c.in_ok-crew.ensures {u = tt}).posts
+    ∙ ap (λ p. posts_of p c.args.seed c.args.workers) (sym ((c.in_ok-table.ensures {u = tt}).problem ∙ c.problem-problem.ensures)))
     c.requires.0)
+
+pub returns-clause-finished : goal.returns-clause-finished
+returns-clause-finished g c =
+    subst (λ (p : PosedProblem). IsFinished p c.args.seed c.finish.result) c.problem-problem.ensures c.finish.ensures.finished
 
 pub returns-clause-ended : goal.returns-clause-ended
 returns-clause-ended g c =
