@@ -1,15 +1,17 @@
 -- Words that are reported a group at a time, or one by one.
 use Rattle.std.proofs.Common.{◌≡◌, ℕ, zero, suc, ◌+◌, ◌<◌, ◌≤◌, List, [], ◌∷◌, ◌++◌, length, take, drop, get_or, Option, None, Some, Result, Ok, Err, refl, sym, ap, subst, ◌∙◌, arith, length-append, length-drop}
-use Rattle.std.specs.List.{concat, AllByRecursion, AllZip}
+use Rattle.std.specs.List.{concat, All, AllByRecursion, AllZip}
 use Rattle.std.specs.Io.KnownBytes.{Appends}
 use Rattle.std.proofs.KnownBytes.{Appends-nil, Appends-trans}
 use Rattle.std.proofs.Math.Seq.{take-nil}
-use Rattle.std.proofs.lemmas.List.{append-nil, take_more, length-take-le, take-append-le, get_or_append_left, get_or-drop}
+use Rattle.std.proofs.lemmas.List.{append-nil, take_more, length-take-le, take-append-le, get_or_append_left, get_or-drop, get_or-map, get_or_default, length-map, drop-map}
 use Rattle.std.proofs.lemmas.List.Folds.{concat-append}
 use Rattle.std.proofs.lemmas.List.Sums.{sum_by_push}
 use Rattle.adp_model.specs.Cells.{IsCellBound}
 use Rattle.adp_model.specs.PosedProblem.{PosedProblem}
 use Rattle.adp_model.specs.declared.grammar.Grammar.{Grammar}
+use Rattle.grammar_check.specs.CheckedGrammar.{CheckedGrammar}
+use Rattle.split_lines.specs.Shared.{without_word}
 use Rattle.verdicts.specs.Posed.{posed_word, posed_words}
 use Rattle.verdicts.specs.declared.command.Mode.{Mode}
 use Rattle.verdicts.specs.declared.command.Mode.TheVariants.{Best, Cert, KBest, Lex, Serial}
@@ -23,7 +25,7 @@ use Rattle.adp_main.specs.declared.status.Status.TheVariants.{Done}
 use Rattle.adp_main.specs.declared.lex.Compiled.{Compiled}
 use Rattle.adp_main.specs.Faults.{status_of}
 use Rattle.adp_main.specs.FirstWords.{AreFirstEnding, AreReported, IsReportedUpTo}
-use Rattle.adp_main.specs.Groups.{HaveCells, IsGrouped, IsSolvedFor}
+use Rattle.adp_main.specs.Groups.{HaveCells, IsGrouped, IsSolvedFor, common_of}
 use Rattle.adp_main.specs.Reporting.{AreReportsOf, HasWritten}
 use Rattle.adp_main.specs.RunNotes.{AreNoted, IsRunOf}
 use Rattle.adp_main.specs.Writing.{IsRunWith, IsWordEnding}
@@ -111,6 +113,50 @@ cells_more ps p cells count (counts, each, is) bound = (
   zip_more (λ (it : PosedProblem) (number : ℕ). IsCellBound it.grammar (length it.word) number) ps counts p count each bound,
   ap (λ n. n + count) is ∙ sym (sum_by_push (λ n. n) counts count),
 )
+
+-- ---- what the problems of a group have in common
+
+-- a word of the job that stands before others
+without_its_word : (grammar : Grammar) (algebra : ℕ) (words : List (List ℕ)) (asked rest : List PosedProblem) (k : ℕ)
+    (p : PosedProblem) → asked ++ rest ≡ posed_words grammar algebra words → k < length asked → p ≡ get_or asked k p
+    → without_word p ≡ posed_word grammar algebra []
+without_its_word grammar algebra words asked rest k p are inside is =
+    let further : k < length words =
+    omega (
+      arith,
+      inside,
+      length-append asked rest,
+      ap length {y = posed_words grammar algebra words} are,
+      length-map words (posed_word grammar algebra),
+    ) in
+    ap without_word
+    (is ∙ sym (get_or_append_left asked rest p k inside) ∙ ap (λ (ps : List PosedProblem). get_or ps k p) are
+    ∙ get_or-map (posed_word grammar algebra) words k [] p further)
+
+-- the same of a problem that is solved for it
+has_common : (command : Command) (first : CheckedGrammar) (made : Option Compiled) (asked problem : PosedProblem)
+    → without_word asked ≡ posed_word first.grammar first.algebra [] → IsSolvedFor command made asked problem
+    → without_word problem ≡ common_of first made
+has_common command first None asked problem is (single, its) = ap without_word its ∙ is
+has_common command first (Some made) asked problem is (lex, for, its) = ap without_word its
+
+pub have_common : (command : Command) (first : CheckedGrammar) (made : Option Compiled) (words : List (List ℕ))
+    (place : ℕ) (asked rest problems : List PosedProblem) → AllZip (IsSolvedFor command made) asked problems
+    → asked ++ rest ≡ drop place (posed_words first.grammar first.algebra words)
+    → All (λ p. without_word p ≡ common_of first made) problems
+have_common command first made words place asked rest problems solved are =
+    λ k d inside.
+    let problem = get_or problems k d in
+    let at = asked_at (IsSolvedFor command made) asked problems k problem solved inside
+    (get_or_default problems k d problem inside) in
+    has_common command first made at.0 problem
+    (without_its_word first.grammar first.algebra (drop place words) asked rest k at.0
+    (are ∙ drop-map (posed_word first.grammar first.algebra) place words) at.1 at.2) at.3
+
+-- what is of this grammar and algebra is of each of them
+pub of_each : (common shared : PosedProblem) (problems : List PosedProblem)
+    → All (λ p. without_word p ≡ common) problems → shared ≡ common → All (λ p. shared ≡ without_word p) problems
+of_each common shared problems each is = λ k d inside. is ∙ sym (each k d inside)
 
 -- ---- modes
 

@@ -1,15 +1,18 @@
 -- Which words are taken as a group, and the problems by which these are answered.
-use Rattle.std.specs.Prelude.{◌≡◌, ℕ, ◌<◌, ◌≤◌, ◌⊎◌, Option, None, Some, List, length, sum}
+use Rattle.std.specs.Prelude.{◌≡◌, ℕ, ◌<◌, ◌≤◌, ◌⊎◌, Option, None, Some, List, [], All, length, sum}
 use Rattle.std.specs.List.{AllZip}
 use Rattle.adp_model.specs.PosedProblem.{PosedProblem}
 use Rattle.adp_model.specs.Cells.{IsCellBound}
 use Rattle.adp_model.specs.ProblemFields.{most_cells}
 use Rattle.grammar_check.specs.CheckedGrammar.{CheckedGrammar}
+use Rattle.split_lines.specs.Shared.{without_word}
 use Rattle.verdicts.specs.declared.command.Mode.{Mode}
 use Rattle.verdicts.specs.declared.command.Mode.TheVariants.{Best, Cert, Lex}
 use Rattle.verdicts.specs.Command.{Command}
+use Rattle.verdicts.specs.Posed.{posed_word}
 use Rattle.adp_main.specs.declared.lex.Compiled.{Compiled}
 use Rattle.adp_main.specs.CompiledWords.{IsCompiledFor, ServesItsLength, compiled_word}
+use Rattle.adp_main.specs.SharedWords.{IsSharedOf}
 
 -- the mode's words are solved in groups: its reports tell nothing of evaluators
 abbrev pub IsGrouped : Mode → Type 0
@@ -48,3 +51,13 @@ abbrev pub IsSolvedFor : Command → Option Compiled → PosedProblem → PosedP
 IsSolvedFor command None asked problem = (command.mode ≡ Lex → ⊥) × (problem ≡ asked)
 IsSolvedFor command (Some made) asked problem =
     (command.mode ≡ Lex) × IsCompiledFor command.second asked made × (problem ≡ compiled_word made asked.word)
+
+-- what the problems of a group have in common: grammar and algebra of the job, or what is compiled of these; no word
+abbrev pub common_of : CheckedGrammar → Option Compiled → PosedProblem
+common_of first None = posed_word first.grammar first.algebra []
+common_of first (Some made) = compiled_word made []
+
+-- the problems have one grammar and one algebra, of which is what is shared, if it is
+abbrev pub AreAlike : List PosedProblem → Option PosedProblem → Type 0
+AreAlike problems shared =
+    (common : PosedProblem) × All (λ p. without_word p ≡ common) problems × IsSharedOf common shared

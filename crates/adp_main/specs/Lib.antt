@@ -3,6 +3,7 @@ pub mod Faults
 pub mod JudgedWords
 pub mod KeptLengths
 pub mod Seconds
+pub mod SharedWords
 pub mod CompiledWords
 pub mod RunNotes
 pub mod Ending

@@ -1,23 +1,27 @@
 //! The mode `cert`: certificates by evaluators on threads, the block of each word and the job behind them.
 ghost use Rattle.std.specs.Prelude.{◌≡◌, ◌++◌, ℕ, None, IfOk};
+ghost use Rattle.std.specs.Option.{option_copied};
 ghost use Rattle.adp_io.specs.Causes.{RisesWhere};
 ghost use Rattle.adp_io.specs.Streams.{SameTold};
 ghost use Rattle.adp_model.specs.Report.{line};
 ghost use Rattle.evaluators.specs.Runs.{IsFinished};
+ghost use Rattle.split_lines.specs.Shared.{without_word};
 ghost use Rattle.verdicts.specs.Certificates.{IsBlockReport, before_block, behind_blocks};
 ghost use Rattle.verdicts.specs.declared.command.Mode.TheVariants.{Cert};
 ghost use Rattle.adp_main.specs.Faults.{status_after};
 ghost use Rattle.adp_main.specs.Reporting.{HasWritten};
 ghost use Rattle.adp_main.specs.RunNotes.{IsRunOf};
+ghost use Rattle.adp_main.specs.SharedWords.{IsSharedOf};
 ghost use Rattle.adp_main.specs.Writing.{IsWordEnding};
 ghost use Rattle.adp_main.specs.declared.status.Status.TheVariants.{WriteFault};
 
-use crate::evaluating::{run_evaluators, write_run};
+use crate::evaluating::{run_over, write_run};
 use crate::writing::write_report;
 use adp_io::Sink;
 use adp_model::Problem;
 use evaluators::{Finished, Gate};
 use report::Fault;
+use split_lines::Shared;
 use std::alloc::{AllocError, Global};
 use std::thread::Threads;
 use table_certificate::certificate;
@@ -30,16 +34,18 @@ pub(crate) fn report_word<R: Threads + Sync, K: Sink, G: Gate>(
     command: &Command<'_>,
     number: u32,
     problem: &Problem<'_>,
+    shared: Option<&Shared<'_>>,
     out: &mut K,
     gate: &mut G,
 ) -> Result<(), Fault>
     requires mode { command.now.mode ≡ Cert }
+    requires shared { IsSharedOf (without_word problem.now) (option_copied shared) }
     ensures told { SameTold (K.held out.old) (K.held out.new) }
     ensures faults { RisesWhere (K.faults out.old) (K.faults out.new) (status_after result ≡ WriteFault) }
     ensures ending { IsWordEnding (IsRunOf command.now None number problem.now) result
         (G.runs gate.old) (G.runs gate.new) (K.held out.old) (K.held out.new) }
 {
-    let finished = run_evaluators(rt, alloc, command, problem, &*gate)?;
+    let finished = run_over(rt, alloc, command, problem, shared, &*gate)?;
     let report = block_report(alloc, number, problem, &finished)?;
     write_run(command, problem, &finished, &report, out, gate)
 }

@@ -1,22 +1,27 @@
 //! What the modes share that answer by evaluators.
 ghost use Rattle.std.specs.Prelude.{◌≡◌, ◌++◌, IfOk, ℕ};
+ghost use Rattle.std.specs.Option.{option_copied};
 ghost use Rattle.verdicts.specs.declared.command.Mode.TheVariants.{Replay};
 ghost use Rattle.adp_io.specs.Causes.{RisesWhere};
 ghost use Rattle.adp_io.specs.Streams.{SameTold};
 ghost use Rattle.adp_model.specs.Report.{IsReport, IsWinsReport, wins_line};
 ghost use Rattle.evaluators.specs.Runs.{IsFinished};
+ghost use Rattle.split_lines.specs.Shared.{without_word};
 ghost use Rattle.adp_main.specs.Faults.{status_after};
+ghost use Rattle.adp_main.specs.SharedWords.{IsSharedOf};
 ghost use Rattle.adp_main.specs.Writing.{IsRunFor, IsRunWith, IsWordEnding};
 ghost use Rattle.adp_main.specs.declared.status.Status.TheVariants.{WriteFault};
 
+use crate::preparing::prepare;
 use crate::reporting::answered_report;
 use crate::writing::write_report;
 use adp_io::Sink;
 use adp_model::Problem;
 use adp_model::laws::demand::demanded_cells_are_unique;
 use command_words::schedule_entries;
-use evaluators::{Finished, Gate, run_schedule, run_workers};
+use evaluators::{Finished, Gate, run_prepared, run_schedule, run_workers};
 use report::{Fault, push_wins};
+use split_lines::Shared;
 use std::alloc::{AllocError, Global};
 use std::thread::Threads;
 use verdicts::Command;
@@ -34,6 +39,24 @@ pub(crate) fn run_evaluators<'a, R: Threads + Sync, G: Gate>(
 {
     command.in_range();
     run_workers(rt, alloc, problem, command.workers, command.seed, gate)
+}
+
+/// The same over what the problem shares with other words, where there is something.
+pub(crate) fn run_over<'a, R: Threads + Sync, G: Gate>(
+    rt: &R,
+    alloc: Global,
+    command: &Command<'_>,
+    problem: &'a Problem<'a>,
+    shared: Option<&'a Shared<'a>>,
+    gate: &G,
+) -> Result<Finished<'a>, AllocError>
+    requires mode { command.now.mode ≡ Replay → ⊥ }
+    requires shared { IsSharedOf (without_word problem.now) (option_copied shared) }
+    ensures { IfOk result (IsRunFor command.now problem.now) }
+{
+    command.in_range();
+    let prepared = prepare(alloc, problem, shared)?;
+    run_prepared(rt, alloc, prepared, command.workers, command.seed, gate)
 }
 
 /// Solves the problem by evaluators that are stepped in the order of the command's schedule.

@@ -1,21 +1,23 @@
 //! Groups of words: solved side by side, each on one thread, and reported in order.
-ghost use Rattle.std.specs.Prelude.{◌≡◌, ◌↔◌, ◌++◌, ◌+◌, ◌<◌, ◌≤◌, List, ℕ, None, IfOk, IfSome, IsTrue, drop, length};
+ghost use Rattle.std.specs.Prelude.{◌≡◌, ◌↔◌, ◌++◌, ◌+◌, ◌<◌, ◌≤◌, [], List, ℕ, None, All, IfOk, IfSome, IsTrue, drop, length};
 ghost use Rattle.std.specs.List.{AllZip};
 ghost use Rattle.std.specs.Option.{option_copied};
 ghost use Rattle.adp_io.specs.Causes.{RisesWhere};
 ghost use Rattle.adp_io.specs.Streams.{SameTold};
 ghost use Rattle.adp_model.specs.PosedProblem.{PosedProblem};
 ghost use Rattle.adp_model.specs.ProblemFields.{most_cells};
+ghost use Rattle.split_lines.specs.Shared.{without_word};
 ghost use Rattle.verdicts.specs.declared.command.Mode.TheVariants.{Lex};
 ghost use Rattle.verdicts.specs.Posed.{posed_word, posed_words};
 ghost use Rattle.verdicts.specs.SecondAlgebra.{IsAdmissibleWith};
 ghost use Rattle.verdicts.specs.Verdict.{IsReportWith};
 ghost use Rattle.adp_main.specs.CompiledWords.{ServesItsLength};
 ghost use Rattle.adp_main.specs.FirstWords.{AreFirstEnding, IsWriteFault};
-ghost use Rattle.adp_main.specs.Groups.{HasItsLength, HasRoom, HaveCells, IsGrouped, IsMadeFor, IsSolvedFor, TakesGroups};
+ghost use Rattle.adp_main.specs.Groups.{AreAlike, HasItsLength, HasRoom, HaveCells, IsGrouped, IsMadeFor, IsSolvedFor, TakesGroups, common_of};
 ghost use Rattle.adp_main.specs.JudgedWords.{AreJudged};
 ghost use Rattle.adp_main.specs.KeptLengths.{HasKept};
 ghost use Rattle.adp_main.specs.Seconds.{AreJobRows};
+ghost use Rattle.adp_main.specs.SharedWords.{IsSharedOf};
 ghost use Rattle.adp_main.specs.Writing.{IsRunFor};
 
 use crate::admitting::admitted;
@@ -29,6 +31,7 @@ use adp_io::Sink;
 use adp_model::{Problem, Text};
 use evaluators::{Finished, Gate};
 use report::Fault;
+use split_lines::Shared;
 use std::alloc::{AllocError, Global};
 use std::thread::Threads;
 use verdicts::{Command, Mode};
@@ -63,6 +66,7 @@ pub(crate) fn write_side_by_side<R: Threads + Sync, K: Sink, G: Gate>(
     place: usize,
     job: &CheckedJob,
     judged: &Judged,
+    shared: Option<&Shared<'_>>,
     side_by_side: &mut bool,
     kept: &mut Option<Compiled>,
     out: &mut K,
@@ -70,6 +74,7 @@ pub(crate) fn write_side_by_side<R: Threads + Sync, K: Sink, G: Gate>(
 ) -> Result<usize, Fault>
     requires inside { place < length job.now.words }
     requires judged { AreJudged command.now job.now judged.now }
+    requires shared { IsSharedOf (posed_word job.now.checked.grammar job.now.checked.algebra []) (option_copied shared) }
     requires kept { IfSome kept.old (ServesItsLength command.now.second job.now.checked) }
     ensures kept { IfSome kept.new (ServesItsLength command.now.second job.now.checked) }
     ensures told { SameTold (K.held out.old) (K.held out.new) }
@@ -90,6 +95,7 @@ pub(crate) fn write_side_by_side<R: Threads + Sync, K: Sink, G: Gate>(
             job,
             judged,
             None,
+            shared,
             side_by_side,
             out,
             gate,
@@ -107,6 +113,7 @@ pub(crate) fn write_side_by_side<R: Threads + Sync, K: Sink, G: Gate>(
             job,
             judged,
             kept.as_ref(),
+            None,
             side_by_side,
             out,
             gate,
@@ -128,6 +135,7 @@ fn write_next_group<R: Threads + Sync, K: Sink, G: Gate>(
     job: &CheckedJob,
     judged: &Judged,
     made: Option<&Compiled>,
+    shared: Option<&Shared<'_>>,
     side_by_side: &mut bool,
     out: &mut K,
     gate: &mut G,
@@ -136,6 +144,7 @@ fn write_next_group<R: Threads + Sync, K: Sink, G: Gate>(
     requires inside { place < length job.now.words }
     requires judged { AreJudged command.now job.now judged.now }
     requires made { IsMadeFor command.now job.now.checked (option_copied made) }
+    requires shared { IsSharedOf (common_of job.now.checked (option_copied made)) (option_copied shared) }
     ensures told { SameTold (K.held out.old) (K.held out.new) }
     ensures faults { RisesWhere (K.faults out.old) (K.faults out.new) (IsWriteFault result) }
     ensures ending { AreFirstEnding command.now (place + 1)
@@ -147,7 +156,9 @@ fn write_next_group<R: Threads + Sync, K: Sink, G: Gate>(
         return Ok(0);
     }
     let number = place as u32 + 1;
-    let written = write_group(rt, alloc, command, number, made, &problems, out, gate)?;
+    let written = write_group(
+        rt, alloc, command, number, made, &problems, shared, out, gate,
+    )?;
     *side_by_side = written == problems.len();
     Ok(written)
 }
@@ -236,21 +247,24 @@ fn has_room(words: usize, cells: u64, workers: usize) -> bool
 }
 
 /// Solves the problems side by side and reports them in order, the first of which has this number, as many as there is
-/// memory for.
-fn write_group<'a, R: Threads + Sync, K: Sink, G: Gate>(
+/// memory for. What they share is worked out here, unless it is there for all words of the job.
+fn write_group<R: Threads + Sync, K: Sink, G: Gate>(
     rt: &R,
     alloc: Global,
     command: &Command<'_>,
     number: u32,
     made: Option<&Compiled>,
-    problems: &'a [Problem<'a>],
+    problems: &[Problem<'_>],
+    shared: Option<&Shared<'_>>,
     out: &mut K,
     gate: &mut G,
 ) -> Result<usize, Fault>
     requires mode { IsGrouped command.now.mode }
+    requires some { 0 < length problems.now }
     requires few { number + length problems.now ≤ 65537 }
     requires asked { (asked : List PosedProblem)
         × AllZip (IsSolvedFor command.now (option_copied made)) asked problems.now }
+    requires alike { AreAlike problems.now (option_copied shared) }
     ensures told { SameTold (K.held out.old) (K.held out.new) }
     ensures faults { RisesWhere (K.faults out.old) (K.faults out.new) (IsWriteFault result) }
     ensures ending { (asked : List PosedProblem)
@@ -258,7 +272,44 @@ fn write_group<'a, R: Threads + Sync, K: Sink, G: Gate>(
         → AreFirstEnding command.now number asked result
         (G.runs gate.old) (G.runs gate.new) (K.held out.old) (K.held out.new) }
 {
-    match run_side_by_side(rt, alloc, command, problems, &*gate) {
+    match shared {
+        Some(shared) => write_over(
+            rt, alloc, command, number, made, problems, shared, out, gate,
+        ),
+        None => match Shared::new(alloc, &problems[0]) {
+            Ok(shared) => write_over(
+                rt, alloc, command, number, made, problems, &shared, out, gate,
+            ),
+            Err(_) => Ok(0),
+        },
+    }
+}
+
+/// The same over what the problems share.
+fn write_over<R: Threads + Sync, K: Sink, G: Gate>(
+    rt: &R,
+    alloc: Global,
+    command: &Command<'_>,
+    number: u32,
+    made: Option<&Compiled>,
+    problems: &[Problem<'_>],
+    shared: &Shared<'_>,
+    out: &mut K,
+    gate: &mut G,
+) -> Result<usize, Fault>
+    requires mode { IsGrouped command.now.mode }
+    requires few { number + length problems.now ≤ 65537 }
+    requires asked { (asked : List PosedProblem)
+        × AllZip (IsSolvedFor command.now (option_copied made)) asked problems.now }
+    requires shared { All (λ p. shared.now ≡ without_word p) problems.now }
+    ensures told { SameTold (K.held out.old) (K.held out.new) }
+    ensures faults { RisesWhere (K.faults out.old) (K.faults out.new) (IsWriteFault result) }
+    ensures ending { (asked : List PosedProblem)
+        → AllZip (IsSolvedFor command.now (option_copied made.entry)) asked problems.now
+        → AreFirstEnding command.now number asked result
+        (G.runs gate.old) (G.runs gate.new) (K.held out.old) (K.held out.new) }
+{
+    match run_side_by_side(rt, alloc, command, problems, shared, &*gate) {
         Ok(all) => write_solved(alloc, command, number, made, problems, &all, out, gate),
         Err(_) => Ok(0),
     }
@@ -270,13 +321,23 @@ fn run_side_by_side<'a, R: Threads + Sync, G: Gate>(
     alloc: Global,
     command: &Command<'_>,
     problems: &'a [Problem<'a>],
+    shared: &'a Shared<'a>,
     gate: &G,
 ) -> Result<Vec<Finished<'a>>, AllocError>
-    requires { IsGrouped command.now.mode }
+    requires mode { IsGrouped command.now.mode }
+    requires shared { All (λ p. shared.now ≡ without_word p) problems.now }
     ensures { IfOk result (λ all. AllZip (IsRunFor command.now) problems.now all.items) }
 {
     command.in_range();
-    run_group(rt, alloc, problems, command.workers, command.seed, gate)
+    run_group(
+        rt,
+        alloc,
+        problems,
+        shared,
+        command.workers,
+        command.seed,
+        gate,
+    )
 }
 
 /// Reports problems in order that evaluators solved, each by one `write_whole`, and tells the gate of each run, as many

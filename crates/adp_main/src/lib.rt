@@ -14,6 +14,7 @@ mod groups;
 mod kbest;
 mod lex;
 mod limits;
+mod preparing;
 mod replay;
 mod reporting;
 mod serial;

@@ -1,5 +1,6 @@
 //! The reports of words that keep the limits, found and written one by one.
 ghost use Rattle.std.specs.Prelude.{◌≡◌, ◌++◌, ◌+◌, ◌<◌, ◌≤◌, [], List, ℕ, IfOk, IfSome, drop, get_or, length, None};
+ghost use Rattle.std.specs.Option.{option_copied};
 ghost use Rattle.adp_io.specs.Causes.{RisesWhere};
 ghost use Rattle.adp_io.specs.Streams.{SameTold};
 ghost use Rattle.verdicts.specs.Command.{ReadsJob};
@@ -15,6 +16,7 @@ ghost use Rattle.verdicts.specs.Posed.{posed_word, posed_words};
 ghost use Rattle.adp_main.specs.Reporting.{AreReportsOf, HasWritten};
 ghost use Rattle.adp_main.specs.RunNotes.{AreNoted, IsRunOf};
 ghost use Rattle.adp_main.specs.Seconds.{AreJobRows, IsSecondOf};
+ghost use Rattle.adp_main.specs.SharedWords.{IsSharedOf};
 ghost use Rattle.adp_main.specs.Writing.{IsReportWritten, IsWordEnding};
 ghost use Rattle.adp_main.specs.declared.status.Status.TheVariants.{WriteFault};
 
@@ -23,11 +25,13 @@ use crate::checking::CheckedJob;
 use crate::groups::write_side_by_side;
 use crate::lex::Compiled;
 use crate::limits::Judged;
+use crate::preparing::shared_by_words;
 use crate::{best, cert, kbest, lex, replay, serial, wins};
 use adp_io::{Sink, write_whole};
 use adp_model::Text;
 use evaluators::Gate;
 use report::Fault;
+use split_lines::Shared;
 use std::alloc::Global;
 use std::thread::Threads;
 use verdicts::laws::words_have_reports;
@@ -85,6 +89,7 @@ fn write_behind<K: Sink>(
 
 /// Writes the reports of the words in order, the first of which has number 1, each in the command's mode. Each word
 /// keeps the limits, and is admitted when its turn comes, so that there is one problem at a time, or those of a group.
+/// What the words share is worked out once, before the first of them.
 pub(crate) fn write_words<R: Threads + Sync, K: Sink, G: Gate>(
     rt: &R,
     alloc: Global,
@@ -110,6 +115,7 @@ pub(crate) fn write_words<R: Threads + Sync, K: Sink, G: Gate>(
     command.in_range();
     words_have_reports();
     let words = job.words.as_slice().len();
+    let shared = shared_by_words(alloc, command, job, judged);
     let mut kept = None;
     let mut side_by_side = true;
     let mut place = 0;
@@ -121,6 +127,7 @@ pub(crate) fn write_words<R: Threads + Sync, K: Sink, G: Gate>(
             place,
             job,
             judged,
+            shared.as_ref(),
             &mut side_by_side,
             &mut kept,
             out,
@@ -138,6 +145,7 @@ fn write_next<R: Threads + Sync, K: Sink, G: Gate>(
     place: usize,
     job: &CheckedJob,
     judged: &Judged,
+    shared: Option<&Shared<'_>>,
     side_by_side: &mut bool,
     kept: &mut Option<Compiled>,
     out: &mut K,
@@ -147,6 +155,7 @@ fn write_next<R: Threads + Sync, K: Sink, G: Gate>(
     requires finds { command.now.mode ≡ Verify → ⊥ }
     requires inside { place < length job.now.words }
     requires judged { AreJudged command.now job.now judged.now }
+    requires shared { IsSharedOf (posed_word job.now.checked.grammar job.now.checked.algebra []) (option_copied shared) }
     requires kept { IfSome kept.old (ServesItsLength command.now.second job.now.checked) }
     ensures kept { IfSome kept.new (ServesItsLength command.now.second job.now.checked) }
     ensures told { SameTold (K.held out.old) (K.held out.new) }
@@ -163,6 +172,7 @@ fn write_next<R: Threads + Sync, K: Sink, G: Gate>(
         place,
         job,
         judged,
+        shared,
         side_by_side,
         kept,
         out,
@@ -176,7 +186,7 @@ fn write_next<R: Threads + Sync, K: Sink, G: Gate>(
     is_admitted(command, job, judged, words, place, word);
     let number = place as u32 + 1;
     write_word(
-        rt, alloc, command, number, job, judged, word, kept, out, gate,
+        rt, alloc, command, number, job, judged, word, shared, kept, out, gate,
     )?;
     Ok(1)
 }
@@ -216,6 +226,7 @@ fn write_word<R: Threads + Sync, K: Sink, G: Gate>(
     job: &CheckedJob,
     judged: &Judged,
     word: &Text,
+    shared: Option<&Shared<'_>>,
     kept: &mut Option<Compiled>,
     out: &mut K,
     gate: &mut G,
@@ -229,6 +240,7 @@ fn write_word<R: Threads + Sync, K: Sink, G: Gate>(
         judged.now.compiled.items (length word.now) }
     requires admissible { IsAdmissibleWith command.now.second
         (posed_word job.now.checked.grammar job.now.checked.algebra word.now) }
+    requires shared { IsSharedOf (posed_word job.now.checked.grammar job.now.checked.algebra []) (option_copied shared) }
     requires kept { IfSome kept.old (ServesItsLength command.now.second job.now.checked) }
     ensures kept { IfSome kept.new (ServesItsLength command.now.second job.now.checked) }
     ensures told { SameTold (K.held out.old) (K.held out.new) }
@@ -241,11 +253,11 @@ fn write_word<R: Threads + Sync, K: Sink, G: Gate>(
     match command.mode {
         Mode::Best => {
             let problem = admitted(&job.checked, rows, word);
-            best::report_word(rt, alloc, command, number, &problem, out, gate)
+            best::report_word(rt, alloc, command, number, &problem, shared, out, gate)
         },
         Mode::Serial => {
             let problem = admitted(&job.checked, rows, word);
-            serial::report_word(alloc, number, &problem, out)
+            serial::report_word(alloc, number, &problem, shared, out)
         },
         Mode::Wins => {
             let problem = admitted(&job.checked, rows, word);
@@ -257,7 +269,7 @@ fn write_word<R: Threads + Sync, K: Sink, G: Gate>(
         },
         Mode::Cert => {
             let problem = admitted(&job.checked, rows, word);
-            cert::report_word(rt, alloc, command, number, &problem, out, gate)
+            cert::report_word(rt, alloc, command, number, &problem, shared, out, gate)
         },
         Mode::Lex => {
             lex::report_word(

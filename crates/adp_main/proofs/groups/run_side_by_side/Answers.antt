@@ -14,5 +14,5 @@ returns g c =
     let problems = c.args.problems.now in
     IfOk-weaker c.run_group.result _ _ (λ all zip. zip_weaker (IsRunToEnd c.command.inside.workers c.command.inside.seed)
     (IsRunFor command) (ran_to_end command c.command.inside.seed c.command.inside.workers
-    (grouped command.mode Replay c.requires (λ none. none)) (ap (λ (it : Command). it.seed) c.command.view_is)
+    (grouped command.mode Replay c.requires.mode (λ none. none)) (ap (λ (it : Command). it.seed) c.command.view_is)
     (ap (λ (it : Command). it.workers) c.command.view_is)) problems all.items zip) c.run_group.ensures.solved

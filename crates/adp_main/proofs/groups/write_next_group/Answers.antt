@@ -1,13 +1,14 @@
 use Rattle.std.proofs.Common.{◌≡◌, ◌+◌, List, Ok, Err, length, drop, sym, subst, arith, ap}
-use Rattle.std.specs.List.{AllZip}
+use Rattle.std.specs.List.{All, AllZip}
 use Rattle.std.specs.Option.{option_copied}
 use Rattle.std.proofs.lemmas.List.{length-append, length-drop, length-map}
 use Rattle.std.proofs.lemmas.Result.{err_from_is_err_and}
 use Rattle.adp_model.specs.PosedProblem.{PosedProblem}
+use Rattle.split_lines.specs.Shared.{without_word}
 use Rattle.verdicts.specs.Posed.{posed_words}
 use Rattle.adp_main.specs.FirstWords.{AreFirstEnding}
-use Rattle.adp_main.specs.Groups.{IsSolvedFor}
-use Rattle.adp_main.proofs.FirstWords.{of_more, zip_length}
+use Rattle.adp_main.specs.Groups.{IsSolvedFor, common_of}
+use Rattle.adp_main.proofs.FirstWords.{of_more, have_common, zip_length}
 use Rattle.adp_main.proofs.groups.write_next_group.Goals as goal
 
 pub write_group-requires-clause-few : goal.write_group-requires-clause-few
@@ -34,6 +35,20 @@ write_group-requires-clause-asked g c =
       first.0,
       subst (λ (items : List PosedProblem). AllZip (IsSolvedFor c.args.command.now (option_copied c.args.made)) first.0 items)
           (sym c.deref.ensures.value) first.2,
+    )
+
+pub write_group-requires-clause-alike : goal.write_group-requires-clause-alike
+write_group-requires-clause-alike g c =
+    λ lifetimes inside.
+    let job = c.args.job.now in
+    let made = option_copied c.args.made in
+    let first = c.next_group-problems.ensures.first in (
+      common_of job.checked made,
+      subst (λ (items : List PosedProblem). All (λ p. without_word p ≡ common_of job.checked made) items)
+          (sym c.deref.ensures.value)
+          (have_common c.args.command.now job.checked made job.words c.args.place first.0 first.1
+          c.next_group-problems.result.items first.2 first.3),
+      c.requires.shared,
     )
 
 pub returns-in_err-written-clause-ending : goal.returns-in_err-written-clause-ending

@@ -1,8 +1,11 @@
 use Rattle.std.proofs.Common.{◌∙◌, None, sym, ap, subst}
+use Rattle.std.specs.Option.{option_copied}
 use Rattle.adp_model.specs.PosedProblem.{PosedProblem}
+use Rattle.split_lines.specs.Shared.{without_word}
 use Rattle.verdicts.specs.Command.{Command}
 use Rattle.verdicts.specs.Posed.{posed_word}
 use Rattle.adp_main.specs.RunNotes.{IsRunOf}
+use Rattle.adp_main.specs.SharedWords.{IsSharedOf}
 use Rattle.adp_main.specs.Writing.{IsWordEnding}
 use Rattle.adp_main.proofs.FirstLimit.{own_limits}
 use Rattle.adp_main.proofs.writing.write_word.Goals as goal
@@ -31,6 +34,21 @@ pub admitted-problem-requires-in-Cert-clause-limits : goal.admitted-problem-requ
 admitted-problem-requires-in-Cert-clause-limits g c =
     own_limits c.args.command.now.second
     (posed_word c.args.job.now.checked.grammar c.args.job.now.checked.algebra c.args.word.now) c.requires.admissible
+
+pub report_word-requires-clause-shared : goal.report_word-requires-clause-shared
+report_word-requires-clause-shared g c κs within =
+    subst (λ (p : PosedProblem). IsSharedOf (without_word p) (option_copied c.args.shared))
+    (sym c.admitted-problem.ensures) c.requires.shared
+
+pub report_word-requires-in-Serial : goal.report_word-requires-in-Serial
+report_word-requires-in-Serial g c =
+    subst (λ (p : PosedProblem). IsSharedOf (without_word p) (option_copied c.args.shared))
+    (sym c.admitted-problem-in-Serial.ensures) c.requires.shared
+
+pub report_word-requires-in-Cert-clause-shared : goal.report_word-requires-in-Cert-clause-shared
+report_word-requires-in-Cert-clause-shared g c κs within =
+    subst (λ (p : PosedProblem). IsSharedOf (without_word p) (option_copied c.args.shared))
+    (sym c.admitted-problem-in-Cert.ensures) c.requires.shared
 
 pub returns-in-Best-clause-ending : goal.returns-in-Best-clause-ending
 returns-in-Best-clause-ending g c =

@@ -1,7 +1,8 @@
-use Rattle.std.proofs.Common.{◌≡◌, ◌+◌, ◌≤◌, None, length, refl, ap, ◌∙◌, arith}
+use Rattle.std.proofs.Common.{◌≡◌, ◌+◌, ◌≤◌, None, [], length, refl, sym, ap, subst, ◌∙◌, arith}
 use Rattle.std.proofs.lemmas.List.{length-map, length-drop, take_all}
 use Rattle.std.proofs.lemmas.Result.{err_from_is_err_and}
-use Rattle.verdicts.specs.Posed.{posed_words}
+use Rattle.verdicts.specs.Posed.{posed_word, posed_words}
+use Rattle.adp_main.specs.SharedWords.{IsSharedOf}
 use Rattle.adp_main.proofs.FirstWords.{next_failed, next_reported, none_reported, up_to_noted, up_to_written, whole_noted, whole_written}
 use Rattle.adp_main.proofs.writing.write_words.Goals as goal
 
@@ -9,6 +10,7 @@ pub loop-place-init : goal.loop-place-init
 loop-place-init g c =
     record {
       inside = omega arith;
+      shared = c.shared_by_words-shared.ensures;
       kept = tt;
       told = refl;
       faults = refl;
@@ -55,6 +57,7 @@ loop-place-preserved g c =
     let count = c.in_ok-place.field-0 in
     record {
       inside = omega (arith, number, e.ending.0, length-drop c.loop-place.place all, c.loop-place.invariant.inside);
+      shared = c.loop-place.invariant.shared;
       kept = e.kept;
       told = e.told ∙ c.loop-place.invariant.told;
       faults = e.faults.stands (λ failed. failed) ∙ c.loop-place.invariant.faults;
@@ -86,3 +89,8 @@ returns-clause-noted g c =
     (λ number q admissible. c.words_have_reports.ensures command None number q c.requires.reads
     c.in_range.ensures.paired c.in_range.ensures.some_workers admissible tt)
     all c.requires.judged.admissible _ _ _ _ c.loop-place.place past c.loop-place.invariant.ran
+
+pub write_next-requires-clause-shared : goal.write_next-requires-clause-shared
+write_next-requires-clause-shared g c κs within =
+    subst (IsSharedOf (posed_word c.args.job.now.checked.grammar c.args.job.now.checked.algebra []))
+    (sym c.as_ref.ensures.value) c.loop-place.invariant.shared

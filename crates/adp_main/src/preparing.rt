@@ -1,0 +1,52 @@
+//! Problems prepared to be solved, over what the words of a job share where that is worked out for all of them.
+ghost use Rattle.std.specs.Prelude.{◌≡◌, [], IfOk};
+ghost use Rattle.std.specs.Option.{option_copied};
+ghost use Rattle.split_lines.specs.Shared.{without_word};
+ghost use Rattle.verdicts.specs.Posed.{posed_word};
+ghost use Rattle.adp_main.specs.JudgedWords.{AreJudged};
+ghost use Rattle.adp_main.specs.SharedWords.{IsSharedOf};
+
+use crate::admitting::admitted;
+use crate::checking::CheckedJob;
+use crate::limits::Judged;
+use crate::writing::is_admitted;
+use adp_model::Problem;
+use split_lines::{Prepared, Shared, Sharing};
+use std::alloc::{AllocError, Global};
+use verdicts::{Command, Mode};
+
+/// What the words of the job share, worked out from the first of them, in the modes that prepare their words over it.
+/// Nothing where there is no word, or no memory for it: each word is then prepared anew.
+pub(crate) fn shared_by_words<'a>(
+    alloc: Global,
+    command: &Command<'_>,
+    job: &'a CheckedJob,
+    judged: &Judged,
+) -> Option<Shared<'a>>
+    requires { AreJudged command.now job.now judged.now }
+    ensures { IsSharedOf (posed_word job.now.checked.grammar job.now.checked.algebra []) result }
+{
+    let words = job.words.as_slice();
+    if words.is_empty() || !matches!(command.mode, Mode::Best | Mode::Serial | Mode::Cert) {
+        return None;
+    }
+    let word = &words[0];
+    is_admitted(command, job, judged, words, 0, word);
+    let problem = admitted(&job.checked, &judged.rows.first, word);
+    Shared::new(alloc, &problem).ok()
+}
+
+/// The problem prepared, over what it shares with other words where there is something.
+pub(crate) fn prepare<'a>(
+    alloc: Global,
+    problem: &'a Problem<'a>,
+    shared: Option<&'a Shared<'a>>,
+) -> Result<Prepared<'a>, AllocError>
+    requires { IsSharedOf (without_word problem.now) (option_copied shared) }
+    ensures { IfOk result (λ prepared. prepared ≡ problem.now) }
+{
+    match shared {
+        Some(shared) => Sharing::new(problem, shared).prepared(alloc),
+        None => Prepared::new(alloc, problem),
+    }
+}
