@@ -1,13 +1,21 @@
 -- What the letters of a word tell of a class.
 use Rattle.std.specs.Prelude.{◌≡◌, ◌↔◌, ℕ, ◌+◌, ◌*◌, ◌^◌, ◌<◌, ◌≤◌, ℤ, pos, ◌-ℤ◌, nat_abs, Option, None, List, length, slice_index, slice_index_or}
 use Rattle.std.specs.List.{AllByRecursion}
+use Rattle.adp_model.specs.declared.grammar.Grammar.{Grammar}
 use Rattle.adp_model.specs.PosedProblem.{IsSpan}
+use Rattle.adp_model.specs.Parts.{letters_of}
 use Rattle.adp_model.specs.Tokens.{letters_between, IsIn, total_weight, weight_of}
 use Rattle.split_lines.specs.declared.classes.ClassTable.{ClassTable}
 
 -- for each letter its weight in the class
 abbrev pub AreLetterWeights : List (ℕ × ℤ) → List (Option ℤ) → Type 0
 AreLetterWeights class weights = (letter : ℕ) → letter < 256 → slice_index_or weights letter None ≡ weight_of class letter
+
+-- the same for each class of the grammar
+pub record AreClassWeights (grammar : Grammar) (weights : List (List (Option ℤ))) : Type 0 where
+  pub each : length weights ≡ length grammar.classes
+  pub are : (class : ℕ) (d : List (Option ℤ)) → class < length grammar.classes
+      → AreLetterWeights (letters_of grammar class) (slice_index_or weights class d)
 
 -- for each position of the word the last one up to which all letters are in the class, or one behind the word
 pub record IsAhead (class : List (ℕ × ℤ)) (word ahead : List ℕ) : Type 0 where

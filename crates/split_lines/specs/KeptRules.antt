@@ -6,6 +6,7 @@ use Rattle.adp_model.specs.declared.grammar.Grammar.{Grammar}
 use Rattle.adp_model.specs.PosedProblem.{PosedProblem}
 use Rattle.adp_model.specs.Parts.{alternatives_of, arguments_of}
 use Rattle.adp_model.specs.WellFormed.{IsKnown}
+use Rattle.split_lines.specs.Classes.{AreClassWeights}
 use Rattle.split_lines.specs.declared.kept.KeptAlternative.{KeptAlternative}
 use Rattle.split_lines.specs.declared.kept_rules.Kept.{Kept}
 use Rattle.split_lines.specs.declared.kept_rules.Kept.TheVariants.{Own, Shared}
@@ -83,8 +84,9 @@ abbrev pub kept_of : Kept → KeptRules
 kept_of (Own kept) = kept
 kept_of (Shared kept) = kept.now
 
--- what is kept of all rules, for all words
+-- what is kept of all classes and rules, for all words
 pub record AreKeptFor (grammar : Grammar) (algebra : ℕ) (kept : KeptRules) : Type 0 where
+  pub weights_are : AreClassWeights grammar kept.weights.items
   pub middles_are : AreMiddles grammar kept.middles.items
   pub rules_are : AtEachWord grammar algebra
       (λ p. AreKeptRules p kept.middles.items (length grammar.rules) kept.rules.items)

@@ -4,9 +4,9 @@ ghost use Rattle.std.specs.Prelude.{◌≡◌, ℕ, ◌<◌, ◌≤◌, IfOk, Li
 ghost use Rattle.std.specs.Bool.{OnTrue};
 ghost use Rattle.adp_model.specs.Parts.{letters_of};
 ghost use Rattle.adp_model.specs.Tokens.{total_weight, weight_of};
-ghost use Rattle.split_lines.specs.Classes.{AreLetterWeights, AreSums, IsAhead, IsBehind, IsTable};
+ghost use Rattle.split_lines.specs.Classes.{AreClassWeights, AreLetterWeights, AreSums, IsAhead, IsBehind, IsTable};
 
-use adp_model::Problem;
+use adp_model::{Grammar, Problem};
 use std::alloc::{AllocError, Global};
 use std::marker::Model;
 use viable_splits::Matcher;
@@ -23,8 +23,11 @@ pub struct ClassTable {
     pub sums: Vec<i128>,
 }
 
+/// For each letter its weight, where a class has it.
+pub type LetterWeights = [Option<i64>; 256];
+
 /// For each letter its weight, where the class has it.
-fn letter_weights(class: &[(u8, i64)]) -> [Option<i64>; 256]
+fn letter_weights(class: &[(u8, i64)]) -> LetterWeights
     ensures { AreLetterWeights class.now result }
 {
     let mut weights = [None; 256];
@@ -36,11 +39,23 @@ fn letter_weights(class: &[(u8, i64)]) -> [Option<i64>; 256]
     weights
 }
 
+/// For each class of the grammar what letters weigh in it: 4 kB a class. Fails for want of memory alone.
+pub fn class_weights(alloc: Global, grammar: &Grammar) -> Result<Vec<LetterWeights>, AllocError>
+    ensures { IfOk result (λ weights. AreClassWeights grammar.now weights.items) }
+{
+    let classes = grammar.classes.as_slice();
+    let mut weights = Vec::with_capacity(alloc, classes.len())?;
+    for class in classes {
+        weights.push(letter_weights(class.letters.as_slice()))?;
+    }
+    Ok(weights)
+}
+
 /// A class, and for each letter its weight in it.
 #[derive(Clone, Copy)]
 pub struct Weighed<'l> {
     pub class: &'l [(u8, i64)],
-    pub weights: &'l [Option<i64>; 256],
+    pub weights: &'l LetterWeights,
 }
 
 impl Weighed<'_> {
@@ -147,19 +162,22 @@ impl<'a> Model for ClassTables<'a> {
 }
 
 impl<'a> ClassTables<'a> {
-    /// The tables of all classes. Fails for want of memory alone.
-    pub fn new(alloc: Global, problem: &'a Problem<'a>) -> Result<ClassTables<'a>, AllocError>
+    /// The tables of all classes, in which letters weigh this much. Fails for want of memory alone.
+    pub fn new(
+        alloc: Global,
+        problem: &'a Problem<'a>,
+        weights: &[LetterWeights],
+    ) -> Result<ClassTables<'a>, AllocError>
+        requires { AreClassWeights problem.now.grammar weights.now }
         ensures { IfOk result (λ tables. tables ≡ problem.now) }
     {
         let word = problem.letters();
         let classes = problem.grammar.classes.as_slice();
         let mut tables = Vec::with_capacity(alloc, classes.len())?;
-        for class in classes {
-            let class = class.letters.as_slice();
-            let weights = letter_weights(class);
+        for (number, class) in classes.iter().enumerate() {
             let class = Weighed {
-                class,
-                weights: &weights,
+                class: class.letters.as_slice(),
+                weights: &weights[number],
             };
             tables.push(ClassTable {
                 ahead: ahead(alloc, class, word)?,

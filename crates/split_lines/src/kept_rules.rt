@@ -11,6 +11,7 @@ ghost use Rattle.split_lines.specs.EachWord.{AtEachWord};
 ghost use Rattle.split_lines.specs.KeptRules.{AreKeptFor, AreMiddles, HasAllOf, IsKeptOrNone, IsKeptRule, IsNumberOf, kept_of};
 
 use crate::beginnings::Beginnings;
+use crate::classes::{LetterWeights, class_weights};
 use crate::extents::{Extent, extent_of};
 use crate::kept::{KeptAlternative, kept_alternative};
 use crate::matches::fixed_letters;
@@ -46,11 +47,14 @@ pub struct KeptRule<'a> {
     pub beginnings: Beginnings,
 }
 
-/// What is kept of all rules, and the middles of their lines.
+/// What is kept of all classes and rules, and the middles of their lines.
 #[derive(Drop)]
 pub struct KeptRules<'a> {
+    pub weights: Vec<LetterWeights>,
     pub middles: Vec<Middle<'a>>,
     pub rules: Vec<KeptRule<'a>>,
+    /// Whether arguments of an alternative may come before its line.
+    pub have_tails: bool,
 }
 
 /// What is kept of all rules, for a word alone or for all words of a job.
@@ -196,18 +200,35 @@ fn kept_rule<'a>(
     })
 }
 
-/// What is kept of all rules, in time for each alternative and for the letters of literals. Memory is about a hundred
-/// bytes for each alternative, and about 800 for each rule. Fails for want of memory alone.
+/// Whether some of an alternative's arguments behind the tokens in front come before its line.
+fn has_tail(alternative: &KeptAlternative<'_>) -> bool {
+    match alternative.line {
+        Some(line) => line.first as usize > alternative.front.len(),
+        None => false,
+    }
+}
+
+/// What is kept of all classes and rules, in time for each alternative and for the letters of literals and classes. Memory
+/// is about a hundred bytes for each alternative, about 800 for each rule, and 4,096 for each class. Fails for want of
+/// memory alone.
 pub fn kept_rules<'a>(alloc: Global, problem: &Problem<'a>) -> Result<KeptRules<'a>, AllocError>
     ensures { IfOk result (AreKeptFor problem.now.grammar problem.now.algebra) }
 {
     problem.admissible();
+    let weights = class_weights(alloc, problem.grammar)?;
     let mut middles = Vec::new(alloc);
     let count = problem.grammar.rules.as_slice().len();
     let mut rules = Vec::with_capacity(alloc, count)?;
+    let mut have_tails = false;
     for rule in 0..count {
         let kept = kept_rule(alloc, problem, rule as u32, &mut middles)?;
+        have_tails |= kept.alternatives.iter().any(|it| has_tail(it));
         rules.push(kept)?;
     }
-    Ok(KeptRules { middles, rules })
+    Ok(KeptRules {
+        weights,
+        middles,
+        rules,
+        have_tails,
+    })
 }

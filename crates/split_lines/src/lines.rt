@@ -141,7 +141,7 @@ impl<'a> Lines<'a> {
         ensures { IfOk result (λ lines. lines ≡ problem.now) }
     {
         problem.admissible();
-        let tables = ClassTables::new(alloc, problem)?;
+        let tables = ClassTables::new(alloc, problem, &kept.rules().weights)?;
         let found = Found::new(alloc, &tables, &kept.rules().middles)?;
         Ok(Lines {
             tables,
@@ -174,6 +174,12 @@ impl<'a> Lines<'a> {
             behind: kept.behind,
             middle: self.found.of(kept.middle),
         })
+    }
+
+    /// Whether arguments of an alternative may come before its line. Takes constant time and no memory.
+    #[inline]
+    pub fn have_tails(&self) -> bool {
+        self.kept.rules().have_tails
     }
 
     /// The alternatives of a rule, as they are kept. Takes constant time and no memory.

@@ -1,7 +1,9 @@
 use Rattle.std.proofs.Common.{◌≡◌, ℕ, ◌+◌, ◌<◌, ◌≤◌, List, length, sym, ap, subst, arith}
+use Rattle.adp_model.specs.declared.grammar.Grammar.{Grammar}
 use Rattle.adp_model.specs.PosedProblem.{PosedProblem}
 use Rattle.split_lines.specs.declared.kept_rules.KeptRule.{KeptRule}
 use Rattle.split_lines.specs.declared.kept_rules.Middle.{Middle}
+use Rattle.split_lines.specs.Classes.{AreClassWeights}
 use Rattle.split_lines.specs.EachWord.{with_word}
 use Rattle.split_lines.specs.KeptRules.{AreKeptRules}
 use Rattle.split_lines.proofs.KeptLines.{one_rule_more, rules_still}
@@ -51,6 +53,7 @@ returns c =
     let rules = c.loop-rule.rules.items in
     let all = all_rules c.loop-rule.rule _ _ _ c.loop-rule-test.false c.loop-rule.auto.rule-end (ap length c.as_slice-count.ensures) (ap rules_of c.problem.view_is) in
     record {
+      weights_are = subst (λ (it : Grammar). AreClassWeights it c.in_ok-weights.weights.items) (ap (λ (p : PosedProblem). p.grammar) c.problem.view_is) c.in_ok-weights.ensures;
       middles_are = c.loop-rule.invariant.middles_are;
       rules_are = λ word short.
           let p = with_word c.args.problem.now.grammar c.args.problem.now.algebra word in
