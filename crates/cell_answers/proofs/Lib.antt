@@ -17,6 +17,7 @@ pub mod LetterWeights
 pub mod LineTotals
 pub mod LineValues
 pub mod Lists
+pub mod NotedEnds
 pub mod OneEnds
 pub mod OpenedLines
 pub mod PackedScores

@@ -3,6 +3,7 @@ pub mod CellBest
 pub mod Entries
 pub mod LaidBy
 pub mod LettersBetween
+pub mod NotedEnds
 pub mod Opened
 pub mod PackedTables
 pub mod PlainLines

@@ -14,11 +14,15 @@ Tells Open from to total = ⊥
 Tells (Without start end) from to total = (from ≡ start) × (to ≡ end) × (total ≡ None)
 Tells (Greatest start end number) from to total = (from ≡ start) × (to ≡ end) × (total ≡ Some number)
 
--- what the notes of the row tell is true of its tail, wherever they stand
+-- what the notes tell is true of the tail, wherever they stand
+abbrev pub AreTrueNotes : PosedProblem → Tail → List Note → Type 0
+AreTrueNotes p tail notes =
+    (place from to : ℕ) (note : Note) (total : Option ℤ) → slice_get notes place ≡ Some note → Tells note from to total
+    → IsTailTotal p tail from to total
+
+-- what the notes of the row tell is true of its tail
 abbrev pub IsTrueRow : PosedProblem → TailRow → Type 0
-IsTrueRow p row =
-    (place from to : ℕ) (note : Note) (total : Option ℤ) → slice_get row.notes.items place ≡ Some note
-    → Tells note from to total → IsTailTotal p row.tail from to total
+IsTrueRow p row = AreTrueNotes p row.tail row.notes.items
 
 abbrev pub AreTrueRows : PosedProblem → List TailRow → Type 0
 AreTrueRows p rows = (place : ℕ) (row : TailRow) → slice_get rows place ≡ Some row → IsTrueRow p row

@@ -8,6 +8,8 @@ ghost use Rattle.adp_model.specs.Bellman.{HasBestScore};
 ghost use Rattle.adp_model.specs.FirstSplit.{IsValue};
 ghost use Rattle.viable_splits.specs.Placing.{on_span};
 ghost use Rattle.cell_answers.specs.Entries.{HasEntry};
+ghost use Rattle.adp_model.specs.declared.grammar.Goal.{Goal as DeclaredGoal};
+ghost use Rattle.score_numbers.specs.Packing.{IsProper, told, short, medium, long};
 ghost use Rattle.cell_answers.specs.ArgumentEntries.{AreProperNumbers, entries_of};
 ghost use Rattle.cell_answers.specs.Rows.{HasEntryAt};
 
@@ -25,6 +27,51 @@ pub enum Numbers<'s> {
     Long(&'s [i64]),
     /// As entries.
     Whole(&'s [i64]),
+}
+
+/// A number of a width, which stands for an entry.
+pub trait Number: Copy {
+    ghost is_proper: { Self → Type 0 };
+
+    ghost told: { DeclaredGoal → Self → ℤ };
+
+    /// The entry that it stands for.
+    fn entry(self, goal: Goal) -> i64
+        requires { is_proper self }
+        ensures { result ≡ told goal self };
+}
+
+impl Number for i16 {
+    ghost is_proper = { IsProper short };
+
+    ghost told = { told short };
+
+    #[inline(always)]
+    fn entry(self, goal: Goal) -> i64 {
+        short_entry(goal, self)
+    }
+}
+
+impl Number for i32 {
+    ghost is_proper = { IsProper medium };
+
+    ghost told = { told medium };
+
+    #[inline(always)]
+    fn entry(self, goal: Goal) -> i64 {
+        medium_entry(goal, self)
+    }
+}
+
+impl Number for i64 {
+    ghost is_proper = { IsProper long };
+
+    ghost told = { told long };
+
+    #[inline(always)]
+    fn entry(self, goal: Goal) -> i64 {
+        long_entry(goal, self)
+    }
 }
 
 /// Entries side by side, for the positions from `first` on, as the numbers that stand for them.

@@ -8,6 +8,8 @@ ghost use Rattle.adp_model.specs.Parts.{alternatives_of};
 ghost use Rattle.adp_model.specs.Answers.{IsAnswer};
 ghost use Rattle.adp_model.specs.Bellman.{HasBestScore};
 ghost use Rattle.adp_model.specs.Demand.{IsDemandedChild};
+ghost use Rattle.adp_model.specs.Splits.{FitsSpan};
+ghost use Rattle.viable_splits.specs.Placing.{on_span};
 ghost use Rattle.split_lines.specs.Beginnings.{IsCandidate};
 ghost use Rattle.split_lines.specs.Kept.{IsAlternative, IsSummed};
 ghost use Rattle.split_lines.specs.Laid.{Demands};
@@ -15,6 +17,7 @@ ghost use Rattle.split_lines.specs.Lines.{IsLine};
 ghost use Rattle.split_lines.specs.Ways.{IsClosed, IsOpening};
 ghost use Rattle.cell_answers.specs.CellBest.{IsBestOfFirst, IsCellBest};
 ghost use Rattle.cell_answers.specs.Entries.{HasEntry};
+ghost use Rattle.cell_answers.specs.NotedEnds.{AreLaidOut, HasTotalOf};
 ghost use Rattle.cell_answers.specs.Tails.{IsOwner, IsTail, tail_with};
 ghost use Rattle.cell_answers.specs.Totals.{AreLow, AreWeighted, HasLaidScore, HasTotal, HasTurnedScore};
 ghost use Rattle.score_numbers.specs.Greatest.{IsGreatestOf};
@@ -22,6 +25,7 @@ ghost use Rattle.score_numbers.specs.Greatest.{IsGreatestOf};
 use crate::along::{between_total, greatest_along};
 use crate::argument_values::{argument_value, token_value};
 use crate::by_term::score_by_term;
+use crate::noted_ends::{LaidArguments, Reached, over_noted, side_by_side};
 use crate::scores::Scores;
 use crate::tails::{Tail, Tails};
 use adp_model::laws::bellman::bellman;
@@ -138,6 +142,39 @@ pub(crate) fn tail_total(
     total
 }
 
+/// The greatest total of laid arguments whose first one ends here.
+#[cycle(totals)]
+#[inline(always)]
+fn total_at(
+    known: &Known<'_, '_>,
+    tails: &mut Tails<'_>,
+    ahead: u8,
+    laid: &LaidArguments<'_>,
+    end: u16,
+) -> Option<i64>
+    requires same_problem { known.now.scores.now.problem ≡ known.now.lines.now }
+    requires same_tails { tails.old ≡ known.now.lines.now }
+    requires owner { IsOwner known.now.lines.now known.now.owner laid.now.others.now laid.now.factors.now }
+    requires line { IfSome known.now.line (λ line. IsLine known.now.lines.now (drop ahead laid.now.others.now) line) }
+    requires laid { AreLaidOut known.now.lines.now known.now.scores.now laid.now }
+    requires fits { FitsSpan known.now.lines.now (on_span laid.now.first.now laid.now.from end) }
+    requires within { end ≤ laid.now.to }
+    ensures same { tails.new ≡ tails.old }
+    ensures greatest { IsGreatestOf (HasTotalOf known.now.lines.now laid.now end) result }
+{
+    let Known { lines, scores, .. } = *known;
+    lines.problem().admissible();
+    bounds_are_sound();
+    answer_is_unique();
+    let Some(value) = argument_value(lines, scores, laid.first, laid.from, end) else {
+        return None;
+    };
+    let Some(rest) = tail_total(known, tails, ahead, laid.others, laid.factors, end, laid.to) else {
+        return None;
+    };
+    Some(laid.factor * value + rest)
+}
+
 /// The greatest total of arguments that are laid from `from` to `to`. If they have a line, `ahead` of them come before
 /// it.
 #[cycle(totals)]
@@ -187,18 +224,32 @@ fn greatest_total(
     if others.is_empty() {
         return last_total(lines, scores, argument, *factor, from, to);
     }
+    let laid = LaidArguments {
+        first: argument,
+        factor: *factor,
+        others,
+        factors,
+        from,
+        to,
+    };
     let positions = lines.ends_of_first(arguments, from, to);
-    let mut greatest = None;
-    for end in positions.start..positions.end {
-        let Some(value) = argument_value(lines, scores, argument, from, end) else {
-            continue;
-        };
-        let Some(rest) = tail_total(known, tails, ahead, others, factors, end, to) else {
-            continue;
-        };
-        greatest = greater(greatest, Some(factor * value + rest));
+    let tail = tail_of(known.owner, others);
+    let sides = side_by_side(scores, tail, &laid, positions.start, positions.end);
+    let mut reached = Reached {
+        greatest: None,
+        end: positions.start,
+    };
+    while reached.end < positions.end {
+        reached = over_noted(lines, scores, tails, &laid, sides, reached, positions.end);
+        if reached.end < positions.end {
+            let total = total_at(known, tails, ahead, &laid, reached.end);
+            reached = Reached {
+                greatest: greater(reached.greatest, total),
+                end: reached.end + 1,
+            };
+        }
     }
-    greatest
+    reached.greatest
 }
 
 /// The greatest total of several arguments that are laid from `from` to `to`, along their line if they have one.

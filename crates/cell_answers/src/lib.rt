@@ -8,6 +8,7 @@ mod argument_values;
 mod by_term;
 mod filling;
 mod letters_between;
+mod noted_ends;
 mod only_ends;
 mod opened;
 mod scores;

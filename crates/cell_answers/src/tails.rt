@@ -4,7 +4,7 @@
 ghost use Rattle.std.specs.Prelude.{◌≡◌, ◌<◌, ℕ, ℤ, IfOk, IfSome, Option, length};
 ghost use Rattle.adp_model.specs.PosedProblem.{PosedProblem};
 ghost use Rattle.cell_answers.specs.Tails.{IsTailTotal};
-ghost use Rattle.cell_answers.specs.TailRows.{AreEmpty, AreTrueRows, IsNoted, IsPlaceOf, Tells};
+ghost use Rattle.cell_answers.specs.TailRows.{AreEmpty, AreTrueNotes, AreTrueRows, IsNoted, IsPlaceOf, Tells};
 
 use adp_model::Problem;
 use split_lines::{KeptAlternative, Lines, Scoring};
@@ -102,7 +102,7 @@ impl<'a> Model for Tails<'a> {
 
 /// What a note tells of a tail from one position to another: its greatest total, `None` where it has none.
 #[inline(always)]
-fn told(note: Note, from: u16, to: u16) -> Option<Option<i64>>
+pub(crate) fn told(note: Note, from: u16, to: u16) -> Option<Option<i64>>
     ensures { IfSome result (Tells note from to) }
 {
     match note {
@@ -334,10 +334,10 @@ impl<'a> Tails<'a> {
         ensures { IfOk result (λ tails. tails ≡ lines.now) }
     {
         let problem = lines.problem();
-        let tails = all_tails(lines);
-        if tails == 0 {
+        if !lines.have_tails() {
             return Ok(Tails::none(problem));
         }
+        let tails = all_tails(lines);
         let mut kept = TailRows::new(alloc, lines, ends, tails)?;
         if ends == KeptEnds::All {
             kept.make_all(lines);
@@ -363,6 +363,26 @@ impl<'a> Tails<'a> {
         let row = &kept.rows[kept.place(tail)?];
         let place = kept.form.note_place(from, to, row.notes.len());
         told(*row.notes.get(place)?, from, to)
+    }
+
+    /// The notes of a tail from the place on that is for the note from one position to another: in most cases those that
+    /// follow are for the positions that follow. Takes constant time and no memory.
+    #[inline(always)]
+    pub(crate) fn notes_from(&self, tail: Tail, from: u16, to: u16) -> &[Note]
+        ensures { AreTrueNotes self.now tail result.now }
+    {
+        let Some(kept) = &self.kept else {
+            return &[];
+        };
+        let Some(place) = kept.place(tail) else {
+            return &[];
+        };
+        let notes = kept.rows[place].notes.as_slice();
+        let first = kept.form.note_place(from, to, notes.len());
+        if first >= notes.len() {
+            return &[];
+        }
+        &notes[first..]
     }
 
     /// Notes the greatest total of a tail, in the place of another one. Takes memory only where the latest ends are kept.

@@ -4,7 +4,9 @@ pub mod Fronts
 pub mod LineDemands
 pub mod MarkSteps
 pub mod OneEnds
+pub mod PlaceBits
 pub mod RisingPositions
+pub mod RunEnds
 pub mod Splitting
 pub mod TailNotes
 pub mod TailSteps

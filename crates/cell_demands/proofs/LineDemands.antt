@@ -1,9 +1,9 @@
 -- What arguments demand: with the first of them on a span, along a line, and by alternatives.
-use Rattle.std.proofs.Common.{◌≡◌, ◌⊎◌, ◌↔◌, ℕ, ◌+◌, ◌<◌, ◌≤◌, Bool, true, false, not, IsTrue, List, [], ◌∷◌, ◌++◌, length, get_or, refl, sym, subst, inl, inr, ⊎_elim, arith}
+use Rattle.std.proofs.Common.{◌≡◌, ◌⊎◌, ◌↔◌, ℕ, ◌+◌, ◌<◌, ◌≤◌, Bool, true, false, not, ◌||◌, IsTrue, List, [], ◌∷◌, ◌++◌, length, get_or, refl, sym, subst, inl, inr, ⊎_elim, arith}
 use Rattle.std.specs.Prelude.{◌==◌}
 use Rattle.std.specs.List.{AllByRecursion, Contains}
 use Rattle.std.specs.declared.ops.Range.{Range}
-use Rattle.std.proofs.lemmas.Bool.{cases_lt, eqb-true}
+use Rattle.std.proofs.lemmas.Bool.{cases_lt, eqb-true, false≢true}
 use Rattle.std.proofs.lemmas.List.{get_or_read}
 use Rattle.adp_model.specs.declared.grammar.Arg.{Arg}
 use Rattle.adp_model.specs.declared.grammar.Arg.TheVariants.{Rule, Literal, Letter, Run}
@@ -19,6 +19,7 @@ use Rattle.split_lines.specs.Laid.{IsCellOf, Demands, DemandsBy, IsFixed, LinePa
 use Rattle.split_lines.specs.Lines.{HasLine, parts_by}
 use Rattle.split_lines.specs.Ways.{IsClosed}
 use Rattle.cell_tables.specs.Marks.{CellMarks, AreMarkedFrom}
+use Rattle.cell_demands.specs.Runs.{CoversBelow, DemandsBelow}
 use Rattle.cell_demands.proofs.Splitting.{child_of_demands, demands_of_child, split_of_demands}
 use Rattle.cell_demands.proofs.MarkSteps.{marked_like, marked_more}
 
@@ -173,17 +174,6 @@ module _ (p : PosedProblem) (arguments : List Arg) (between from to letters last
 
 -- ---- the first argument, end by end
 
--- the first argument may end at a place of the range, so that the others have the letters behind it
-abbrev pub CoversBelow : PosedProblem → Arg → List Arg → ℕ → ℕ → ℕ → ℕ → Type 0
-CoversBelow p argument others from to low high =
-    (end : ℕ) × (low ≤ end) × (end < high) × FitsSpan p (on_span argument from end) × Cover p others end to
-
--- so that they demand the cell
-abbrev pub DemandsBelow : PosedProblem → Arg → List Arg → ℕ → ℕ → ℕ → ℕ → Cell → Type 0
-DemandsBelow p argument others from to low high cell =
-    (end : ℕ) × (low ≤ end) × (end < high) × FitsSpan p (on_span argument from end)
-    × ((IsCellOf argument from end cell × Cover p others end to) ⊎ Demands p others end to cell)
-
 module _ (p : PosedProblem) (argument : Arg) (others : List Arg) (from to low end : ℕ) where
   last_or_before : (high : ℕ) → high < end + 1 → (high < end) ⊎ (high ≡ end)
   last_or_before high l = elim (cases_lt high end) [ inl before ↦ inl before | inr behind ↦ inr (omega arith) ]
@@ -222,6 +212,45 @@ module _ (p : PosedProblem) (argument : Arg) (others : List Arg) (from to low en
     λ is. let c = told.0 is in (c.0, c.1, omega (arith, c.2), c.3, c.4),
     λ covers. ⊎_elim (λ early. told.1 early) (λ cover. absurd (none cover)) (covers_cases covers),
   )
+
+-- ---- one range of ends behind another
+
+module _ (p : PosedProblem) (argument : Arg) (others : List Arg) (from to low middle high : ℕ)
+    (above : low ≤ middle) (behind : middle ≤ high) where
+  abbrev Covers : ℕ → ℕ → Type 0
+  Covers = CoversBelow p argument others from to
+
+  abbrev IsDemanded : ℕ → ℕ → Cell → Type 0
+  IsDemanded = DemandsBelow p argument others from to
+
+  pub covers_more : (early late : Bool) → IsTrue early ↔ Covers low middle → IsTrue late ↔ Covers middle high
+      → IsTrue (early || late) ↔ Covers low high
+  covers_more true late before after = (
+    λ _. let c = before.0 refl in (c.0, c.1, omega (arith, c.2), c.3, c.4),
+    λ _. refl,
+  )
+  covers_more false late before after = (
+    λ is. let c = after.0 is in (c.0, omega (arith, c.1), c.2, c.3, c.4),
+    λ (at, l, m, fits, cover). elim (cases_lt at middle) [
+      | inl early ↦ absurd (false≢true (before.1 (at, l, early, fits, cover)))
+      | inr late ↦ after.1 (at, late, m, fits, cover)
+    ],
+  )
+
+  pub demands_more : (begin : ℕ) (first second third : CellMarks)
+      → AreMarkedFrom begin first second (IsDemanded low middle)
+      → AreMarkedFrom begin second third (IsDemanded middle high)
+      → AreMarkedFrom begin first third (IsDemanded low high)
+  demands_more begin first second third before after =
+      marked_like begin first third (λ cell. IsDemanded low middle cell ⊎ IsDemanded middle high cell)
+      (IsDemanded low high)
+      (λ cell some. ⊎_elim
+      (λ (at, l, m, fits, demands). (at, l, omega arith, fits, demands))
+      (λ (at, l, m, fits, demands). (at, omega arith, m, fits, demands)) some)
+      (λ cell (at, l, m, fits, demands).
+      ⊎_elim (λ early. inl (at, l, early, fits, demands)) (λ late. inr (at, late, m, fits, demands))
+      (cases_lt at middle))
+      (marked_more begin first second third (IsDemanded low middle) (IsDemanded middle high) before after)
 
 -- ---- all ends of the first argument
 

@@ -1,6 +1,6 @@
 -- Tails of alternatives, and what is noted of them while more cells are marked.
-use Rattle.std.proofs.Common.{◌≡◌, ◌↔◌, ◌<◌, ◌≤◌, ℕ, Bool, true, false, IsTrue, Option, Some, None, List, [], ◌∷◌, ◌++◌, length, option_map, refl, sym, ap, subst, inl, inr, ⊎_elim, ◌∙◌, arith, append_assoc, length-append}
-use Rattle.std.specs.Prelude.{IfSome, if◌then◌else◌}
+use Rattle.std.proofs.Common.{◌≡◌, ◌↔◌, ◌≤◌, ℕ, Bool, true, false, IsTrue, Option, Some, None, List, [], ◌∷◌, ◌++◌, length, option_map, refl, sym, ap, subst, inl, inr, ◌∙◌, arith, append_assoc, length-append}
+use Rattle.std.specs.Prelude.{IfSome}
 use Rattle.std.proofs.lemmas.Bool.{false≢true}
 use Rattle.adp_model.specs.declared.grammar.Arg.{Arg}
 use Rattle.adp_model.specs.declared.cell.Cell.{Cell}
@@ -8,15 +8,12 @@ use Rattle.adp_model.specs.PosedProblem.{PosedProblem}
 use Rattle.viable_splits.specs.Placing.{Cover}
 use Rattle.split_lines.specs.Laid.{Demands}
 use Rattle.cell_tables.specs.Marks.{CellMarks, AreMarkedFrom, AreMarkedToo, IsMarked}
-use Rattle.cell_demands.specs.declared.tails.Note.{Note}
-use Rattle.cell_demands.specs.declared.tails.Note.TheVariants.{Open, Misses, Marked}
 use Rattle.cell_demands.specs.declared.tails.Owner.{Owner}
 use Rattle.cell_demands.specs.declared.tails.Tail.{Tail}
 use Rattle.cell_demands.specs.declared.tails.TailRows.{TailRows}
 use Rattle.cell_demands.specs.declared.tails.Tails.{Tails}
 use Rattle.cell_demands.specs.Tails.{AreMarkedOn, IsOwner, IsTail, IsTrueNote, tail_with}
 use Rattle.cell_demands.specs.TailNotes.{AreTrue, AreTrueRows}
-use Rattle.cell_demands.proofs.LineDemands.{cover_of_demands}
 
 -- ---- a tail has one list of arguments
 
@@ -50,10 +47,10 @@ owner_tail p (Some it) arguments tail same is =
 -- ---- what is noted stays true while more cells are marked
 
 module _ (p : PosedProblem) (old new : CellMarks) (stay : (cell : Cell) → IsMarked old cell → IsMarked new cell) where
-  note_stays : (tail : Tail) (from to : ℕ) (note : Note) → IsTrueNote p old tail from to note → IsTrueNote p new tail from to note
-  note_stays tail from to Open is = tt
-  note_stays tail from to Misses is = is
-  note_stays tail from to Marked is = λ arguments it.
+  note_stays : (tail : Tail) (from to : ℕ) (note : Bool) → IsTrueNote p old tail from to note
+      → IsTrueNote p new tail from to note
+  note_stays tail from to false is = is
+  note_stays tail from to true is = λ arguments it.
       let was = is arguments it in
       record { laid = was.laid; marked = λ cell demands. stay cell (was.marked cell demands) }
 
@@ -70,45 +67,21 @@ true_later p old new Holds marked tails is = notes_stay p old new (λ cell was. 
 pub true_from : (p : PosedProblem) (begin : ℕ) (old new : CellMarks) (Holds : Cell → Type 0) → AreMarkedFrom begin old new Holds → (tails : Tails) → AreTrue p old tails → AreTrue p new tails
 true_from p begin old new Holds marked tails is = true_later p old new Holds marked.marked tails is
 
--- ---- what is looked up
+-- ---- what is found
 
-demanded_behind : (p : PosedProblem) (arguments : List Arg) (from to : ℕ) (cell : Cell) → Demands p arguments from to cell → from ≤ cell.from
-demanded_behind p [] from to cell none = absurd none
-demanded_behind p (argument ∷ arguments) from to cell (end, fits, inl (is, cover)) = let e = is.begins in omega (arith, e)
-demanded_behind p (argument ∷ arguments) from to cell (end, fits, inr later) =
-    let l = demanded_behind p arguments end to cell later in
+pub begins_behind : (p : PosedProblem) (arguments : List Arg) (from to : ℕ) (cell : Cell)
+    → Demands p arguments from to cell → from ≤ cell.from
+begins_behind p [] from to cell none = absurd none
+begins_behind p (argument ∷ arguments) from to cell (end, fits, inl (is, cover)) = let e = is.begins in omega (arith, e)
+begins_behind p (argument ∷ arguments) from to cell (end, fits, inr later) =
+    let l = begins_behind p arguments end to cell later in
     let m = fits.0.in_order in
     omega (arith, l, m)
 
 module _ (p : PosedProblem) (begin : ℕ) (marks : CellMarks) (tail : Tail) (arguments : List Arg) (from to : ℕ) (is : IsTail p tail arguments) where
-  pub missed : IsTrueNote p marks tail from to Misses → IsTrue false ↔ Cover p arguments from to
-  missed none = (λ yes. absurd (false≢true yes), λ cover. absurd (none arguments is cover))
-
-  pub missed_marked : IsTrueNote p marks tail from to Misses → AreMarkedFrom begin marks marks (Demands p arguments from to)
-  missed_marked none = record {
-    marked = record {
-      problem = refl;
-      exact = λ cell. (λ was. inl was, λ some. ⊎_elim (λ was. was) (λ demands. absurd (none arguments is (cover_of_demands p arguments from to cell demands))) some);
-      rows_stay = λ cell row. row;
-    };
-    begun = λ cell here demands. absurd (none arguments is (cover_of_demands p arguments from to cell demands));
-  }
-
-  pub laid_there : IsTrueNote p marks tail from to Marked → IsTrue true ↔ Cover p arguments from to
-  laid_there some = (λ yes. (some arguments is).laid, λ cover. refl)
-
-  pub laid_marked : begin < from → IsTrueNote p marks tail from to Marked → AreMarkedFrom begin marks marks (Demands p arguments from to)
-  laid_marked behind some = record {
-    marked = record {
-      problem = refl;
-      exact = λ cell. (λ was. inl was, λ either. ⊎_elim (λ was. was) (λ demands. (some arguments is).marked cell demands) either);
-      rows_stay = λ cell row. row;
-    };
-    begun = λ cell here demands. let l = demanded_behind p arguments from to cell demands in absurd (omega (arith, l, here, behind));
-  }
-
   -- what is noted once the arguments are gone through
-  pub found_true : (old : CellMarks) (is_laid : Bool) → IsTrue is_laid ↔ Cover p arguments from to → AreMarkedFrom begin old marks (Demands p arguments from to) → IsTrueNote p marks tail from to (if is_laid then Marked else Misses)
+  pub found_true : (old : CellMarks) (is_laid : Bool) → IsTrue is_laid ↔ Cover p arguments from to
+      → AreMarkedFrom begin old marks (Demands p arguments from to) → IsTrueNote p marks tail from to is_laid
   found_true old true laid marked = λ others other.
       let same = same_arguments p tail arguments others is other in
       subst (λ others. AreMarkedOn p marks others from to) same (record { laid = laid.0 refl; marked = λ cell demands. (marked.marked.exact cell).1 (inr demands) })

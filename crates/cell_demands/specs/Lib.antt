@@ -1,2 +1,4 @@
+pub mod PlaceBits
+pub mod Runs
 pub mod TailNotes
 pub mod Tails

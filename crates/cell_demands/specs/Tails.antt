@@ -1,5 +1,5 @@
 -- The tails of alternatives: their last arguments, laid from one position of the word up to another.
-use Rattle.std.specs.Prelude.{◌≡◌, ℕ, Option, IfSome, List, ◌++◌, length}
+use Rattle.std.specs.Prelude.{◌≡◌, ℕ, Bool, true, false, Option, IfSome, List, ◌++◌, length}
 use Rattle.adp_model.specs.declared.cell.Cell.{Cell}
 use Rattle.adp_model.specs.declared.grammar.Arg.{Arg}
 use Rattle.adp_model.specs.PosedProblem.{PosedProblem}
@@ -7,8 +7,6 @@ use Rattle.adp_model.specs.Parts.{arguments_of}
 use Rattle.viable_splits.specs.Placing.{Cover}
 use Rattle.split_lines.specs.Laid.{Demands}
 use Rattle.cell_tables.specs.Marks.{CellMarks, IsMarked}
-use Rattle.cell_demands.specs.declared.tails.Note.{Note}
-use Rattle.cell_demands.specs.declared.tails.Note.TheVariants.{Open, Misses, Marked}
 use Rattle.cell_demands.specs.declared.tails.Owner.{Owner}
 use Rattle.cell_demands.specs.declared.tails.Tail.{Tail}
 
@@ -31,8 +29,9 @@ pub record AreMarkedOn (p : PosedProblem) (marks : CellMarks) (arguments : List 
   pub laid : Cover p arguments from to
   pub marked : (cell : Cell) → Demands p arguments from to cell → IsMarked marks cell
 
--- what the note tells of the tail between the two positions is true
-abbrev pub IsTrueNote : PosedProblem → CellMarks → Tail → ℕ → ℕ → Note → Type 0
-IsTrueNote p marks tail from to Open = Unit {0}
-IsTrueNote p marks tail from to Misses = (arguments : List Arg) → IsTail p tail arguments → Cover p arguments from to → ⊥
-IsTrueNote p marks tail from to Marked = (arguments : List Arg) → IsTail p tail arguments → AreMarkedOn p marks arguments from to
+-- the note, whether the tail is laid between the two positions and its cells are marked, is true
+abbrev pub IsTrueNote : PosedProblem → CellMarks → Tail → ℕ → ℕ → Bool → Type 0
+IsTrueNote p marks tail from to false =
+    (arguments : List Arg) → IsTail p tail arguments → Cover p arguments from to → ⊥
+IsTrueNote p marks tail from to true =
+    (arguments : List Arg) → IsTail p tail arguments → AreMarkedOn p marks arguments from to

@@ -1,8 +1,10 @@
 //! What a cell demands: the cells of the rules among the arguments of its viable splits, found line by line and marked.
 #![tactic(auto)]
 
+mod bits;
 mod laws;
 mod marking;
+mod runs;
 mod tails;
 
 pub use laws::notes_stay_true;

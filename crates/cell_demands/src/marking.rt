@@ -18,7 +18,8 @@ ghost use Rattle.cell_demands.specs.Tails.{IsOwner, IsTail, tail_with};
 ghost use Rattle.cell_demands.specs.TailNotes.{AreTrue};
 ghost use Rattle.cell_tables.specs.Marks.{AreInRows, AreMarkedFrom, AreMarkedToo};
 
-use crate::tails::{Note, Owner, Tails, laid_note, tail_of};
+use crate::runs::mark_run;
+use crate::tails::{Owner, Tails, tail_of};
 use adp_model::laws::well_formed::{alternatives_fit, arguments_are_few_and_known};
 use adp_model::{Arg, Cell};
 use cell_tables::Marks;
@@ -165,8 +166,7 @@ fn mark_line(
     true
 }
 
-/// The same as `mark_arguments`, of the arguments behind another one, noted where it was not noted before. What is noted
-/// says nothing of rows, so it is looked up behind `begin` alone.
+/// The same as `mark_arguments`, of the arguments behind another one, which is noted.
 #[cycle(arguments)]
 #[inline(always)]
 fn mark_tail(
@@ -195,28 +195,12 @@ fn mark_tail(
     ensures marked { AreMarkedFrom begin marks.old marks.new (Demands lines.now arguments.now from to) }
     ensures noted { AreTrue lines.now marks.new tails.new }
 {
-    let Some(tail) = tail_of(owner, arguments) else {
-        return mark_arguments(
-            lines, owner, line, ahead, arguments, begin, from, to, tails, marks,
-        );
-    };
-    if begin < from {
-        match tails.noted(tail, from, to) {
-            Note::Misses => return false,
-            Note::Marked => return true,
-            Note::Open => {}
-        }
-    }
     let is_laid = mark_arguments(
         lines, owner, line, ahead, arguments, begin, from, to, tails, marks,
     );
-    tails.note(
-        lines.problem().letters().len(),
-        tail,
-        from,
-        to,
-        laid_note(is_laid),
-    );
+    if let Some(tail) = tail_of(owner, arguments) {
+        tails.note(lines.problem().letters().len(), tail, from, to, is_laid);
+    }
     is_laid
 }
 
@@ -270,15 +254,34 @@ fn mark_arguments(
     if others.is_empty() {
         return mark_last(lines, argument, begin, from, to, marks);
     }
-    let mut is_laid = false;
     let ends = lines.ends_of_first(arguments, from, to);
-    for end in ends.start..ends.end {
+    let noted = mark_run(
+        lines, owner, argument, others, begin, from, ends.start, ends.end, to, tails, marks,
+    );
+    let mut is_laid = noted.is_laid;
+    let mut end = noted.past;
+    while end < ends.end {
         if mark_tail(
             lines, owner, line, ahead, others, begin, end, to, tails, marks,
         ) {
             mark_argument(argument, from, end, marks);
             is_laid = true;
         }
+        let run = mark_run(
+            lines,
+            owner,
+            argument,
+            others,
+            begin,
+            from,
+            end + 1,
+            ends.end,
+            to,
+            tails,
+            marks,
+        );
+        is_laid |= run.is_laid;
+        end = run.past;
     }
     is_laid
 }

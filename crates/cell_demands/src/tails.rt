@@ -1,15 +1,16 @@
 //! Which tails of alternatives are laid, noted once their cells are marked: a tail is the last arguments of an
 //! alternative, laid from one position of the word up to another.
 
-ghost use Rattle.std.specs.Prelude.{◌≡◌, ◌⊎◌, ◌≤◌, ◌<◌, ◌^◌, ℕ, IfOk, IfSome, length, option_map, if◌then◌else◌};
+ghost use Rattle.std.specs.Prelude.{◌≡◌, ◌≤◌, ◌<◌, ◌^◌, ℕ, Bool, IfOk, IfSome, Some, length, option_map, slice_get};
 ghost use Rattle.adp_model.specs.PosedProblem.{PosedProblem};
 ghost use Rattle.cell_tables.specs.Marks.{CellMarks};
-ghost use Rattle.cell_demands.specs.declared.tails.Note.{Note as DeclaredNote};
-ghost use Rattle.cell_demands.specs.declared.tails.Note.TheVariants.{Open, Misses, Marked};
 ghost use Rattle.cell_demands.specs.Tails.{IsTrueNote, tail_with};
-ghost use Rattle.cell_demands.specs.TailNotes.{AreEmpty, AreTrue, HasNote, HaveNoNotes, IsNoted, IsPlaceOf, IsPut};
+ghost use Rattle.cell_demands.specs.TailNotes.{AreEmpty, AreTrue, AreTrueTo, HasNote, HaveNoNotes, IsNote, IsNoted};
+ghost use Rattle.cell_demands.specs.TailNotes.{IsPlaceOf, IsPut};
 
+use crate::bits::{clear_bits, set_bit};
 use adp_model::Arg;
+use cell_tables::WORD;
 use split_lines::{KeptAlternative, Lines};
 use std::alloc::{AllocError, Global};
 
@@ -34,21 +35,14 @@ pub struct Tail {
     pub count: u8,
 }
 
-/// What is noted of a tail between two positions.
-#[derive(Clone, Copy)]
-pub enum Note {
-    /// Nothing.
-    Open,
-    /// It may not have the letters between them.
-    Misses,
-    /// It may, and the cells that it demands there are marked.
-    Marked,
-}
-
-/// The notes of a tail up to one end, by the position from which it is laid; none before the first is to be kept.
+/// The notes of a tail up to one end, as bits by the position from which it is laid; none before the first is to be
+/// kept.
 #[derive(Drop)]
 pub struct EndNotes {
-    pub notes: Vec<Note>,
+    /// Where it is noted whether the tail is laid.
+    pub known: Vec<u64>,
+    /// Where it is laid, and the cells that it demands are marked.
+    pub laid: Vec<u64>,
 }
 
 /// The notes of a tail, by its ends; none before the first is to be kept.
@@ -89,14 +83,6 @@ pub fn tail_of(owner: Option<Owner>, arguments: &[Arg]) -> Option<Tail>
     })
 }
 
-/// The note that tells of a tail whether it is laid, once its cells are marked.
-#[inline(always)]
-pub fn laid_note(is_laid: bool) -> Note
-    ensures { result ≡ (if is_laid then Marked else Misses) }
-{
-    if is_laid { Note::Marked } else { Note::Misses }
-}
-
 /// Whether some of the arguments behind the tokens in front come before the line.
 #[inline]
 fn has_tail(alternative: &KeptAlternative<'_>) -> bool {
@@ -114,16 +100,6 @@ fn rule_has_tail(lines: &Lines<'_>, rule: u32) -> bool
         .alternatives(rule)
         .iter()
         .any(|alternative| has_tail(alternative))
-}
-
-/// Whether an alternative of the problem has a tail.
-fn has_tails(lines: &Lines<'_>) -> bool {
-    for rule in 0..lines.problem().grammar.rules.as_slice().len() {
-        if rule_has_tail(lines, rule as u32) {
-            return true;
-        }
-    }
-    false
 }
 
 /// Adds the rows, without notes, of a rule of so many alternatives.
@@ -154,7 +130,8 @@ fn empty_ends(alloc: Global, count: usize) -> Result<Vec<EndNotes>, AllocError>
     let mut ends = Vec::with_capacity(alloc, count)?;
     'ends: for _ in 0..count {
         ends.push(EndNotes {
-            notes: Vec::new(alloc),
+            known: Vec::new(alloc),
+            laid: Vec::new(alloc),
         })?;
     }
     Ok(ends)
@@ -163,7 +140,7 @@ fn empty_ends(alloc: Global, count: usize) -> Result<Vec<EndNotes>, AllocError>
 /// Makes the ends of a row for so many positions, where it has none yet and there is memory for them.
 fn make_ends(alloc: Global, row: &mut TailRow, positions: usize)
     ensures tail { row.new.tail ≡ row.old.tail }
-    ensures notes { (at till : ℕ) (it : DeclaredNote) → HasNote row.new at till it → HasNote row.old at till it }
+    ensures notes { (at till : ℕ) (it : Bool) → HasNote row.new at till it → HasNote row.old at till it }
 {
     if row.ends.is_empty() {
         if let Ok(ends) = empty_ends(alloc, positions) {
@@ -172,20 +149,50 @@ fn make_ends(alloc: Global, row: &mut TailRow, positions: usize)
     }
 }
 
-/// Puts a note in the place of another one. Where there are no notes yet they are made first, for so many positions, if
-/// there is room and memory for them; if not, nothing is noted.
-fn put(alloc: Global, end: &mut EndNotes, room: &mut usize, positions: usize, from: u16, note: Note)
-    ensures { IsPut end.old end.new from note }
+/// Makes bits for the notes of so many positions, where there are none yet and there is room and memory for them.
+fn make_bits(alloc: Global, end: &mut EndNotes, room: &mut usize, positions: usize)
+    ensures { (at : ℕ) (it : Bool) → IsNote end.new at it → IsNote end.old at it }
 {
-    if end.notes.is_empty() && positions <= *room {
-        if let Ok(notes) = vec![in alloc; Note::Open; positions] {
-            end.notes = notes;
+    if !end.known.is_empty() || positions > *room {
+        return;
+    }
+    if let Ok(known) = clear_bits(alloc, positions) {
+        if let Ok(laid) = clear_bits(alloc, positions) {
+            end.known = known;
+            end.laid = laid;
             *room -= positions;
         }
     }
-    if (from as usize) < end.notes.len() {
-        end.notes[from as usize] = note;
+}
+
+/// Sets the bits of a note, where there are such bits.
+fn set_note(end: &mut EndNotes, from: u16, is_laid: bool)
+    ensures { IsPut end.old end.new from is_laid }
+{
+    let number = (from / WORD) as usize;
+    if number >= end.known.len() || number >= end.laid.len() {
+        return;
     }
+    set_bit(&mut end.known, from);
+    if is_laid {
+        set_bit(&mut end.laid, from);
+    }
+}
+
+/// Puts a note in the place of another one. Where there are no notes yet room is made for them first, for so many
+/// positions, if there is room and memory for them; if not, nothing is noted.
+fn put(
+    alloc: Global,
+    end: &mut EndNotes,
+    room: &mut usize,
+    positions: usize,
+    from: u16,
+    is_laid: bool,
+)
+    ensures { IsPut end.old end.new from is_laid }
+{
+    make_bits(alloc, end, room, positions);
+    set_note(end, from, is_laid);
 }
 
 /// Puts a note of a row, as `put` does.
@@ -196,14 +203,14 @@ fn put_in_row(
     positions: usize,
     from: u16,
     to: u16,
-    note: Note,
+    is_laid: bool,
 )
-    ensures { IsNoted row.old row.new from to note }
+    ensures { IsNoted row.old row.new from to is_laid }
 {
     make_ends(alloc, row, positions);
     if (to as usize) < row.ends.len() {
         let end = &mut row.ends[to as usize];
-        put(alloc, end, room, to as usize + 1, from, note);
+        put(alloc, end, room, to as usize + 1, from, is_laid);
     }
 }
 
@@ -243,18 +250,12 @@ impl TailRows {
     }
 }
 
-/// The note of a row between two positions.
+/// The notes of a row up to an end, where it has any.
 #[inline(always)]
-fn note_in(row: &TailRow, from: u16, to: u16) -> Note
-    ensures { (result ≡ Open) ⊎ HasNote row.now from to result }
+fn notes_in(row: &TailRow, to: u16) -> Option<&EndNotes>
+    ensures { IfSome result (λ notes. slice_get row.now.ends.items to ≡ Some notes.now) }
 {
-    if (to as usize) < row.ends.len() {
-        let end = &row.ends[to as usize];
-        if (from as usize) < end.notes.len() {
-            return end.notes[from as usize];
-        }
-    }
-    Note::Open
+    row.ends.get(to as usize)
 }
 
 impl Tails {
@@ -269,38 +270,47 @@ impl Tails {
     pub fn new(alloc: Global, lines: &Lines<'_>) -> Result<Tails, AllocError>
         ensures { IfOk result (λ tails. (p : PosedProblem) (marks : CellMarks) → AreTrue p marks tails) }
     {
-        if !has_tails(lines) {
+        if !lines.have_tails() {
             return Ok(Tails::none());
         }
         let kept = TailRows::new(alloc, lines)?;
         Ok(Tails { kept: Some(kept) })
     }
 
-    /// What is noted of a tail between two positions. Takes constant time and no memory.
+    /// What is noted of a tail up to an end, if anything is. Takes constant time and no memory.
     #[inline(always)]
-    pub fn noted(&self, tail: Tail, from: u16, to: u16) -> Note
-        ensures { (p : PosedProblem) (marks : CellMarks) → AreTrue p marks self.now
-            → IsTrueNote p marks tail from to result }
+    pub fn notes_to(&self, tail: Tail, to: u16) -> Option<&EndNotes>
+        ensures { IfSome result (λ notes. (p : PosedProblem) (marks : CellMarks) → AreTrue p marks self.now
+            → AreTrueTo p marks tail to notes.now) }
     {
         let Some(kept) = &self.kept else {
-            return Note::Open;
+            return None;
         };
         let Some(place) = kept.place(tail) else {
-            return Note::Open;
+            return None;
         };
-        note_in(&kept.rows[place], from, to)
+        notes_in(&kept.rows[place], to)
     }
 
-    /// Notes this of a tail between two positions of the word of so many letters.
-    pub fn note(&mut self, letters: usize, tail: Tail, from: u16, to: u16, note: Note)
+    /// Notes of a tail whether it is laid between two positions of the word of so many letters.
+    pub fn note(&mut self, letters: usize, tail: Tail, from: u16, to: u16, is_laid: bool)
         requires { letters < 2 ^ 32 }
         ensures { (p : PosedProblem) (marks : CellMarks) → AreTrue p marks self.old
-            → IsTrueNote p marks tail from to note → AreTrue p marks self.new }
+            → IsTrueNote p marks tail from to is_laid → AreTrue p marks self.new }
     {
         if let Some(kept) = &mut self.kept {
             if let Some(place) = kept.place(tail) {
                 let row = &mut kept.rows[place];
-                put_in_row(kept.alloc, row, &mut kept.room, letters + 1, from, to, note);
+                let positions = letters + 1;
+                put_in_row(
+                    kept.alloc,
+                    row,
+                    &mut kept.room,
+                    positions,
+                    from,
+                    to,
+                    is_laid,
+                );
             }
         }
     }

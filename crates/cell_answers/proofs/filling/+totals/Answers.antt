@@ -1,4 +1,4 @@
-use Rattle.std.proofs.Common.{◌≡◌, ◌<◌, ◌≤◌, ◌⊎◌, ℕ, ℤ, ◌-◌, ◌+ℤ◌, ◌*ℤ◌, Option, Some, None, List, [], ◌∷◌, length, drop, ap, FitsSigned, w64, sym, subst, arith, rules, ◌∙◌}
+use Rattle.std.proofs.Common.{◌≡◌, ◌<◌, ◌≤◌, ℕ, ℤ, ◌-◌, ◌+ℤ◌, ◌*ℤ◌, Option, Some, None, List, [], ◌∷◌, length, drop, ap, FitsSigned, w64, to_z, of_z, sym, subst, arith, rules, ◌∙◌}
 use Rattle.std.specs.Option.{option_copied}
 use Rattle.std.specs.Prelude.{IfSome, ◌==◌, if◌then◌else◌}
 use Rattle.std.proofs.lemmas.Int.{to_z-of_z}
@@ -12,7 +12,11 @@ use Rattle.viable_splits.specs.Placing.{on_span, ArePositions, Cover}
 use Rattle.cell_answers.specs.Entries.{HasEntry}
 use Rattle.cell_answers.specs.Totals.{AreLow, AreWeighted, HasTotal}
 use Rattle.score_numbers.specs.Greatest.{IsGreatestOf}
-use Rattle.cell_answers.proofs.FirstEnds.{AreLaid, AreSound, first_low, rest_laid, found_more, unvalued_more, untotalled_more, none_first, all_found}
+use Rattle.cell_answers.specs.NotedEnds.{HasTotalOf}
+use Rattle.cell_answers.proofs.FirstEnds.{AreLaid, AreSound, first_known_entry, first_low, rest_laid, none_first, all_found}
+use Rattle.cell_answers.proofs.Greatest.{before_more}
+use Rattle.cell_answers.proofs.NotedEnds.{laid_first, laid_out, owned_tail, sides_fit}
+use Rattle.cell_answers.proofs.Totalling.{greatest_at, values_cover}
 use Rattle.split_lines.specs.Ends.{IsEndTold}
 use Rattle.cell_answers.proofs.OneEnds.{none_ends, one_ends, total_nowhere, none_from, greatest_from, fixed_value, empty_without}
 use Rattle.cell_answers.specs.Tails.{IsOwner, IsTail, IsTailTotal}
@@ -20,7 +24,7 @@ use Rattle.cell_answers.proofs.TailFactors.{shorter_owner, owner_tail, tail_tota
 use Rattle.cell_answers.proofs.Reading.{product_fits, sum_fits, sum_read}
 use Rattle.cell_answers.proofs.Soundness.{parts_fit, sound_by}
 use Rattle.cell_answers.proofs.filling.+totals.Goals as goal
-use Rattle.cell_answers.proofs.filling.+totals.Goals.{greatest_total-After-answer_is_unique, greatest_total-After-ends_of_first-positions, greatest_total-After-token_value, greatest_total-In_ok-end, tail_total-After-total}
+use Rattle.cell_answers.proofs.filling.+totals.Goals.{total_at-After-answer_is_unique, greatest_total-After-answer_is_unique, greatest_total-After-ends_of_first-positions, greatest_total-After-token_value, greatest_total-In_ok-end, tail_total-After-total}
 
 -- the arguments, from the first one on
 laid : (t : ℕ) (c : greatest_total-After-answer_is_unique t) → AreLaid c.args.known.now.lines.now c.args.known.now.scores.now (c.in-Some-Some.argument.now ∷ c.in-Some-Some.others.now) (c.in-Some-Some.factor.now ∷ c.in-Some-Some.factors.now) c.args.from c.args.to
@@ -42,33 +46,6 @@ positions t c = c.ends_of_first-positions.ensures c.in-Some-Some.argument.now c.
 fits : (t : ℕ) (c : greatest_total-After-ends_of_first-positions t) (end : ℕ) → c.ends_of_first-positions.result.start ≤ end → end < c.ends_of_first-positions.result.end → FitsSpan c.args.known.now.lines.now (on_span c.in-Some-Some.argument.now c.args.from end)
 fits t c end l m = (positions t c).fit end l m
 
-pub greatest_total-loop-end-init : goal.greatest_total-loop-end-init
-greatest_total-loop-end-init t c =
-    let at = (goal.at.greatest_total-loop-end-init t c).After-ends_of_first-positions in
-    record {
-      same = c.requires.same_tails;
-      greatest = none_first c.args.known.now.lines.now c.in-Some-Some.argument.now c.in-Some-Some.others.now c.in-Some-Some.factor.now c.in-Some-Some.factors.now c.args.from c.args.to c.ends_of_first-positions.result (positions t at);
-    }
-
-pub greatest_total-argument_value-requires-clause-fits : goal.greatest_total-argument_value-requires-clause-fits
-greatest_total-argument_value-requires-clause-fits t c = fits t (goal.at.greatest_total-argument_value-requires-clause-fits t c).After-ends_of_first-positions c.loop-end.end c.loop-end.auto.end c.loop-end-test.true
-
-pub greatest_total-argument_value-requires-clause-low : goal.greatest_total-argument_value-requires-clause-low
-greatest_total-argument_value-requires-clause-low t c =
-    let at = (goal.at.greatest_total-argument_value-requires-clause-low t c).After-ends_of_first-positions in
-    let begun = (goal.at.greatest_total-argument_value-requires-clause-low t c).After-answer_is_unique in
-    first_low c.args.known.now.lines.now c.args.known.now.scores.now c.in-Some-Some.argument.now c.in-Some-Some.others.now c.in-Some-Some.factor.now c.in-Some-Some.factors.now c.args.from c.args.to (laid t begun) c.loop-end.end
-    (fits t at c.loop-end.end c.loop-end.auto.end c.loop-end-test.true)
-
-pub greatest_total-returns-clause-greatest : goal.greatest_total-returns-clause-greatest
-greatest_total-returns-clause-greatest t c =
-    let at = (goal.at.greatest_total-returns-clause-greatest t c).After-ends_of_first-positions in
-    let p = c.args.known.now.lines.now in
-    let found = all_found p c.in-Some-Some.argument.now c.in-Some-Some.others.now c.in-Some-Some.factor.now c.in-Some-Some.factors.now c.args.from c.args.to c.ends_of_first-positions.result (positions t at) c.loop-end.end c.loop-end.greatest c.loop-end-test.false c.loop-end.invariant.greatest in
-    let A : List Arg → Type 0 = λ arguments. IsGreatestOf (HasTotal p (HasBestScore p) arguments (c.in-Some-Some.factor.now ∷ c.in-Some-Some.factors.now) c.args.from c.args.to) c.loop-end.greatest in
-    let F : List ℤ → Type 0 = λ factors. IsGreatestOf (HasTotal p (HasBestScore p) c.args.arguments.now factors c.args.from c.args.to) c.loop-end.greatest in
-    subst F (sym c.in-Some-Some.ensures'.cases.0) (subst A (sym c.in-Some-Some.ensures.cases.0) found)
-
 -- the line of the others
 later_line : (t : ℕ) (c : greatest_total-After-answer_is_unique t) → IfSome c.args.known.now.line (λ line. IsLine c.args.known.now.lines.now (drop (c.args.ahead - 1) c.in-Some-Some.others.now) line)
 later_line t c =
@@ -84,86 +61,181 @@ owner_behind t c =
     shorter_owner p c.args.known.now.owner c.in-Some-Some.argument.now c.in-Some-Some.others.now c.in-Some-Some.factor.now c.in-Some-Some.factors.now
     (subst A c.in-Some-Some.ensures.cases.0 (subst F c.in-Some-Some.ensures'.cases.0 c.requires.owner))
 
-pub greatest_total-tail_total-requires : goal.greatest_total-tail_total-requires
-greatest_total-tail_total-requires t c =
-    let at = (goal.at.greatest_total-tail_total-requires t c).After-ends_of_first-positions in
-    let begun = (goal.at.greatest_total-tail_total-requires t c).After-answer_is_unique in
+-- what holds of the totals of the first argument and the others holds of those of the arguments
+of_all : (t : ℕ) (c : greatest_total-After-answer_is_unique t) (result : Option ℤ)
+    → IsGreatestOf (HasTotal c.args.known.now.lines.now (HasBestScore c.args.known.now.lines.now) (c.in-Some-Some.argument.now ∷ c.in-Some-Some.others.now) (c.in-Some-Some.factor.now ∷ c.in-Some-Some.factors.now) c.args.from c.args.to) result
+    → IsGreatestOf (HasTotal c.args.known.now.lines.now (HasBestScore c.args.known.now.lines.now) c.args.arguments.now c.args.factors.now c.args.from c.args.to) result
+of_all t c result found =
     let p = c.args.known.now.lines.now in
-    let end = c.loop-end.end in
-    let l : end ≤ c.args.to = omega (arith, (positions t at).up_to_last, c.loop-end-test.true) in
-    let rest = rest_laid p c.args.known.now.scores.now c.in-Some-Some.argument.now c.in-Some-Some.others.now c.in-Some-Some.factor.now c.in-Some-Some.factors.now c.args.from c.args.to (laid t begun) end (fits t at end c.loop-end.auto.end c.loop-end-test.true) l in
+    let A : List Arg → Type 0 = λ arguments. IsGreatestOf (HasTotal p (HasBestScore p) arguments (c.in-Some-Some.factor.now ∷ c.in-Some-Some.factors.now) c.args.from c.args.to) result in
+    let F : List ℤ → Type 0 = λ factors. IsGreatestOf (HasTotal p (HasBestScore p) c.args.arguments.now factors c.args.from c.args.to) result in
+    subst F (sym c.in-Some-Some.ensures'.cases.0) (subst A (sym c.in-Some-Some.ensures.cases.0) found)
+
+pub greatest_total-side_by_side-sides-requires : goal.greatest_total-side_by_side-sides-requires
+greatest_total-side_by_side-sides-requires t c =
+    let begun = (goal.at.greatest_total-side_by_side-sides-requires t c).After-answer_is_unique in
+    let others = c.in-Some-Some.others.now in
+    let factors = c.in-Some-Some.factors.now in
+    let told = owned_tail c.args.known.now.lines.now c.args.known.now.owner others factors c.tail_of-tail.result c.tail_of-tail.ensures (owner_behind t begun) in
+    record { tail = subst (λ q. IfSome c.tail_of-tail.result (λ it. IsTail q it others factors)) (sym c.requires.same_problem) told }
+
+pub greatest_total-loop-reached-init : goal.greatest_total-loop-reached-init
+greatest_total-loop-reached-init t c =
+    let at = (goal.at.greatest_total-loop-reached-init t c).After-ends_of_first-positions in
+    record {
+      same = c.requires.same_tails;
+      begun = omega arith;
+      reached = none_first c.args.known.now.lines.now c.in-Some-Some.argument.now c.in-Some-Some.others.now (to_z w64 (of_z w64 c.in-Some-Some.factor.now))
+          c.in-Some-Some.factors.now c.args.from c.args.to c.ends_of_first-positions.result (positions t at);
+    }
+
+pub greatest_total-over_noted-reached-requires-clause-laid : goal.greatest_total-over_noted-reached-requires-clause-laid
+greatest_total-over_noted-reached-requires-clause-laid t c =
+    let begun = (goal.at.greatest_total-over_noted-reached-requires-clause-laid t c).After-answer_is_unique in
+    laid_out c.args.known.now.lines.now c.args.known.now.scores.now _ c.in-Some-Some.factor.now (sym (to_z-of_z w64 c.in-Some-Some.factor.now (search rules))) (laid t begun)
+
+pub greatest_total-over_noted-reached-requires-clause-fit : goal.greatest_total-over_noted-reached-requires-clause-fit
+greatest_total-over_noted-reached-requires-clause-fit t c =
+    let at = (goal.at.greatest_total-over_noted-reached-requires-clause-fit t c).After-ends_of_first-positions in
+    sides_fit c.args.known.now.lines.now c.args.known.now.scores.now _ c.ends_of_first-positions.result.start c.ends_of_first-positions.result.end c.side_by_side-sides.result
+    c.side_by_side-sides.ensures (fits t at)
+
+pub greatest_total-total_at-total-requires : goal.greatest_total-total_at-total-requires
+greatest_total-total_at-total-requires t c =
+    let at = (goal.at.greatest_total-total_at-total-requires t c).After-ends_of_first-positions in
+    let begun = (goal.at.greatest_total-total_at-total-requires t c).After-answer_is_unique in
+    let p = c.args.known.now.lines.now in
+    let end = c.over_noted-reached.result.end in
+    let from_start : c.ends_of_first-positions.result.start ≤ end = omega (arith, c.loop-reached.invariant.begun, c.over_noted-reached.ensures.later) in
+    let l : end ≤ c.args.to = omega (arith, (positions t at).up_to_last, c.if-reached-positions.true) in
     let fewer = c.in-Some-Some.ensures.cases.1 in
     let N : ℕ → Type 0 = λ n. IfSome c.args.known.now.line (λ line. IsLine p (drop n c.in-Some-Some.others.now) line) in
-    let ahead = subst N (sym c.saturating_sub-ahead.ensures) (later_line t begun) in
-    (search rules, (c.requires.same_problem, (c.loop-end.invariant.same, (owner_behind t begun, (ahead, (rest.weighted, (rest.span, (rest.scored, rest.low))))))))
+    let ahead = subst N (sym c.saturating_sub-ahead.ensures) (later_line t begun) in (
+      search rules,
+      (
+        c.requires.same_problem,
+        (
+          c.loop-reached.invariant.same,
+          (
+            owner_behind t begun,
+            (
+              ahead,
+              (
+                laid_out p c.args.known.now.scores.now _ c.in-Some-Some.factor.now (sym (to_z-of_z w64 c.in-Some-Some.factor.now (search rules))) (laid t begun),
+                (fits t at end from_start c.if-reached-positions.true, l),
+              ),
+            ),
+          ),
+        ),
+      ),
+    )
+
+pub greatest_total-loop-reached-preserved-then-reached-positions : goal.greatest_total-loop-reached-preserved-then-reached-positions
+greatest_total-loop-reached-preserved-then-reached-positions t c = record {
+  same = c.total_at-total.ensures.same ∙ c.loop-reached.invariant.same;
+  begun = omega (arith, c.loop-reached.invariant.begun, c.over_noted-reached.ensures.later);
+  reached = before_more _ c.over_noted-reached.result.end c.over_noted-reached.result.greatest c.over_noted-reached.ensures.reached c.total_at-total.result c.greater.result
+      c.total_at-total.ensures.greatest c.greater.ensures;
+}
+
+pub greatest_total-returns-clause-greatest : goal.greatest_total-returns-clause-greatest
+greatest_total-returns-clause-greatest t c =
+    let at = (goal.at.greatest_total-returns-clause-greatest t c).After-ends_of_first-positions in
+    let begun = (goal.at.greatest_total-returns-clause-greatest t c).After-answer_is_unique in
+    let p = c.args.known.now.lines.now in
+    let greatest = c.loop-reached.reached.greatest in
+    let argument = c.in-Some-Some.argument.now in
+    let others = c.in-Some-Some.others.now in
+    let factors = c.in-Some-Some.factors.now in
+    let found = all_found p argument others (to_z w64 (of_z w64 c.in-Some-Some.factor.now)) factors c.args.from c.args.to c.ends_of_first-positions.result (positions t at)
+    c.loop-reached.reached.end greatest c.loop-reached-test.false c.loop-reached.invariant.reached in
+    let F : ℤ → Type 0 = λ factor. IsGreatestOf (HasTotal p (HasBestScore p) (argument ∷ others) (factor ∷ factors) c.args.from c.args.to) greatest in
+    of_all t begun greatest (subst F (to_z-of_z w64 c.in-Some-Some.factor.now (search rules)) found)
+
+-- ---- at one end
+
+laid_there : (t : ℕ) (c : total_at-After-answer_is_unique t) → AreLaid c.args.known.now.lines.now c.args.known.now.scores.now
+    (c.args.laid.now.first.now ∷ c.args.laid.now.others.now) (c.args.laid.now.factor ∷ c.args.laid.now.factors.now) c.args.laid.now.from c.args.laid.now.to
+laid_there t c = laid_first c.args.known.now.lines.now c.args.known.now.scores.now c.args.laid.now c.requires.laid
+
+sound_there : (t : ℕ) (c : total_at-After-answer_is_unique t) → AreSound c.args.known.now.lines.now
+sound_there t c =
+    sound_by c.problem.result.now c.args.known.now.lines.now c.problem.ensures c.admissible.ensures (c.bounds_are_sound.ensures.score c.args.known.now.lines.now) (c.answer_is_unique.ensures c.args.known.now.lines.now)
+
+-- where the others have a total the first argument has its entry
+entry_there : (t : ℕ) (c : total_at-After-answer_is_unique t) (total : ℤ) → HasTotal c.args.known.now.lines.now
+    (HasBestScore c.args.known.now.lines.now) c.args.laid.now.others.now c.args.laid.now.factors.now c.args.end c.args.laid.now.to total
+    → AtRule (HasEntry c.args.known.now.scores.now) (on_span c.args.laid.now.first.now c.args.laid.now.from c.args.end)
+entry_there t c total has =
+    let p = c.args.known.now.lines.now in
+    let laid = c.args.laid.now in
+    first_known_entry p c.args.known.now.scores.now laid.first.now laid.others.now laid.factor laid.factors.now laid.from laid.to (laid_there t c) c.args.end c.requires.fits
+    (values_cover p (HasBestScore p) laid.others.now c.args.end laid.to has.0 has.1)
+
+pub total_at-argument_value-requires-clause-low : goal.total_at-argument_value-requires-clause-low
+total_at-argument_value-requires-clause-low t c =
+    let laid = c.args.laid.now in
+    first_low c.args.known.now.lines.now c.args.known.now.scores.now laid.first.now laid.others.now laid.factor laid.factors.now laid.from laid.to
+    (laid_first c.args.known.now.lines.now c.args.known.now.scores.now laid c.requires.laid) c.args.end c.requires.fits
+
+pub total_at-returns-in_default-clause-greatest : goal.total_at-returns-in_default-clause-greatest
+total_at-returns-in_default-clause-greatest t c = λ number it.
+    c.in_default.ensures (entry_there t (goal.at.total_at-returns-in_default-clause-greatest t c).After-answer_is_unique it.others it.have_others) it.value it.is_value
+
+pub total_at-tail_total-requires : goal.total_at-tail_total-requires
+total_at-tail_total-requires t c =
+    let begun = (goal.at.total_at-tail_total-requires t c).After-answer_is_unique in
+    let laid = c.args.laid.now in
+    let rest = rest_laid c.args.known.now.lines.now c.args.known.now.scores.now laid.first.now laid.others.now laid.factor laid.factors.now laid.from laid.to (laid_there t begun)
+    c.args.end c.requires.fits c.requires.within in
+    (search rules, (c.requires.same_problem, (c.requires.same_tails, (c.requires.owner, (c.requires.line, (rest.weighted, (rest.span, (rest.scored, rest.low))))))))
+
+pub total_at-returns-in_default-tail_total-clause-greatest : goal.total_at-returns-in_default-tail_total-clause-greatest
+total_at-returns-in_default-tail_total-clause-greatest t c = λ number it. c.in_default-tail_total.ensures.greatest it.others it.have_others
+
+parts_there : (t : ℕ) (c : total_at-After-answer_is_unique t) (value : ℤ) →
+    (AtRule (HasEntry c.args.known.now.scores.now) (on_span c.args.laid.now.first.now c.args.laid.now.from c.args.end) → IsValue c.args.known.now.lines.now
+    (HasBestScore c.args.known.now.lines.now) (on_span c.args.laid.now.first.now c.args.laid.now.from c.args.end) value)
+    → (rest : ℤ) → HasTotal c.args.known.now.lines.now (HasBestScore c.args.known.now.lines.now) c.args.laid.now.others.now c.args.laid.now.factors.now c.args.end c.args.laid.now.to rest
+    → FitsSigned w64 (c.args.laid.now.factor *ℤ value) × FitsSigned w64 rest × FitsSigned w64 ((c.args.laid.now.factor *ℤ value) +ℤ rest)
+parts_there t c value told rest has =
+    let laid = c.args.laid.now in
+    parts_fit c.args.known.now.lines.now c.args.known.now.scores.now laid.first.now laid.others.now laid.factor laid.factors.now laid.from laid.to (laid_there t c) c.args.end
+    c.requires.fits (sound_there t c) value told rest has
+
+pub total_at-overflow_mul-result : goal.total_at-overflow_mul-result
+total_at-overflow_mul-result t c =
+    let begun = (goal.at.total_at-overflow_mul-result t c).After-answer_is_unique in
+    let it = parts_there t begun c.in-Some.value (λ entry. c.in-Some.ensures entry) c.in-Some-tail_total.rest c.in-Some-tail_total.ensures.greatest.0 in
+    product_fits c.args.laid.now.factor c.in-Some.value (search rules) (search rules) it.0
+
+pub total_at-overflow_add-result : goal.total_at-overflow_add-result
+total_at-overflow_add-result t c =
+    let begun = (goal.at.total_at-overflow_add-result t c).After-answer_is_unique in
+    let rest = c.in-Some-tail_total.rest in
+    let it = parts_there t begun c.in-Some.value (λ entry. c.in-Some.ensures entry) rest c.in-Some-tail_total.ensures.greatest.0 in
+    sum_fits c.args.laid.now.factor c.in-Some.value (search rules) (search rules) it.0 rest it.1 it.2
+
+pub total_at-returns-clause-greatest : goal.total_at-returns-clause-greatest
+total_at-returns-clause-greatest t c =
+    let begun = (goal.at.total_at-returns-clause-greatest t c).After-answer_is_unique in
+    let p = c.args.known.now.lines.now in
+    let laid = c.args.laid.now in
+    let value = c.in-Some.value in
+    let rest = c.in-Some-tail_total.rest in
+    let greatest = c.in-Some-tail_total.ensures.greatest in
+    let it = parts_there t begun value (λ entry. c.in-Some.ensures entry) rest greatest.0 in
+    let R : ℤ → Type 0 = λ total. IsGreatestOf (HasTotalOf p laid c.args.end) (Some total) in
+    subst R (sym (sum_read laid.factor value (search rules) (search rules) it.0 rest it.1 it.2))
+    (greatest_at p (HasBestScore p) laid.first.now laid.others.now laid.factor laid.factors.now laid.from laid.to (sound_there t begun).one c.args.end value rest c.requires.fits
+    (c.in-Some.ensures (entry_there t begun rest greatest.0)) greatest)
+
+-- ---- in front of the ends
 
 -- the product of the first argument and the total from an end on fit
 fitting : (t : ℕ) (c : greatest_total-After-answer_is_unique t) (end : ℕ) → FitsSpan c.args.known.now.lines.now (on_span c.in-Some-Some.argument.now c.args.from end) → (value : ℤ) → (AtRule (HasEntry c.args.known.now.scores.now) (on_span c.in-Some-Some.argument.now c.args.from end) → IsValue c.args.known.now.lines.now (HasBestScore c.args.known.now.lines.now) (on_span c.in-Some-Some.argument.now c.args.from end) value)
     → (rest : ℤ) → HasTotal c.args.known.now.lines.now (HasBestScore c.args.known.now.lines.now) c.in-Some-Some.others.now c.in-Some-Some.factors.now end c.args.to rest → FitsSigned w64 (c.in-Some-Some.factor.now *ℤ value) × FitsSigned w64 rest × FitsSigned w64 ((c.in-Some-Some.factor.now *ℤ value) +ℤ rest)
 fitting t c end end_fits value told rest total = parts_fit c.args.known.now.lines.now c.args.known.now.scores.now c.in-Some-Some.argument.now c.in-Some-Some.others.now c.in-Some-Some.factor.now c.in-Some-Some.factors.now c.args.from c.args.to (laid t c) end end_fits (sound t c) value told rest total
-
-pub greatest_total-overflow_mul-factor : goal.greatest_total-overflow_mul-factor
-greatest_total-overflow_mul-factor t c =
-    let at = (goal.at.greatest_total-overflow_mul-factor t c).After-ends_of_first-positions in
-    let begun = (goal.at.greatest_total-overflow_mul-factor t c).After-answer_is_unique in
-    let end = c.loop-end.end in
-    let end_fits = fits t at end c.loop-end.auto.end c.loop-end-test.true in
-    let factor = c.in-Some-Some.factor.now in
-    let value = c.in-Some-argument_value.value in
-    let rest = c.in-Some-tail_total.rest in
-    let it = fitting t begun end end_fits value (λ entry. c.in-Some-argument_value.ensures entry) rest c.in-Some-tail_total.ensures.greatest.0 in
-    product_fits factor value (search rules) (search rules) it.0
-
-pub greatest_total-overflow_add-factor : goal.greatest_total-overflow_add-factor
-greatest_total-overflow_add-factor t c =
-    let at = (goal.at.greatest_total-overflow_add-factor t c).After-ends_of_first-positions in
-    let begun = (goal.at.greatest_total-overflow_add-factor t c).After-answer_is_unique in
-    let end = c.loop-end.end in
-    let end_fits = fits t at end c.loop-end.auto.end c.loop-end-test.true in
-    let factor = c.in-Some-Some.factor.now in
-    let value = c.in-Some-argument_value.value in
-    let rest = c.in-Some-tail_total.rest in
-    let it = fitting t begun end end_fits value (λ entry. c.in-Some-argument_value.ensures entry) rest c.in-Some-tail_total.ensures.greatest.0 in
-    sum_fits factor value (search rules) (search rules) it.0 rest it.1 it.2
-
-pub greatest_total-loop-end-preserved : goal.greatest_total-loop-end-preserved
-greatest_total-loop-end-preserved t c =
-    let at = (goal.at.greatest_total-loop-end-preserved t c).After-ends_of_first-positions in
-    let begun = (goal.at.greatest_total-loop-end-preserved t c).After-answer_is_unique in
-    let end = c.loop-end.end in
-    let end_fits = fits t at end c.loop-end.auto.end c.loop-end-test.true in
-    let factor = c.in-Some-Some.factor.now in
-    let value = c.in-Some-argument_value.value in
-    let rest = c.in-Some-tail_total.rest in
-    let it = fitting t begun end end_fits value (λ entry. c.in-Some-argument_value.ensures entry) rest c.in-Some-tail_total.ensures.greatest.0 in
-    let either : IsGreatestOf (λ number. (c.loop-end.greatest ≡ Some number) ⊎ (Some ((factor *ℤ value) +ℤ rest) ≡ Some number)) c.greater-greatest.result =
-    subst (λ total. IsGreatestOf (λ number. (c.loop-end.greatest ≡ Some number) ⊎ (Some total ≡ Some number)) c.greater-greatest.result) (sum_read factor value (search rules) (search rules) it.0 rest it.1 it.2) c.greater-greatest.ensures in
-    record {
-      same = c.in-Some-tail_total.ensures.same ∙ c.loop-end.invariant.same;
-      greatest = found_more c.args.known.now.lines.now c.args.known.now.scores.now c.in-Some-Some.argument.now c.in-Some-Some.others.now factor c.in-Some-Some.factors.now c.args.from c.args.to (laid t begun) end end_fits (sound t begun) value rest (λ entry. c.in-Some-argument_value.ensures entry) c.in-Some-tail_total.ensures.greatest c.loop-end.greatest c.greater-greatest.result c.loop-end.invariant.greatest either;
-    }
-
-pub greatest_total-loop-end-preserved-in_default-argument_value : goal.greatest_total-loop-end-preserved-in_default-argument_value
-greatest_total-loop-end-preserved-in_default-argument_value t c =
-    let at = (goal.at.greatest_total-loop-end-preserved-in_default-argument_value t c).After-ends_of_first-positions in
-    let begun = (goal.at.greatest_total-loop-end-preserved-in_default-argument_value t c).After-answer_is_unique in
-    let end = c.loop-end.end in
-    record {
-      same = c.loop-end.invariant.same;
-      greatest = unvalued_more c.args.known.now.lines.now c.args.known.now.scores.now c.in-Some-Some.argument.now c.in-Some-Some.others.now c.in-Some-Some.factor.now c.in-Some-Some.factors.now c.args.from c.args.to (laid t begun) end (fits t at end c.loop-end.auto.end c.loop-end-test.true)
-          (λ entry. c.in_default-argument_value.ensures entry) c.loop-end.greatest c.loop-end.invariant.greatest;
-    }
-
-pub greatest_total-loop-end-preserved-in_default-tail_total : goal.greatest_total-loop-end-preserved-in_default-tail_total
-greatest_total-loop-end-preserved-in_default-tail_total t c =
-    let at = (goal.at.greatest_total-loop-end-preserved-in_default-tail_total t c).After-ends_of_first-positions in
-    let begun = (goal.at.greatest_total-loop-end-preserved-in_default-tail_total t c).After-answer_is_unique in
-    let end = c.loop-end.end in
-    record {
-      same = c.in_default-tail_total.ensures.same ∙ c.loop-end.invariant.same;
-      greatest = untotalled_more c.args.known.now.lines.now c.args.known.now.scores.now c.in-Some-Some.argument.now c.in-Some-Some.others.now c.in-Some-Some.factor.now c.in-Some-Some.factors.now c.args.from c.args.to (laid t begun) end (fits t at end c.loop-end.auto.end c.loop-end-test.true)
-          c.in_default-tail_total.ensures.greatest c.loop-end.greatest c.loop-end.invariant.greatest;
-    }
 
 pub greatest_total-greatest_along-requires-clause-line : goal.greatest_total-greatest_along-requires-clause-line
 greatest_total-greatest_along-requires-clause-line t c =
@@ -180,16 +252,6 @@ end_there t c = (told_end t c c.in_ok-end.end).0 (λ i. Some c.in_ok-end.end)
 
 only_end : (t : ℕ) (c : greatest_total-In_ok-end t) (other : ℕ) → FitsSpan c.args.known.now.lines.now (on_span c.in-Some-Some.argument.now c.args.from other) → Cover c.args.known.now.lines.now c.in-Some-Some.others.now other c.args.to → other ≡ c.in_ok-end.end
 only_end t c = one_ends c.args.known.now.lines.now c.in-Some-Some.argument.now c.in-Some-Some.others.now c.args.from c.args.to c.in_ok-end.end (told_end t c)
-
--- what holds of the totals of the first argument and the others holds of those of the arguments
-of_all : (t : ℕ) (c : greatest_total-After-answer_is_unique t) (result : Option ℤ)
-    → IsGreatestOf (HasTotal c.args.known.now.lines.now (HasBestScore c.args.known.now.lines.now) (c.in-Some-Some.argument.now ∷ c.in-Some-Some.others.now) (c.in-Some-Some.factor.now ∷ c.in-Some-Some.factors.now) c.args.from c.args.to) result
-    → IsGreatestOf (HasTotal c.args.known.now.lines.now (HasBestScore c.args.known.now.lines.now) c.args.arguments.now c.args.factors.now c.args.from c.args.to) result
-of_all t c result found =
-    let p = c.args.known.now.lines.now in
-    let A : List Arg → Type 0 = λ arguments. IsGreatestOf (HasTotal p (HasBestScore p) arguments (c.in-Some-Some.factor.now ∷ c.in-Some-Some.factors.now) c.args.from c.args.to) result in
-    let F : List ℤ → Type 0 = λ factors. IsGreatestOf (HasTotal p (HasBestScore p) c.args.arguments.now factors c.args.from c.args.to) result in
-    subst F (sym c.in-Some-Some.ensures'.cases.0) (subst A (sym c.in-Some-Some.ensures.cases.0) found)
 
 pub greatest_total-returns-in_err-end-clause-greatest : goal.greatest_total-returns-in_err-end-clause-greatest
 greatest_total-returns-in_err-end-clause-greatest t c =
@@ -350,9 +412,6 @@ greatest_total-last_total-requires-clause-same_problem t c = c.requires.same_pro
 pub greatest_total-last_total-requires-clause-span : goal.greatest_total-last_total-requires-clause-span
 greatest_total-last_total-requires-clause-span t c = c.requires.span
 
-pub greatest_total-argument_value-requires-clause-same_problem : goal.greatest_total-argument_value-requires-clause-same_problem
-greatest_total-argument_value-requires-clause-same_problem t c = c.requires.same_problem
-
 pub greatest_total-ends_of_first-positions-requires-clause-span : goal.greatest_total-ends_of_first-positions-requires-clause-span
 greatest_total-ends_of_first-positions-requires-clause-span t c = c.requires.span
 
@@ -361,9 +420,6 @@ greatest_total-token_end-requires-clause-span t c = c.requires.span
 
 pub greatest_total-returns-in-Some-clause-greatest : goal.greatest_total-returns-in-Some-clause-greatest
 greatest_total-returns-in-Some-clause-greatest t c = c.greatest_along.ensures
-
-pub greatest_total-argument_value-requires-clause-known : goal.greatest_total-argument_value-requires-clause-known
-greatest_total-argument_value-requires-clause-known t c = (laid t (goal.at.greatest_total-argument_value-requires-clause-known t c).After-answer_is_unique).weighted.known.0
 
 pub greatest_total-token_end-requires-clause-known : goal.greatest_total-token_end-requires-clause-known
 greatest_total-token_end-requires-clause-known t c = (laid t (goal.at.greatest_total-token_end-requires-clause-known t c).After-answer_is_unique).weighted.known.0

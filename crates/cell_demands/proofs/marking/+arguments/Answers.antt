@@ -1,4 +1,4 @@
-use Rattle.std.proofs.Common.{◌≡◌, ◌↔◌, ℕ, ◌+◌, Bool, false, IsTrue, Option, Some, List, [], ◌∷◌, length, drop, refl, sym, ap, subst, inl, inr, ◌∙◌, arith, rules}
+use Rattle.std.proofs.Common.{◌≡◌, ◌↔◌, ◌≤◌, ℕ, ◌+◌, Bool, false, IsTrue, Option, Some, List, [], ◌∷◌, length, drop, refl, sym, ap, subst, inl, inr, ◌∙◌, arith, rules}
 use Rattle.std.specs.Option.{option_copied}
 use Rattle.std.specs.Prelude.{IfSome}
 use Rattle.std.specs.List.{AllByRecursion}
@@ -12,135 +12,20 @@ use Rattle.viable_splits.specs.Placing.{Cover}
 use Rattle.split_lines.specs.Laid.{Demands, IsCellOf}
 use Rattle.split_lines.specs.Lines.{IsLine}
 use Rattle.cell_tables.specs.Marks.{CellMarks, AreMarkedFrom}
-use Rattle.cell_demands.specs.declared.tails.Note.{Note}
-use Rattle.cell_demands.specs.Tails.{IsOwner, IsTail, IsTrueNote}
+use Rattle.cell_demands.specs.Tails.{IsOwner}
+use Rattle.cell_demands.specs.Runs.{CoversBelow, DemandsBelow}
 use Rattle.cell_demands.specs.TailNotes.{AreTrue}
-use Rattle.cell_demands.proofs.TailSteps.{shorter_owner, owner_tail, true_later, true_from, missed, missed_marked, laid_there, laid_marked, found_true}
+use Rattle.cell_demands.proofs.TailSteps.{shorter_owner, owner_tail, true_later, true_from, found_true}
 use Rattle.cell_demands.proofs.MarkSteps.{marked_in_rows, none_marked}
-use Rattle.cell_demands.proofs.LineDemands.{CoversBelow, DemandsBelow, marked_none, marked_some, covers_none, all_covered, all_marked}
+use Rattle.cell_demands.proofs.LineDemands.{marked_none, marked_some, covers_more, covers_none, demands_more, all_covered, all_marked}
 use Rattle.split_lines.specs.Ends.{IsEndTold}
 use Rattle.cell_demands.proofs.OneEnds.{none_ends, one_ends, cover_nowhere, cover_from, marked_nowhere, marked_behind, empty_without}
 use Rattle.cell_demands.proofs.marking.+arguments.Goals as goal
-use Rattle.cell_demands.proofs.marking.+arguments.Goals.{mark_arguments-then-mark_tail, mark_arguments-else-mark_tail, mark_tail-In-Some, mark_tail-After-noted}
+use Rattle.cell_demands.proofs.marking.+arguments.Goals.{mark_arguments-then-mark_tail, mark_arguments-else-mark_tail}
 
 pub mark_arguments-mark_line-requires-clause-line : goal.mark_arguments-mark_line-requires-clause-line
 mark_arguments-mark_line-requires-clause-line t c =
     c.line_begins_here.ensures c.args.lines.now c.args.arguments.now (option_copied c.args.line) (option_copied c.line_here.result) c.args.ahead c.in-Some-line_here.line.now c.line_here.ensures (ap option_copied c.in-Some-line_here.is) c.requires.line
-
-pub mark_arguments-mark_tail-requires : goal.mark_arguments-mark_tail-requires
-mark_arguments-mark_tail-requires t c =
-    let p = c.args.lines.now in
-    let all = c.args.arguments.now in
-    let end = c.loop-end.end in
-    let to = c.args.to in
-    let argument = c.in-Some.argument.now in
-    let others = c.in-Some.others.now in
-    let split : all ≡ argument ∷ others = c.in-Some.ensures.cases.0 in
-    let positions = c.ends_of_first-ends.ensures argument others split in
-    let fits = positions.fit end c.loop-end.auto.end c.loop-end-test.true in
-    let L : List Arg → Type 0 = λ xs. IfSome (option_copied c.args.line) (λ line. IsLine p (drop c.args.ahead xs) line) in
-    let N : ℕ → Type 0 = λ n. IfSome (option_copied c.args.line) (λ line. IsLine p (drop n others) line) in
-    let K : List Arg → Type 0 = λ xs. AllByRecursion (IsKnown p.grammar) xs in
-    let known : K (argument ∷ others) = subst K split c.requires.known in
-    let same_length : length all ≡ length others + 1 = ap length split ∙ omega arith in
-    let D : List Arg → Type 0 = λ xs. (cell : Cell) → Demands p xs c.args.from to cell → IsCounted p.grammar (length p.word) cell in
-    let counted = subst D split c.requires.counted in (
-      omega (arith, same_length, c.decreases),
-      (
-        shorter_owner p c.args.owner argument others (subst (λ xs. IsOwner p c.args.owner xs) split c.requires.owner),
-        (
-          subst N (sym c.saturating_sub-ahead.ensures) (c.line_begins_later.ensures p argument others (option_copied c.args.line) (option_copied c.line_here.result) c.args.ahead c.line_here.ensures (ap option_copied c.in_default-line_here.is) (subst L split c.requires.line)),
-          (
-            known.1,
-            (
-              omega (arith, same_length, c.requires.few),
-              (
-                omega (arith, c.requires.begin, fits.0.in_order),
-                (
-                  record { in_order = omega (arith, positions.up_to_last, c.loop-end-test.true); in_word = c.requires.span.in_word },
-                  (
-                    c.loop-end.invariant.marked.marked.problem ∙ c.requires.same_problem,
-                    (c.loop-end.invariant.noted, λ cell demands. counted cell (end, fits, inr demands)),
-                  ),
-                ),
-              ),
-            ),
-          ),
-        ),
-      ),
-    )
-
-pub mark_arguments-mark_argument-requires : goal.mark_arguments-mark_argument-requires
-mark_arguments-mark_argument-requires t c =
-    λ cell is.
-    let p = c.args.lines.now in
-    let all = c.args.arguments.now in
-    let end = c.loop-end.end in
-    let argument = c.in-Some.argument.now in
-    let others = c.in-Some.others.now in
-    let split : all ≡ argument ∷ others = c.in-Some.ensures.cases.0 in
-    let fits = (c.ends_of_first-ends.ensures argument others split).fit end c.loop-end.auto.end c.loop-end-test.true in
-    let D : List Arg → Type 0 = λ xs. (it : Cell) → Demands p xs c.args.from c.args.to it → IsCounted p.grammar (length p.word) it in
-    let counted = subst D split c.requires.counted in
-    let C : PosedProblem → Type 0 = λ q. IsCounted q.grammar (length q.word) cell in
-    let same = c.mark_tail.ensures.marked.marked.problem ∙ c.loop-end.invariant.marked.marked.problem ∙ c.requires.same_problem in
-    subst C (sym same) (counted cell (end, fits, inl (is, c.if-mark_tail.ensures.laid.0 refl)))
-
-pub mark_arguments-loop-end-preserved : goal.mark_arguments-loop-end-preserved
-mark_arguments-loop-end-preserved t c =
-    let p = c.args.lines.now in
-    let all = c.args.arguments.now in
-    let from = c.args.from in
-    let to = c.args.to in
-    let low = c.ends_of_first-ends.result.start in
-    let end = c.loop-end.end in
-    let argument = c.in-Some.argument.now in
-    let others = c.in-Some.others.now in
-    let split : all ≡ argument ∷ others = c.in-Some.ensures.cases.0 in
-    let fits = (c.ends_of_first-ends.ensures argument others split).fit end c.loop-end.auto.end c.loop-end-test.true in
-    let above = c.loop-end.auto.end in
-    let was = c.loop-end.invariant in
-    let M : CellMarks → Type 0 = λ marks. AreMarkedFrom c.args.begin c.args.marks.now marks (DemandsBelow p argument others from to low (end + 1)) in
-    let T : CellMarks → Type 0 = λ marks. AreTrue p marks c.mark_tail.new.tails in
-    let S : Bool → Type 0 = λ is_laid. IsTrue is_laid ↔ CoversBelow p argument others from to low (end + 1) in
-    elim c.if-mark_tail.branch [
-      | mark_arguments-then-mark_tail w ↦
-          let cover : Cover p others end to = w.if-mark_tail.ensures.laid.0 refl in
-          record {
-            laid = subst S (sym w.is_laid-is) (λ _. (end, above, omega arith, fits, cover), λ _. refl);
-            marked = subst M (sym w.marks-is) (marked_some p argument others from to low end fits above c.args.begin c.args.marks.now c.loop-end.marks c.mark_tail.new.marks was.marked c.mark_tail.ensures.marked w.mark_argument.new.marks cover (marked_in_rows c.args.begin c.mark_tail.new.marks w.mark_argument.new.marks (IsCellOf argument from end) w.mark_argument.ensures.marked w.mark_argument.ensures.in_row));
-            noted = subst T (sym w.marks-is) (true_later p c.mark_tail.new.marks w.mark_argument.new.marks (IsCellOf argument from end) w.mark_argument.ensures.marked c.mark_tail.new.tails c.mark_tail.ensures.noted);
-          }
-      | mark_arguments-else-mark_tail w ↦
-          let none : Cover p others end to → ⊥ = λ cover. let yes = w.if-mark_tail.ensures.laid.1 cover in absurd cc in
-          record {
-            laid = subst S (sym w.is_laid-is) (covers_none p argument others from to low end c.loop-end.is_laid was.laid none);
-            marked = subst M (sym w.marks-is) (marked_none p argument others from to low end fits above c.args.begin c.args.marks.now c.loop-end.marks c.mark_tail.new.marks was.marked c.mark_tail.ensures.marked none);
-            noted = subst T (sym w.marks-is) c.mark_tail.ensures.noted;
-          }
-    ]
-
-pub mark_arguments-returns-clause-laid : goal.mark_arguments-returns-clause-laid
-mark_arguments-returns-clause-laid t c =
-    let p = c.args.lines.now in
-    let all = c.args.arguments.now in
-    let argument = c.in-Some.argument.now in
-    let others = c.in-Some.others.now in
-    let split : all ≡ argument ∷ others = c.in-Some.ensures.cases.0 in
-    let positions = c.ends_of_first-ends.ensures argument others split in
-    let T : List Arg → Type 0 = λ xs. IsTrue c.loop-end.is_laid ↔ Cover p xs c.args.from c.args.to in
-    subst T (sym split) (all_covered p argument others c.args.from c.args.to c.ends_of_first-ends.result c.loop-end.end positions (omega arith) c.loop-end.is_laid c.loop-end.invariant.laid)
-
-pub mark_arguments-returns-clause-marked : goal.mark_arguments-returns-clause-marked
-mark_arguments-returns-clause-marked t c =
-    let p = c.args.lines.now in
-    let all = c.args.arguments.now in
-    let argument = c.in-Some.argument.now in
-    let others = c.in-Some.others.now in
-    let split : all ≡ argument ∷ others = c.in-Some.ensures.cases.0 in
-    let positions = c.ends_of_first-ends.ensures argument others split in
-    let T : List Arg → Type 0 = λ xs. AreMarkedFrom c.args.begin c.args.marks.now c.loop-end.marks (Demands p xs c.args.from c.args.to) in
-    subst T (sym split) (all_marked p argument others c.args.from c.args.to c.ends_of_first-ends.result c.loop-end.end positions (omega arith) c.args.begin c.args.marks.now c.loop-end.marks c.loop-end.invariant.marked)
 
 -- ---- a token in front
 
@@ -321,14 +206,215 @@ pub mark_arguments-token_end-requires-clause-known : goal.mark_arguments-token_e
 mark_arguments-token_end-requires-clause-known t c =
     (subst (λ (arguments : List Arg). AllByRecursion (IsKnown c.args.lines.now.grammar) arguments) c.in-Some.ensures.cases.0 c.requires.known).0
 
+pub mark_arguments-mark_run-noted-requires-clause-owner : goal.mark_arguments-mark_run-noted-requires-clause-owner
+mark_arguments-mark_run-noted-requires-clause-owner t c =
+    let p = c.args.lines.now in
+    shorter_owner p c.args.owner c.in-Some.argument.now c.in-Some.others.now
+    (subst (λ xs. IsOwner p c.args.owner xs) c.in-Some.ensures.cases.0 c.requires.owner)
+
+pub mark_arguments-mark_run-noted-requires-clause-fit : goal.mark_arguments-mark_run-noted-requires-clause-fit
+mark_arguments-mark_run-noted-requires-clause-fit t c = λ end l m.
+    let split = c.in-Some.ensures.cases.0 in
+    let positions = c.ends_of_first-ends.ensures c.in-Some.argument.now c.in-Some.others.now split in
+    positions.fit end l m
+
+pub mark_arguments-mark_run-noted-requires-clause-counted : goal.mark_arguments-mark_run-noted-requires-clause-counted
+mark_arguments-mark_run-noted-requires-clause-counted t c = λ cell (end, l, m, fits, some).
+    let p = c.args.lines.now in
+    let D : List Arg → Type 0 = λ xs. (it : Cell) → Demands p xs c.args.from c.args.to it → IsCounted p.grammar (length p.word) it in
+    let counted = subst D c.in-Some.ensures.cases.0 c.requires.counted in
+    counted cell (end, fits, some)
+
 pub mark_arguments-loop-end-init : goal.mark_arguments-loop-end-init
 mark_arguments-loop-end-init t c =
-    let low = c.ends_of_first-ends.result.start in
+    let p = c.args.lines.now in
+    let first = c.mark_run-noted.ensures in
+    let start = c.ends_of_first-ends.result.start in
+    let past = c.mark_run-noted.result.past in
+    let demanded = DemandsBelow p c.in-Some.argument.now c.in-Some.others.now c.args.from c.args.to start past in
     record {
-      laid = (λ yes. absurd (false≢true yes), λ (end, l, m, fits, rest). absurd (omega (arith, l, m)));
-      marked = none_marked c.args.begin c.args.marks.now (DemandsBelow c.args.lines.now c.in-Some.argument.now c.in-Some.others.now c.args.from c.args.to low low) (λ cell (end, l, m, fits, rest). absurd (omega (arith, l, m)));
-      noted = c.requires.noted;
+      above = first.from_first;
+      laid = first.laid;
+      marked = first.marked;
+      noted = true_from p c.args.begin c.args.marks.now c.mark_run-noted.new.marks demanded first.marked c.args.tails.now
+          c.requires.noted;
     }
+
+pub mark_arguments-mark_tail-requires : goal.mark_arguments-mark_tail-requires
+mark_arguments-mark_tail-requires t c =
+    let p = c.args.lines.now in
+    let all = c.args.arguments.now in
+    let end = c.loop-end.end in
+    let to = c.args.to in
+    let argument = c.in-Some.argument.now in
+    let others = c.in-Some.others.now in
+    let split : all ≡ argument ∷ others = c.in-Some.ensures.cases.0 in
+    let positions = c.ends_of_first-ends.ensures argument others split in
+    let fits = positions.fit end c.loop-end.invariant.above c.loop-end-test.true in
+    let L : List Arg → Type 0 = λ xs. IfSome (option_copied c.args.line) (λ line. IsLine p (drop c.args.ahead xs) line) in
+    let N : ℕ → Type 0 = λ n. IfSome (option_copied c.args.line) (λ line. IsLine p (drop n others) line) in
+    let K : List Arg → Type 0 = λ xs. AllByRecursion (IsKnown p.grammar) xs in
+    let known : K (argument ∷ others) = subst K split c.requires.known in
+    let same_length : length all ≡ length others + 1 = ap length split ∙ omega arith in
+    let D : List Arg → Type 0 = λ xs. (cell : Cell) → Demands p xs c.args.from to cell → IsCounted p.grammar (length p.word) cell in
+    let counted = subst D split c.requires.counted in (
+      omega (arith, same_length, c.decreases),
+      (
+        shorter_owner p c.args.owner argument others (subst (λ xs. IsOwner p c.args.owner xs) split c.requires.owner),
+        (
+          subst N (sym c.saturating_sub-ahead.ensures) (c.line_begins_later.ensures p argument others (option_copied c.args.line) (option_copied c.line_here.result) c.args.ahead c.line_here.ensures (ap option_copied c.in_default-line_here.is) (subst L split c.requires.line)),
+          (
+            known.1,
+            (
+              omega (arith, same_length, c.requires.few),
+              (
+                omega (arith, c.requires.begin, fits.0.in_order),
+                (
+                  record { in_order = omega (arith, positions.up_to_last, c.loop-end-test.true); in_word = c.requires.span.in_word },
+                  (
+                    c.loop-end.invariant.marked.marked.problem ∙ c.requires.same_problem,
+                    (c.loop-end.invariant.noted, λ cell demands. counted cell (end, fits, inr demands)),
+                  ),
+                ),
+              ),
+            ),
+          ),
+        ),
+      ),
+    )
+
+pub mark_arguments-mark_argument-requires : goal.mark_arguments-mark_argument-requires
+mark_arguments-mark_argument-requires t c =
+    λ cell is.
+    let p = c.args.lines.now in
+    let all = c.args.arguments.now in
+    let end = c.loop-end.end in
+    let argument = c.in-Some.argument.now in
+    let others = c.in-Some.others.now in
+    let split : all ≡ argument ∷ others = c.in-Some.ensures.cases.0 in
+    let fits = (c.ends_of_first-ends.ensures argument others split).fit end c.loop-end.invariant.above c.loop-end-test.true in
+    let D : List Arg → Type 0 = λ xs. (it : Cell) → Demands p xs c.args.from c.args.to it → IsCounted p.grammar (length p.word) it in
+    let counted = subst D split c.requires.counted in
+    let C : PosedProblem → Type 0 = λ q. IsCounted q.grammar (length q.word) cell in
+    let same = c.mark_tail.ensures.marked.marked.problem ∙ c.loop-end.invariant.marked.marked.problem ∙ c.requires.same_problem in
+    subst C (sym same) (counted cell (end, fits, inl (is, c.if-mark_tail.ensures.laid.0 refl)))
+
+pub mark_arguments-mark_run-run-requires-clause-owner : goal.mark_arguments-mark_run-run-requires-clause-owner
+mark_arguments-mark_run-run-requires-clause-owner t c =
+    let p = c.args.lines.now in
+    shorter_owner p c.args.owner c.in-Some.argument.now c.in-Some.others.now
+    (subst (λ xs. IsOwner p c.args.owner xs) c.in-Some.ensures.cases.0 c.requires.owner)
+
+pub mark_arguments-mark_run-run-requires-clause-fit : goal.mark_arguments-mark_run-run-requires-clause-fit
+mark_arguments-mark_run-run-requires-clause-fit t c = λ end l m.
+    let split = c.in-Some.ensures.cases.0 in
+    let positions = c.ends_of_first-ends.ensures c.in-Some.argument.now c.in-Some.others.now split in
+    positions.fit end (omega (arith, c.loop-end.invariant.above, l)) m
+
+pub mark_arguments-mark_run-run-requires-clause-counted : goal.mark_arguments-mark_run-run-requires-clause-counted
+mark_arguments-mark_run-run-requires-clause-counted t c = λ cell (end, l, m, fits, some).
+    let p = c.args.lines.now in
+    let D : List Arg → Type 0 = λ xs. (it : Cell) → Demands p xs c.args.from c.args.to it → IsCounted p.grammar (length p.word) it in
+    let counted = subst D c.in-Some.ensures.cases.0 c.requires.counted in
+    counted cell (end, fits, some)
+
+pub mark_arguments-mark_run-run-requires-clause-noted : goal.mark_arguments-mark_run-run-requires-clause-noted
+mark_arguments-mark_run-run-requires-clause-noted t c =
+    let p = c.args.lines.now in
+    let tail = c.mark_tail.new in
+    let IsHere : Cell → Type 0 = IsCellOf c.in-Some.argument.now c.args.from c.loop-end.end in
+    let T : CellMarks → Type 0 = λ marks. AreTrue p marks tail.tails in
+    elim c.if-mark_tail.branch [
+      | mark_arguments-then-mark_tail w ↦
+          let here = w.mark_argument in
+          subst T (sym w.marks-is)
+          (true_later p tail.marks here.new.marks IsHere here.ensures.marked tail.tails c.mark_tail.ensures.noted)
+      | mark_arguments-else-mark_tail w ↦ subst T (sym w.marks-is) c.mark_tail.ensures.noted
+    ]
+
+pub mark_arguments-loop-end-preserved : goal.mark_arguments-loop-end-preserved
+mark_arguments-loop-end-preserved t c =
+    let p = c.args.lines.now in
+    let all = c.args.arguments.now in
+    let from = c.args.from in
+    let to = c.args.to in
+    let begin = c.args.begin in
+    let low = c.ends_of_first-ends.result.start in
+    let end = c.loop-end.end in
+    let argument = c.in-Some.argument.now in
+    let others = c.in-Some.others.now in
+    let split : all ≡ argument ∷ others = c.in-Some.ensures.cases.0 in
+    let was = c.loop-end.invariant in
+    let above = was.above in
+    let fits = (c.ends_of_first-ends.ensures argument others split).fit end above c.loop-end-test.true in
+    let run = c.mark_run-run.ensures in
+    let past = c.mark_run-run.result.past in
+    let later : low ≤ end + 1 = omega (arith, above) in
+    let start = c.args.marks.now in
+    let marks = c.loop-end.marks in
+    let tail = c.mark_tail.new in
+    let done = c.mark_tail.ensures in
+    let IsHere : Cell → Type 0 = IsCellOf argument from end in
+    let T : CellMarks → Type 0 = λ marks. AreTrue p marks c.mark_tail.new.tails in
+    let demanded = DemandsBelow p argument others from to low (end + 1) in
+    let M : CellMarks → Type 0 = λ marks. AreMarkedFrom begin c.args.marks.now marks demanded in
+    let S : Bool → Type 0 = λ is_laid. IsTrue is_laid ↔ CoversBelow p argument others from to low (end + 1) in
+    let told : S c.if-mark_tail.is_laid × M c.if-mark_tail.marks × T c.if-mark_tail.marks = elim c.if-mark_tail.branch [
+      | mark_arguments-then-mark_tail w ↦
+          let here = w.mark_argument in
+          let cover : Cover p others end to = w.if-mark_tail.ensures.laid.0 refl in (
+            subst S (sym w.is_laid-is) (λ _. (end, above, omega arith, fits, cover), λ _. refl),
+            subst M (sym w.marks-is)
+                (marked_some p argument others from to low end fits above begin start marks tail.marks was.marked done.marked
+                here.new.marks cover
+                (marked_in_rows begin tail.marks here.new.marks IsHere here.ensures.marked here.ensures.in_row)),
+            subst T (sym w.marks-is)
+                (true_later p tail.marks here.new.marks IsHere here.ensures.marked tail.tails done.noted),
+          )
+      | mark_arguments-else-mark_tail w ↦
+          let none : Cover p others end to → ⊥ = λ cover. let yes = w.if-mark_tail.ensures.laid.1 cover in absurd cc in (
+            subst S (sym w.is_laid-is) (covers_none p argument others from to low end c.loop-end.is_laid was.laid none),
+            subst M (sym w.marks-is)
+                (marked_none p argument others from to low end fits above begin start marks tail.marks was.marked done.marked
+                none),
+            subst T (sym w.marks-is) done.noted,
+          )
+    ] in
+    record {
+      above = omega (arith, above, run.from_first);
+      laid = covers_more p argument others from to low (end + 1) past later run.from_first c.if-mark_tail.is_laid
+          c.mark_run-run.result.is_laid told.0 run.laid;
+      marked = demands_more p argument others from to low (end + 1) past later run.from_first begin start
+          c.if-mark_tail.marks c.mark_run-run.new.marks told.1 run.marked;
+      noted = true_from p begin c.if-mark_tail.marks c.mark_run-run.new.marks
+          (DemandsBelow p argument others from to (end + 1) past) run.marked tail.tails told.2;
+    }
+
+pub mark_arguments-returns-clause-laid : goal.mark_arguments-returns-clause-laid
+mark_arguments-returns-clause-laid t c =
+    let p = c.args.lines.now in
+    let all = c.args.arguments.now in
+    let argument = c.in-Some.argument.now in
+    let others = c.in-Some.others.now in
+    let split : all ≡ argument ∷ others = c.in-Some.ensures.cases.0 in
+    let positions = c.ends_of_first-ends.ensures argument others split in
+    let T : List Arg → Type 0 = λ xs. IsTrue c.loop-end.is_laid ↔ Cover p xs c.args.from c.args.to in
+    subst T (sym split)
+    (all_covered p argument others c.args.from c.args.to c.ends_of_first-ends.result c.loop-end.end positions
+    c.loop-end-test.false c.loop-end.is_laid c.loop-end.invariant.laid)
+
+pub mark_arguments-returns-clause-marked : goal.mark_arguments-returns-clause-marked
+mark_arguments-returns-clause-marked t c =
+    let p = c.args.lines.now in
+    let all = c.args.arguments.now in
+    let argument = c.in-Some.argument.now in
+    let others = c.in-Some.others.now in
+    let split : all ≡ argument ∷ others = c.in-Some.ensures.cases.0 in
+    let positions = c.ends_of_first-ends.ensures argument others split in
+    let T : List Arg → Type 0 = λ xs. AreMarkedFrom c.args.begin c.args.marks.now c.loop-end.marks (Demands p xs c.args.from c.args.to) in
+    subst T (sym split)
+    (all_marked p argument others c.args.from c.args.to c.ends_of_first-ends.result c.loop-end.end positions
+    c.loop-end-test.false c.args.begin c.args.marks.now c.loop-end.marks c.loop-end.invariant.marked)
 
 pub mark_arguments-returns-in_default-clause-marked : goal.mark_arguments-returns-in_default-clause-marked
 mark_arguments-returns-in_default-clause-marked t c =
@@ -342,43 +428,14 @@ mark_arguments-returns-in-Some-line_here-clause-noted t c =
 
 -- ---- what is noted
 
--- the tail that is told is the arguments
-told_tail : (t : ℕ) (c : mark_tail-In-Some t) → IsTail c.args.lines.now c.in-Some.tail c.args.arguments.now
-told_tail t c = owner_tail c.args.lines.now c.args.owner c.args.arguments.now c.in-Some.tail (sym c.in-Some.is ∙ c.tail_of.ensures) c.requires.owner
-
--- what is looked up
-read_note : (t : ℕ) (c : mark_tail-After-noted t) → IsTrueNote c.args.lines.now c.args.marks.now c.in-Some.tail c.args.from c.args.to c.noted.result
-read_note t c = c.noted.ensures c.args.lines.now c.args.marks.now c.requires.noted
-
-pub mark_tail-returns-in-Misses-clause-laid : goal.mark_tail-returns-in-Misses-clause-laid
-mark_tail-returns-in-Misses-clause-laid t c =
-    let at = goal.at.mark_tail-returns-in-Misses-clause-laid t c in
-    let N : Note → Type 0 = IsTrueNote c.args.lines.now c.args.marks.now c.in-Some.tail c.args.from c.args.to in
-    missed c.args.lines.now c.args.begin c.args.marks.now c.in-Some.tail c.args.arguments.now c.args.from c.args.to (told_tail t at.In-Some) (subst N c.in-Misses.is (read_note t at.After-noted))
-
-pub mark_tail-returns-in-Misses-clause-marked : goal.mark_tail-returns-in-Misses-clause-marked
-mark_tail-returns-in-Misses-clause-marked t c =
-    let at = goal.at.mark_tail-returns-in-Misses-clause-marked t c in
-    let N : Note → Type 0 = IsTrueNote c.args.lines.now c.args.marks.now c.in-Some.tail c.args.from c.args.to in
-    missed_marked c.args.lines.now c.args.begin c.args.marks.now c.in-Some.tail c.args.arguments.now c.args.from c.args.to (told_tail t at.In-Some) (subst N c.in-Misses.is (read_note t at.After-noted))
-
-pub mark_tail-returns-in-Marked-clause-laid : goal.mark_tail-returns-in-Marked-clause-laid
-mark_tail-returns-in-Marked-clause-laid t c =
-    let at = goal.at.mark_tail-returns-in-Marked-clause-laid t c in
-    let N : Note → Type 0 = IsTrueNote c.args.lines.now c.args.marks.now c.in-Some.tail c.args.from c.args.to in
-    laid_there c.args.lines.now c.args.begin c.args.marks.now c.in-Some.tail c.args.arguments.now c.args.from c.args.to (told_tail t at.In-Some) (subst N c.in-Marked.is (read_note t at.After-noted))
-
-pub mark_tail-returns-in-Marked-clause-marked : goal.mark_tail-returns-in-Marked-clause-marked
-mark_tail-returns-in-Marked-clause-marked t c =
-    let at = goal.at.mark_tail-returns-in-Marked-clause-marked t c in
-    let N : Note → Type 0 = IsTrueNote c.args.lines.now c.args.marks.now c.in-Some.tail c.args.from c.args.to in
-    laid_marked c.args.lines.now c.args.begin c.args.marks.now c.in-Some.tail c.args.arguments.now c.args.from c.args.to (told_tail t at.In-Some) c.if-begin-from.true (subst N c.in-Marked.is (read_note t at.After-noted))
-
-pub mark_tail-returns-clause-noted : goal.mark_tail-returns-clause-noted
-mark_tail-returns-clause-noted t c =
-    let at = goal.at.mark_tail-returns-clause-noted t c in
+pub mark_tail-returns-in-Some-clause-noted : goal.mark_tail-returns-in-Some-clause-noted
+mark_tail-returns-in-Some-clause-noted t c =
     let p = c.args.lines.now in
-    let marks = c.mark_arguments-is_laid.new.marks in
-    let N : Note → Type 0 = IsTrueNote p marks c.in-Some.tail c.args.from c.args.to in
-    let found = found_true p c.args.begin marks c.in-Some.tail c.args.arguments.now c.args.from c.args.to (told_tail t at.In-Some) c.args.marks.now c.mark_arguments-is_laid.result c.mark_arguments-is_laid.ensures.laid c.mark_arguments-is_laid.ensures.marked in
-    c.note.ensures p marks c.mark_arguments-is_laid.ensures.noted (subst N (sym c.laid_note.ensures) found)
+    let arguments = c.args.arguments.now in
+    let now = c.mark_arguments-is_laid.new.marks in
+    let done = c.mark_arguments-is_laid.ensures in
+    let tail = c.in-Some.tail in
+    let is = owner_tail p c.args.owner arguments tail (sym c.in-Some.is ∙ c.tail_of.ensures) c.requires.owner in
+    c.note.ensures p now done.noted
+    (found_true p c.args.begin now tail arguments c.args.from c.args.to is c.args.marks.now
+    c.mark_arguments-is_laid.result done.laid done.marked)

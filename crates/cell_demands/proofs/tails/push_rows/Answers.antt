@@ -8,4 +8,5 @@ pub loop-count-preserved : goal.loop-count-preserved
 loop-count-preserved c =
     let row : TailRow = record { tail = record { rule = c.args.rule; alt = c.loop-alt.alt; count = c.loop-count.count }; ends = c.new.result } in
     let R : List TailRow → Type 0 = AreEmpty in
-    subst R (sym c.in_ok-push.ensures.items) (empty_pushed c.loop-count.rows.items row c.loop-count.invariant c.new.ensures.items)
+    subst R (sym {A = List TailRow} c.in_ok-push.ensures.items)
+    (empty_pushed c.loop-count.rows.items row c.loop-count.invariant c.new.ensures.items)

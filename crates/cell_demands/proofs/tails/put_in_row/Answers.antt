@@ -11,5 +11,5 @@ returns-then-to-len c =
     let end = c.index_mut-end.result.now in
     let new : TailRow = record { tail = made.tail; ends = with_item made.ends c.args.to c.put.new.end } in
     let there = slice_get_read made.ends.items c.len.result c.args.to end (omega (arith, made.ends.ok.0)) c.if-to-len.true c.index_mut-end.ensures.value in
-    noted_after c.args.row.now made new c.args.from c.args.to c.args.note c.make_ends.ensures.tail c.make_ends.ensures.notes
-    (put_noted made new c.args.from c.args.to c.args.note end c.put.new.end refl there refl c.put.ensures)
+    noted_after c.args.row.now made new c.args.from c.args.to c.args.is_laid c.make_ends.ensures.tail c.make_ends.ensures.notes
+    (put_noted made new c.args.from c.args.to c.args.is_laid end c.put.new.end refl there refl c.put.ensures)

@@ -1,0 +1,162 @@
+-- Bits for positions of a word: those of one number from a place on and up to it.
+use Rattle.std.proofs.Common.{◌≡◌, ◌↔◌, ◌⊎◌, ℕ, ◌+◌, ◌-◌, ◌*◌, ◌/◌, ◌%◌, ◌^◌, ◌<◌, ◌≤◌, List, length, get_or, set, inl, inr, ⊎_elim, ap, sym, subst, ◌∙◌, arith}
+use Rattle.std.specs.Prelude.{bit_and, bit_or}
+use Rattle.std.specs.Int.{bit_at, bit_not, w64, leading_zeros, trailing_zeros}
+use Rattle.std.proofs.lemmas.Bool.{cases_lt, cases_eq}
+use Rattle.std.proofs.lemmas.Nat.Bits.{bit_at-lt, bit_at-zero, bit_at_not, ones_shl, ones_shr, bit_at_ones, bit_at_ones_above, bit_at_mask_inside, bit_at_mask_below}
+use Rattle.cell_tables.specs.Bits.{IsBitIn, IsBitOf}
+use Rattle.cell_tables.proofs.NumberBits.{one_word_set, shifted_bit}
+use Rattle.cell_tables.proofs.SetBits.{both_bits, first_place, last_place}
+use Rattle.cell_demands.specs.PlaceBits.{HasBit, IsAhead, IsBehind, IsFirstAhead, IsLastBehind, IsLastBit}
+
+-- ---- the bits of a number from a place on
+
+module _ (word place : ℕ) where
+  abbrev ahead : ℕ
+  ahead = bit_and word ((2 ^ 64 - 1) * 2 ^ (place % 64) % 2 ^ 64)
+
+  from_place : (other : ℕ) → IsBitIn ((2 ^ 64 - 1) * 2 ^ (place % 64) % 2 ^ 64) (place / 64) other
+      ↔ ((other / 64 ≡ place / 64) × (place ≤ other))
+  from_place other =
+      let j = place % 64 in
+      let i = other % 64 in
+      let mask : (2 ^ 64 - 1) * 2 ^ j % 2 ^ 64 ≡ 2 ^ 64 - 2 ^ j = ones_shl 64 j (omega arith) in
+      let B : ℕ → Type 0 = λ m. bit_at m i ≡ 1 in (
+        λ bit. elim (cases_lt i j) [
+          | inl low ↦ let clear = bit_at_mask_below j 64 i low in let one = subst B mask bit.bit in absurd (omega arith)
+          | inr high ↦ (bit.number_is, omega (arith, bit.number_is, high))
+        ],
+        λ (same, high).
+            let inside = bit_at_mask_inside j 64 i (omega arith) (omega arith) in
+            record { number_is = same; bit = subst B (sym mask) inside },
+      )
+
+  pub ahead_bit : (other : ℕ) → IsBitIn ahead (place / 64) other ↔ IsAhead word place other
+  ahead_bit other =
+      let both = both_bits word ((2 ^ 64 - 1) * 2 ^ (place % 64) % 2 ^ 64) (place / 64) other in (
+        λ bit. let parts = both.0 bit in (((from_place other).0 parts.1).1, parts.0),
+        λ (behind, bit). both.1 (bit, (from_place other).1 (bit.number_is, behind)),
+      )
+
+  pub none_ahead : ahead ≡ 0 → (other : ℕ) → IsAhead word place other → ⊥
+  none_ahead none other is =
+      let bit = (ahead_bit other).1 is in
+      let same = ap (λ n. bit_at n (other % 64)) none in
+      omega (arith, bit.bit, same, bit_at-zero (other % 64))
+
+  -- the first of them
+  pub ahead_first : (found : ℕ) → ahead < 2 ^ 64 → (ahead ≡ 0 → ⊥)
+      → found ≡ place / 64 * 64 + trailing_zeros w64 ahead → IsFirstAhead word place found
+  ahead_first found fits some is =
+      let least = first_place ahead (place / 64) found (omega arith) fits is in
+      record { set = (ahead_bit found).0 least.0; first = λ other its. least.1 other ((ahead_bit other).1 its) }
+
+-- ---- the bits of a number up to a place
+
+module _ (word place : ℕ) where
+  abbrev behind : ℕ
+  behind = bit_and word ((2 ^ 64 - 1) / 2 ^ (63 - place % 64))
+
+  up_to_place : (other : ℕ) → IsBitIn ((2 ^ 64 - 1) / 2 ^ (63 - place % 64)) (place / 64) other
+      ↔ ((other / 64 ≡ place / 64) × (other ≤ place))
+  up_to_place other =
+      let j = place % 64 in
+      let i = other % 64 in
+      let count : ℕ = 64 - (63 - j) in
+      let mask : (2 ^ 64 - 1) / 2 ^ (63 - j) ≡ 2 ^ count - 1 = ones_shr 64 (63 - j) (omega arith) in
+      let B : ℕ → Type 0 = λ m. bit_at m i ≡ 1 in (
+        λ bit. elim (cases_lt j i) [
+          | inl high ↦
+              let clear = bit_at_ones_above count i (omega arith) in
+              let one = subst B mask bit.bit in
+              absurd (omega arith)
+          | inr low ↦ (bit.number_is, omega (arith, bit.number_is, low))
+        ],
+        λ (same, low). record { number_is = same; bit = subst B (sym mask) (bit_at_ones count i (omega arith)) },
+      )
+
+  pub behind_bit : (other : ℕ) → IsBitIn behind (place / 64) other ↔ IsBehind word place other
+  behind_bit other =
+      let both = both_bits word ((2 ^ 64 - 1) / 2 ^ (63 - place % 64)) (place / 64) other in (
+        λ bit. let parts = both.0 bit in (((up_to_place other).0 parts.1).1, parts.0),
+        λ (before, bit). both.1 (bit, (up_to_place other).1 (bit.number_is, before)),
+      )
+
+  pub none_behind : behind ≡ 0 → (other : ℕ) → IsBehind word place other → ⊥
+  none_behind none other is =
+      let bit = (behind_bit other).1 is in
+      let same = ap (λ n. bit_at n (other % 64)) none in
+      omega (arith, bit.bit, same, bit_at-zero (other % 64))
+
+  -- the last of them
+  pub behind_last : (found : ℕ) → behind < 2 ^ 64 → (behind ≡ 0 → ⊥)
+      → found ≡ place / 64 * 64 + (63 - leading_zeros w64 behind) → IsLastBehind word place found
+  behind_last found fits some is =
+      let most = last_place behind (place / 64) found (omega arith) fits is in
+      record { set = (behind_bit found).0 most.0; last = λ other its. most.1 other ((behind_bit other).1 its) }
+
+-- ---- one more bit
+
+pub one_more : (bits : List ℕ) (place : ℕ) → place / 64 < length bits → (other : ℕ)
+    → HasBit (set bits (place / 64) (bit_or (get_or bits (place / 64) 0) (1 * 2 ^ (place % 64) % 2 ^ 64))) other
+    ↔ (HasBit bits other ⊎ (other ≡ place))
+one_more bits place within other =
+    let more = one_word_set bits (place / 64) (1 * 2 ^ (place % 64) % 2 ^ 64) within in
+    let told = shifted_bit (place % 64) (other % 64) (omega arith) in
+    let each = more.exact (other / 64) (other % 64) (omega arith) in (
+      λ one. ⊎_elim (λ was. inl was) (λ (number, bit). let k = told.0 bit in inr (omega (arith, number, k))) (each.0 one),
+      λ either. each.1 (⊎_elim (λ was. inl was) (λ same. inr (omega (arith, same), told.1 (omega (arith, same)))) either),
+    )
+
+-- ---- among bits for all places
+
+module _ (bits : List ℕ) (place word other : ℕ) (is : word ≡ get_or bits (place / 64) 0)
+    (same : other / 64 ≡ place / 64) where
+  word_bit : bit_at word (other % 64) ≡ bit_at (get_or bits (other / 64) 0) (other % 64)
+  word_bit = ap (λ n. bit_at n (other % 64)) (is ∙ ap (λ n. get_or bits n 0) (sym same))
+
+  pub bit_there : bit_at word (other % 64) ≡ 1 → HasBit bits other
+  bit_there one = sym word_bit ∙ one
+
+  pub there_bit : HasBit bits other → IsBitIn word (place / 64) other
+  there_bit has = record { number_is = same; bit = word_bit ∙ has }
+
+  -- where the bit isn't among those that are not set
+  pub set_there : word < 2 ^ 64 → place ≤ other → (IsAhead (bit_not w64 word) place other → ⊥) → HasBit bits other
+  set_there fits behind none = elim (cases_eq (bit_at word (other % 64)) 1) [
+    | inl one ↦ bit_there one
+    | inr clear ↦
+        let small = bit_at-lt word (other % 64) in
+        let told = bit_at_not w64 word (other % 64) fits (omega arith) in
+        absurd (none (behind, record { number_is = same; bit = omega (arith, told, small, clear) }))
+  ]
+
+  -- where it is
+  pub clear_there : word < 2 ^ 64 → IsAhead (bit_not w64 word) place other → HasBit bits other → ⊥
+  clear_there fits (_, clear) has =
+      let one = (there_bit has).bit in
+      let told = bit_at_not w64 word (other % 64) fits (omega arith) in
+      let bit = clear.bit in
+      omega (arith, told, one, bit)
+
+-- ---- between the first and the last place whose bit is set
+
+module _ (bits : List ℕ) (first past least last : ℕ) (from_first : first ≤ least)
+    (none_before : (place : ℕ) → first ≤ place → place < least → HasBit bits place → ⊥)
+    (most : IsLastBit bits first past last) (place : ℕ) where
+  pub within_all : IsBitOf bits least (last + 1) place → IsBitOf bits first past place
+  within_all is = record {
+    from_first = omega (arith, is.from_first);
+    before = omega (arith, is.before, most.set.before);
+    bit = is.bit;
+  }
+
+  pub cut_to_set : IsBitOf bits first past place → IsBitOf bits least (last + 1) place
+  cut_to_set is = record {
+    from_first = elim (cases_lt place least) [
+      | inl early ↦ absurd (none_before place is.from_first early is.bit)
+      | inr late ↦ late
+    ];
+    before = omega (arith, most.last place is);
+    bit = is.bit;
+  }
