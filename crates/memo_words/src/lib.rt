@@ -15,6 +15,7 @@ mod steps;
 mod view;
 mod word_step;
 mod words;
+mod zeros;
 
 pub use codes::{
     NO_CANDIDATE, cell_code, choice_code, code_cell, code_choice, code_score, codes_tell_apart,

@@ -8,6 +8,7 @@ use crate::plan::Key;
 use crate::rest::Rest;
 use crate::rule::{Joins, Splits, TableKept};
 use crate::view::View;
+use crate::zeros::table_of_zeros;
 use adp_model::Problem;
 use history_table::HistoryTable;
 use std::alloc::{AllocError, Global};
@@ -66,8 +67,7 @@ impl Words {
         };
         let slots = slots_of(bits);
         let records = problem.cells as u32 + seats;
-        let words = Vec::from_elem(alloc, 0, word_count(slots, records))?;
-        let (table, seat) = HistoryTable::of_zeros(alloc, words.as_slice(), &key)?;
+        let (table, seat) = table_of_zeros(alloc, word_count(slots, records), &key)?;
         let words = Words {
             table,
             bits,
