@@ -62,7 +62,7 @@ fn made_report(
     made_words_have_trees();
     match finished.answer {
         Answer::Best { score, .. } => {
-            big_report(alloc, command.size, score, finished.closed.len())
+            big_report(alloc, command.size, score, finished.demanded_cells())
         }
         Answer::NoCandidate => unreachable!(),
     }

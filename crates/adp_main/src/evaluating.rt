@@ -83,8 +83,8 @@ pub(crate) fn plain_report(
     requires { (seed : ℕ) × IsFinished problem.now seed finished.now }
     ensures { IfOk result (λ report. IsReport number problem.now report.items) }
 {
-    let closed = &finished.closed;
-    answered_report(alloc, number, problem, closed, closed.len())
+    let cells = finished.demanded_cells();
+    answered_report(alloc, number, problem, &finished.closed, cells)
 }
 
 /// The report of a word that evaluators solved, with the line of their wins behind it.

@@ -287,7 +287,7 @@ pub(crate) fn report_of_both(
     let outcome = PairOutcome {
         scores,
         nodes,
-        cells: closed.len(),
+        cells: finished.demanded_cells(),
     };
     pair_report(alloc, number, problem, &outcome)
 }

@@ -56,7 +56,7 @@ fn push_answer(out: &mut Vec<u8>, traced: &Traced<'_>) -> Result<(), AllocError>
         }
     }
     push_text(out, "\n")?;
-    push_number_line(out, "cells ", traced.finished.closed.len())
+    push_number_line(out, "cells ", traced.finished.demanded_cells())
 }
 
 /// Appends a line of a number behind its name.

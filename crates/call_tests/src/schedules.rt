@@ -90,7 +90,7 @@ fn repeated(alloc: Global, entries: &[u64], times: u64) -> Result<Vec<u8>, Alloc
 /// Appends the answer, the number of cells, and the wins and moves of the machines, and whether each has ended.
 fn push_finished(finished: &Finished<'_>, out: &mut Vec<u8>) -> Result<(), AllocError> {
     push_answer(finished.answer, out)?;
-    push_field(out, ", cells ", finished.closed.len())?;
+    push_field(out, ", cells ", finished.demanded_cells())?;
     push_list(out, ", wins", &finished.wins)?;
     push_text(out, ", moves")?;
     for machine in &finished.machines {

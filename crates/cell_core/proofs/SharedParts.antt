@@ -133,4 +133,4 @@ notes_field a = let notes = notes_send a in search (sendable, crosses) depth 40 
 pub machine_send : (a : NamedLft) (M Q P : RattleType) (g : Ghosts M.Denot Q.Denot P.Denot) → IsSend P → IsSend (Machine.the_row a M Q P g)
 machine_send a M Q P g sent = view_send (Inside.the_row a M Q P g) _ _ _ _
     (declared_send (Inside.the_type a M Q P g)
-    (search (sendable, crosses, problem_sync), (as_row_send Orders.the_field orders.the_send, (notes_field a, (work.the_send P sent, tt)))))
+    (search (sendable, crosses, problem_sync), (as_row_send Orders.the_field orders.the_send, (notes_field a, (notes_field a, (work.the_send P sent, tt))))))

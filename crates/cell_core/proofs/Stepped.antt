@@ -8,10 +8,10 @@ use Rattle.memo_model.specs.declared.visit.Hand.{Hand}
 use Rattle.adp_model.specs.PosedProblem.{PosedProblem}
 use Rattle.adp_model.specs.SplitArguments.{SplitArgument}
 use Rattle.memo_model.specs.Memos.{Meaning}
-use Rattle.memo_model.specs.Machines.{IsUnderWay, IsMachine}
+use Rattle.memo_model.specs.Machines.{MachineState, IsUnderWay, IsMachine}
 use Rattle.cell_tables.specs.Noted.{Notes, IsNoted}
 use Rattle.cell_core.specs.declared.work.Work.{Work}
-use Rattle.cell_core.specs.Working.{all_frames, HasRoom, IsSound, work_left}
+use Rattle.cell_core.specs.Working.{frames_of, all_frames, HasRoom, IsSound, work_left}
 use Rattle.cell_core.specs.MachineViews.{state_of, IsNotedIn, loads_at, looked_for, LoadsAsTold}
 
 -- the work with another number of steps
@@ -20,6 +20,22 @@ with_moves work moves = record {
   hand = work.hand;
   top = work.top;
   below = work.below;
+  ready = work.ready;
+  opened = work.opened;
+  wins = work.wins;
+  moves = moves;
+  ended = work.ended;
+  score = work.score;
+}
+
+-- the state of a machine with this work, but with this number of steps and these frames below the top one
+abbrev pub state_over : {Probe : Type 0} → PosedProblem → Option Notes → Work Probe → ℕ → List (Frame Probe)
+    → MachineState (Option Notes) Probe
+state_over p notes work moves below = record {
+  problem = p;
+  notes = notes;
+  hand = work.hand;
+  frames = frames_of work.top below;
   ready = work.ready;
   opened = work.opened;
   wins = work.wins;
@@ -71,18 +87,20 @@ module _ {Pass Probe : Type 0} (memo : Meaning Pass Probe) (p : PosedProblem) (p
     few_wins = sound.few_wins;
   }
 
-  -- the notes are given up at the end
-  pub machine_at_end : (Noted : Cell → Type 0) (work : Work Probe) (moves : ℕ) → work.ended ≡ true
-      → IsSound memo p Noted work pass → IsUnderWay work.hand work.ready (all_frames work)
-      → IsMachine memo IsNotedIn (state_of p None (with_moves work moves)) pass
-  machine_at_end Noted work moves ended sound under_way = record {
-    going = λ e. absurd (false≢true (sym e ∙ ended));
-    at_end = sound.at_end;
-    under_way = under_way;
-    noted = λ cell none. absurd none;
-    few_opened = sound.few_opened;
-    few_wins = sound.few_wins;
-  }
+  -- the notes are given up at the end, and the frames below stay
+  pub machine_at_end : (Noted : Cell → Type 0) (notes : Option Notes) (work : Work Probe) (moves : ℕ) (below : List (Frame Probe))
+      → notes ≡ None → below ≡ work.below.items → work.ended ≡ true → IsSound memo p Noted work pass
+      → IsUnderWay work.hand work.ready (all_frames work) → IsMachine memo IsNotedIn (state_over p notes work moves below) pass
+  machine_at_end Noted notes work moves below gone stay ended sound under_way =
+      subst (λ notes. IsMachine memo IsNotedIn (state_over p notes work moves below) pass) (sym gone)
+      (subst (λ frames. IsMachine memo IsNotedIn (state_over p None work moves frames) pass) (sym stay) (record {
+        going = λ e. absurd (false≢true (sym e ∙ ended));
+        at_end = sound.at_end;
+        under_way = under_way;
+        noted = λ cell none. absurd none;
+        few_opened = sound.few_opened;
+        few_wins = sound.few_wins;
+      }))
 
   -- the parts are those of the work
   pub sound_by_parts : (Noted : Cell → Type 0) (work : Work Probe) (hand : Option (Hand Probe)) (top : Option (Frame Probe))

@@ -1,6 +1,6 @@
 //! The notes of a machine, in rows and columns.
 
-ghost use Rattle.std.specs.Prelude.{◌≡◌, IfOk};
+ghost use Rattle.std.specs.Prelude.{◌≡◌, IfOk, IfSome};
 ghost use Rattle.std.specs.Arc.{arc_value};
 ghost use Rattle.adp_model.specs.declared.cell.Cell.{Cell as AnyCell};
 ghost use Rattle.cell_tables.specs.Noted.{IsNoted};
@@ -84,6 +84,45 @@ impl<'a> CellNotes<'a> {
         let lines = prepared.lines();
         let tails = Tails::new(alloc, lines, KeptEnds::All)?;
         let prepared = Arc::try_clone(prepared)?;
+        Ok(CellNotes {
+            prepared,
+            noted,
+            scores,
+            tails,
+            skips: true,
+        })
+    }
+
+    /// No cell is noted, in the memory of other notes of the problem, where there are some. Fails for want of memory
+    /// alone.
+    pub fn over(
+        alloc: Global,
+        prepared: &Arc<Prepared<'a>, Global>,
+        kept: Option<CellNotes<'a>>,
+    ) -> Result<CellNotes<'a>, AllocError>
+        requires { IfSome kept (λ notes. notes.problem ≡ arc_value prepared.now) }
+        ensures problem { IfOk result (λ notes. notes.problem ≡ arc_value prepared.now) }
+        ensures none { IfOk result (λ notes. (cell : AnyCell) → IsNoted notes cell → ⊥) }
+    {
+        match kept {
+            Some(notes) => notes.emptied(alloc),
+            None => CellNotes::new(alloc, prepared),
+        }
+    }
+
+    /// These notes without a cell. What tails are worth stays noted, since it is true of the problem.
+    fn emptied(self, alloc: Global) -> Result<CellNotes<'a>, AllocError>
+        ensures problem { IfOk result (λ notes. notes.problem ≡ self.entry.problem) }
+        ensures none { IfOk result (λ notes. (cell : AnyCell) → IsNoted notes cell → ⊥) }
+    {
+        let CellNotes {
+            prepared,
+            noted: _,
+            scores,
+            tails,
+            skips: _,
+        } = self;
+        let noted = Noted::new(alloc, prepared.layout())?;
         Ok(CellNotes {
             prepared,
             noted,

@@ -1,6 +1,6 @@
 //! A machine: a top-down computation of the answer of the axiom's cell that shares its results by a memo.
 
-ghost use Rattle.std.specs.Prelude.{◌≡◌, ◌+◌, ◌-◌, ◌<◌, ◌≤◌, ◌^◌, ℕ, List, IfOk, true, false, length, if◌then◌else◌, min};
+ghost use Rattle.std.specs.Prelude.{◌≡◌, ◌+◌, ◌-◌, ◌<◌, ◌≤◌, ◌^◌, ℕ, List, IfOk, IfSome, true, false, length, if◌then◌else◌, min};
 ghost use Rattle.std.specs.Arc.{arc_value};
 ghost use Rattle.adp_model.specs.Demand.{IsDemandedCount};
 ghost use Rattle.adp_model.specs.SplitArguments.{SplitArgument, AreRuleArguments};
@@ -15,7 +15,7 @@ ghost use Rattle.cell_core.specs.MachineViews.{IsNotedIn, IsFresh, LoadsAsTold, 
 use crate::cell_notes::CellNotes;
 use crate::work::{Turn, Work, fresh_work, make_step};
 use adp_model::Problem;
-use memo_model::{Memo, Steps};
+use memo_model::{Frame, Memo, Steps};
 use random_orders::Orders;
 use split_lines::Prepared;
 use std::alloc::{AllocError, Global};
@@ -23,12 +23,14 @@ use std::marker::Model;
 use std::sync::Arc;
 use std::sync::ledger::Ledger;
 
-/// A machine over a memo. Contracts see its state and its orders.
+/// A machine over a memo. Contracts see its state and its orders. At its end it puts its notes by, since another machine
+/// of the problem may begin with their memory.
 #[derive(Drop)]
 pub struct Machine<'a, M: Memo> {
     problem: &'a Problem<'a>,
     orders: Orders,
     notes: Option<CellNotes<'a>>,
+    kept: Option<CellNotes<'a>>,
     work: Work<M::Probe>,
 }
 
@@ -49,18 +51,26 @@ impl<'a, M: Memo> Model for Machine<'a, M> {
     ghost view = { λ machine.
         record { machine = state_of machine.problem.now machine.notes machine.work; orders = machine.orders } };
 
-    ghost invariant = { λ machine. HasRoom machine.problem.now machine.work
-        × (machine.work.ended ≡ false
-        → IsSome machine.notes × IsDemanded machine.problem.now (axiom_cell machine.problem.now))
-        × IfSome machine.notes (λ notes. notes.problem ≡ machine.problem.now) };
+    ghost invariant = { λ machine. (machine.work.ended ≡ false
+        → HasRoom machine.problem.now machine.work × IsSome machine.notes
+        × IsDemanded machine.problem.now (axiom_cell machine.problem.now))
+        × IfSome machine.notes (λ notes. notes.problem ≡ machine.problem.now)
+        × IfSome machine.kept (λ notes. notes.problem ≡ machine.problem.now) };
 }
 
-/// Gives back the memory of the notes. It is kept out of the step, which would pay for it each time.
+/// Puts the notes by, and gives back the room of the frames. It stands outside the step, which would pay for it each time.
 #[inline(never)]
-fn forget(notes: &mut Option<CellNotes<'_>>)
-    ensures { notes.new ≡ None }
+fn put_by<'a, P: Drop>(
+    notes: &mut Option<CellNotes<'a>>,
+    kept: &mut Option<CellNotes<'a>>,
+    below: &mut Vec<Frame<P>>,
+)
+    ensures gone { notes.new ≡ None }
+    ensures kept { kept.new ≡ notes.old }
+    ensures frames { below.new.items ≡ below.old.items }
 {
-    *notes = None;
+    *kept = notes.take();
+    below.shrink_to_fit();
 }
 
 impl<'a, M: Memo> Machine<'a, M> {
@@ -79,15 +89,18 @@ impl<'a, M: Memo> Machine<'a, M> {
     {
         let prepared = Prepared::new(alloc, problem)?;
         let prepared = Arc::new(alloc, prepared)?;
-        Machine::on(alloc, &prepared, orders)
+        Machine::on(alloc, &prepared, None, orders)
     }
 
-    /// A machine of a problem that others share. Fails for want of memory alone.
+    /// A machine of a problem that others share, in the memory of the notes of one of them that has ended, if they are
+    /// given. Fails for want of memory alone.
     pub fn on(
         alloc: Global,
         prepared: &Arc<Prepared<'a>, Global>,
+        kept: Option<CellNotes<'a>>,
         orders: Orders,
     ) -> Result<Machine<'a, M>, AllocError>
+        requires { IfSome kept (λ notes. notes.problem ≡ arc_value prepared.now) }
         ensures fresh { IfOk result (λ machine. IsFresh (arc_value prepared.now) orders machine) }
         ensures machine { IfOk result (λ machine. (pass : M.Pass)
             → IsMachine M.meaning IsNotedIn machine.machine pass) }
@@ -97,11 +110,12 @@ impl<'a, M: Memo> Machine<'a, M> {
     {
         let problem = prepared.problem();
         let work = fresh_work(alloc, problem)?;
-        let notes = CellNotes::new(alloc, prepared)?;
+        let notes = CellNotes::over(alloc, prepared, kept)?;
         Ok(Machine {
             problem,
             orders,
             notes: Some(notes),
+            kept: None,
             work,
         })
     }
@@ -158,8 +172,16 @@ impl<'a, M: Memo> Machine<'a, M> {
         if !self.work.ended {
             return Turn::Going;
         }
-        forget(&mut self.notes);
+        put_by(&mut self.notes, &mut self.kept, &mut self.work.below);
         Turn::Ended(self.work.score)
+    }
+
+    /// Gives away the notes that it has put by at its end, for another machine of its problem. Takes no memory.
+    pub fn take_notes(&mut self) -> Option<CellNotes<'a>>
+        ensures same { self.new ≡ self.old }
+        ensures problem { IfSome result (λ notes. notes.problem ≡ self.old.machine.problem) }
+    {
+        self.kept.take()
     }
 
     /// Sets whether the machine passes over noted arguments, as it does at first; where it doesn't, each rule argument

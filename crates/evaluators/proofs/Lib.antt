@@ -7,5 +7,4 @@ pub mod Joining
 pub mod Finishing
 pub mod Playing
 pub mod Watching
-pub mod Turns
 pub mod SentProbes

@@ -7,9 +7,10 @@ use Rattle.random_orders.specs.Draws.{after_draws}
 use Rattle.adp_model.specs.PosedProblem.{PosedProblem}
 use Rattle.adp_model.specs.ProblemFields.{IsAdmissible}
 use Rattle.memo_model.specs.Machines.{IsMachine}
+use Rattle.memo_words.specs.declared.pass.Pass.{Pass}
 use Rattle.memo_words.specs.declared.words.Words.{Words}
 use Rattle.memo_words.specs.Passes.{IsPassOf, view_of, marks_of, plan_of, problem_of}
-use Rattle.memo_table.specs.Meanings.{table_meaning}
+use Rattle.memo_table.specs.Meanings.{table_meaning, share_of}
 use Rattle.memo_table.specs.declared.probe.Probe.{Probe}
 use Rattle.cell_core.specs.MachineViews.{MachineView, IsFresh, IsNotedIn}
 use Rattle.evaluators.specs.Posts.{Post, post, posts_of}
@@ -55,6 +56,18 @@ pub unmoved_when_fresh : (p : PosedProblem) (orders : Lcg) (machine : MachineVie
     → HasKeptEntries 0 machine
 unmoved_when_fresh p orders machine fresh =
     record { steps = inl fresh.no_moves; few_wins = omega (arith, fresh.no_wins) }
+
+-- the post of a worker with a fresh machine and this pass
+pub served_post : (worker : TableWorker) (p : PosedProblem) (seed number : ℕ) (pass : Pass) (orders : Lcg)
+    → IsFresh p orders worker.machine → worker.seed ≡ seed → worker.number ≡ number → worker.pass ≡ pass
+    → post_of worker ≡ record { problem = p; seed = seed; number = number; share = share_of pass }
+served_post worker p seed number pass orders fresh seed_is number_is pass_is =
+    λ i. record {
+      problem = fresh.problem i;
+      seed = seed_is i;
+      number = number_is i;
+      share = share_of (pass_is i);
+    }
 
 -- its post, where the pass stands for one and none is left to be split off
 pub post_is : (worker : TableWorker) (p : PosedProblem) (seed number : ℕ) (orders : Lcg)

@@ -1,3 +1,7 @@
+ghost use Rattle.std.specs.Prelude.{◌≡◌, ◌-◌, ◌^◌, min, sum};
+
+use adp_model::laws::demand::demanded_cells_are_unique;
+use adp_model::laws::existence::demanded_cells_are_listed;
 use adp_model::{Answer, Sequence, Text};
 use cell_core::Machine;
 use memo_table::{Closed, Table};
@@ -10,6 +14,35 @@ pub struct Finished<'a> {
     pub machines: Vec<Machine<'a, Table>>,
     pub wins: Vec<u64>,
     pub answer: Answer,
+}
+
+impl Finished<'_> {
+    ghost use Rattle.std.specs.Prelude.{ℕ};
+    ghost use Rattle.adp_model.specs.Demand.{IsDemandedCount};
+    ghost use Rattle.adp_model.specs.PosedProblem.{PosedProblem};
+    ghost use Rattle.evaluators.specs.Runs.{IsFinished};
+
+    /// The number of demanded cells, each of which one machine put into the table. Takes no memory.
+    pub fn demanded_cells(&self) -> u64
+        ensures { (problem : PosedProblem) (seed : ℕ) → IsFinished problem seed self.now
+            → IsDemandedCount problem result }
+    {
+        self.closed.admissible();
+        demanded_cells_are_listed();
+        demanded_cells_are_unique();
+        sum_of(&self.wins)
+    }
+}
+
+/// The sum of the numbers, or the greatest number where that is less.
+fn sum_of(numbers: &[u64]) -> u64
+    ensures { result ≡ min (sum numbers.now) (2 ^ 64 - 1) }
+{
+    let mut sum = 0u64;
+    for number in numbers {
+        sum = sum.saturating_add(*number);
+    }
+    sum
 }
 
 /// What a run is remembered by: its word, the number of its algebra, the seed of its orders, the answer and the number

@@ -131,7 +131,7 @@ fn note_of(
         algebra: problem.algebra,
         seed,
         answer: finished.answer,
-        cells: finished.closed.len(),
+        cells: finished.demanded_cells(),
         wins: Sequence::new(Vec::from_slice(alloc, &finished.wins)?),
         moves: Sequence::new(moves),
         ended: Sequence::new(ended),

@@ -1,22 +1,27 @@
 //! Workers that run one after the other, on the thread that calls.
 
-ghost use Rattle.std.specs.Prelude.{◌≡◌, ◌+◌, ◌<◌, ◌≤◌, ℕ, IfOk, All, length, map};
+ghost use Rattle.std.specs.Prelude.{◌≡◌, ◌≤◌, ℕ, [], IfOk, IfSome, All, map};
+ghost use Rattle.std.specs.Arc.{arc_value};
 ghost use Rattle.adp_model.specs.PosedProblem.{PosedProblem};
+ghost use Rattle.adp_model.specs.ProblemFields.{IsAdmissible};
+ghost use Rattle.memo_words.specs.Passes.{IsPassOf, view_of, marks_of, problem_of, plan_of};
+ghost use Rattle.memo_words.specs.Views.{first_view};
 ghost use Rattle.evaluators.specs.Ends.{IsEnded, IsRunToEnd};
-ghost use Rattle.evaluators.specs.Playing.{AllFrom};
-ghost use Rattle.evaluators.specs.Turns.{HasItsTurn};
+ghost use Rattle.evaluators.specs.Posts.{posts_of};
+ghost use Rattle.evaluators.specs.Turns.{HasServed};
 ghost use Rattle.evaluators.specs.Working.{IsReady, IsDone, post_of};
 
-use crate::crew::{Leavings, finish, join_all, team_for};
+use crate::crew::{Leavings, finish, join_all, shared_by_all, worker};
 use crate::driving::Door;
 use crate::finished::Finished;
 use crate::gated::GatedWorker;
 use crate::watcher::Unwatched;
 use crate::worker::{TableWorker, work};
 use adp_model::Problem;
-use cell_core::Prepared;
-use memo_table::Table;
+use cell_core::{CellNotes, Prepared};
+use memo_table::{Pass, Table};
 use std::alloc::{AllocError, Global};
+use std::sync::Arc;
 
 /// What evaluators leave that have run, with their table, which is still to be closed. It may go to another thread, as a
 /// closed table may not.
@@ -63,8 +68,15 @@ pub fn run_in_turn<'a, D: Door>(
 {
     let problem = prepared.problem();
     let (table, pass) = Table::new(alloc, problem, workers)?;
-    let mut crew = team_for(alloc, &table, prepared, door, pass, workers, seed)?;
-    work_in_turn(&table, crew.as_mut_slice());
+    let shared = shared_by_all(alloc, prepared)?;
+    let turns = Turns {
+        alloc,
+        table: &table,
+        prepared: &shared,
+        door,
+        seed,
+    };
+    let crew = turns.crew(pass, workers)?;
     let left = join_all(alloc, &table, seed, workers, crew)?;
     Ok(Ended {
         table,
@@ -76,27 +88,82 @@ pub fn run_in_turn<'a, D: Door>(
 
 type Visitor<'a, 'd, D> = GatedWorker<'d, TableWorker<'a>, D>;
 
-/// Runs all workers to their ends, in order.
-fn work_in_turn<D: Door>(table: &Table, workers: &mut [Visitor<'_, '_, D>])
-    requires ready { All (λ gated. IsReady table.now gated.worker) workers.old }
-    ensures done { All (λ gated. IsDone table.now gated.worker) workers.new }
-    ensures posts { map (λ gated. post_of gated.worker) workers.new
-        ≡ map (λ gated. post_of gated.worker) workers.old }
-{
-    for place in 0..workers.len() {
-        work_at(table, workers, place);
-    }
+/// What workers have in common that run one after the other.
+#[derive(Clone, Copy)]
+struct Turns<'r, 'a, 'd, D> {
+    alloc: Global,
+    table: &'r Table,
+    prepared: &'r Arc<Prepared<'a>, Global>,
+    door: &'d D,
+    seed: u64,
 }
 
-/// Runs the worker at this place to its end. Those before it have run, those behind it wait.
-fn work_at<D: Door>(table: &Table, workers: &mut [Visitor<'_, '_, D>], place: usize)
-    requires inside { place < length workers.old }
-    requires turn { AllFrom (λ number gated. HasItsTurn table.now place number gated.worker) 0 workers.old }
-    ensures turn { AllFrom (λ number gated. HasItsTurn table.now (place + 1) number gated.worker) 0 workers.new }
-    ensures posts { map (λ gated. post_of gated.worker) workers.new
-        ≡ map (λ gated. post_of gated.worker) workers.old }
-{
-    let gated = &mut workers[place];
-    let number = gated.worker.number;
-    work(table, gated.gate, &mut Unwatched, number, &mut gated.worker);
+impl<'r, 'a, 'd, D: Door> Turns<'r, 'a, 'd, D> {
+    /// So many workers, each of which has run to its end before the next one is made, which takes the memory of its notes.
+    fn crew(&self, mut pass: Pass, count: u32) -> Result<Vec<Visitor<'a, 'd, D>>, AllocError>
+        requires same { problem_of self.now.table.now ≡ arc_value self.now.prepared.now }
+        requires admissible { IsAdmissible (arc_value self.now.prepared.now) }
+        requires own { IsPassOf self.now.table.now pass }
+        requires first { view_of pass ≡ first_view (plan_of self.now.table.now) }
+        requires unmarked { marks_of pass ≡ [] }
+        requires seats { (plan_of self.now.table.now).seats ≡ count }
+        requires some { 1 ≤ count }
+        ensures done { IfOk result (λ crew. All (λ gated. IsDone self.now.table.now gated.worker) crew.items) }
+        ensures posts { IfOk result (λ crew. map (λ gated. post_of gated.worker) crew.items
+            ≡ posts_of (arc_value self.now.prepared.now) self.now.seed count) }
+    {
+        let mut crew = Vec::new(self.alloc);
+        let mut notes = None;
+        for number in 0..count - 1 {
+            let other = self.table.split(&mut pass);
+            self.serve(&mut crew, &mut notes, other, number)?;
+        }
+        self.serve(&mut crew, &mut notes, pass, count - 1)?;
+        Ok(crew)
+    }
+
+    /// One more worker, which has run to its end. It began with these notes, if there were any, and leaves its own.
+    fn serve(
+        &self,
+        crew: &mut Vec<Visitor<'a, 'd, D>>,
+        notes: &mut Option<CellNotes<'a>>,
+        pass: Pass,
+        number: u32,
+    ) -> Result<(), AllocError>
+        requires same { problem_of self.now.table.now ≡ arc_value self.now.prepared.now }
+        requires admissible { IsAdmissible (arc_value self.now.prepared.now) }
+        requires own { IsPassOf self.now.table.now pass }
+        requires no_wins { (view_of pass).wins ≡ 0 }
+        requires unmarked { marks_of pass ≡ [] }
+        requires notes { IfSome notes.old (λ kept. kept.problem ≡ arc_value self.now.prepared.now) }
+        ensures notes { IfSome notes.new (λ kept. kept.problem ≡ arc_value self.now.prepared.now) }
+        ensures served { IfOk result (λ _. HasServed (λ gated. gated.worker) self.now.table.now
+            (arc_value self.now.prepared.now) self.now.seed number pass crew.old.items crew.new.items) }
+    {
+        let mut worker = worker(
+            self.alloc,
+            self.prepared,
+            notes.take(),
+            pass,
+            number,
+            self.seed,
+        )?;
+        *notes = self.run(&mut worker, number);
+        crew.push(GatedWorker {
+            worker,
+            gate: self.door,
+        })?;
+        Ok(())
+    }
+
+    /// Runs a worker to its end, and takes the notes that it leaves.
+    fn run(&self, worker: &mut TableWorker<'a>, number: u32) -> Option<CellNotes<'a>>
+        requires ready { IsReady self.now.table.now worker.old }
+        ensures done { IsDone self.now.table.now worker.new }
+        ensures post { post_of worker.new ≡ post_of worker.old }
+        ensures notes { IfSome result (λ kept. kept.problem ≡ problem_of self.now.table.now) }
+    {
+        work(self.table, self.door, &mut Unwatched, number, worker);
+        worker.machine.take_notes()
+    }
 }

@@ -2,7 +2,6 @@
 use Rattle.std.proofs.Common.{◌≡◌, ◌≢◌, ℕ, ◌+◌, ◌<◌, ◌≤◌, Option, Some, None, ℤ, sym, ap, subst, ◌∙◌, arith}
 use mathlib.Core.Logic.{dite}
 use native.Mathlib.Decide.{ℕ_discrete}
-use Rattle.std.proofs.Common.{◌⊎◌, inl, inr, min, add-one}
 use Rattle.adp_model.specs.declared.cell.Answer.{Answer}
 use Rattle.adp_model.specs.declared.cell.Cell.{Cell}
 use Rattle.adp_model.specs.Answers.{IsAnswer}
@@ -13,7 +12,7 @@ use Rattle.memo_words.specs.declared.part.Part.{Part}
 use Rattle.memo_words.specs.declared.part.Part.TheVariants as parts
 use Rattle.memo_words.specs.Codes.{HasCellCode, cell_code, HasScoreCode, HasChoiceCode, score_code, choice_code}
 use Rattle.memo_words.specs.CodedCells.{answer_word}
-use Rattle.memo_words.specs.Layout.{tally, slots_of, probed, key, record_word, arena_word}
+use Rattle.memo_words.specs.Layout.{slots_of, probed, key, record_word, arena_word}
 use Rattle.memo_words.specs.Probes as probes
 use Rattle.memo_words.specs.Kept.{name, IsHeldAt}
 use Rattle.memo_words.specs.Passes.{plan_of, rest_words}
@@ -84,23 +83,6 @@ pub its_demand : (closed : ClosedTable) (cell : Cell) (position : ℕ) (answer :
     closed.words
     → IsHeldAt closed.plan closed.words position cell answer → IsDemanded closed.plan.problem cell
 its_demand closed cell position answer settled held = (settled.published cell).0 (position, answer, held)
-
--- ---- counting
-
-pub counted_on : (f : ℕ → ℕ) (position count count' value : ℕ) → value ≡ f position
-    → (count ≡ tally (λ i. min (f i) 1) position) × (count ≤ position)
-    → ((value ≢ 0) × (count' ≡ count + 1)) ⊎ ((value ≡ 0) × (count' ≡ count))
-    → (count' ≡ tally (λ i. min (f i) 1) (position + 1)) × (count' ≤ position + 1)
-counted_on f position count count' value is (counted, low) (inl (some, more)) =
-    let next : tally (λ i. min (f i) 1) (position + 1) ≡ tally (λ i. min (f i) 1) position + min (f position) 1 =
-    ap (tally (λ i. min (f i) 1)) (add-one position) in
-    let one : min (f position) 1 ≡ 1 = let full : 0 < f position = omega (arith, is, some) in omega arith in
-    (more ∙ omega (arith, counted, one) ∙ sym next, omega (arith, more, low))
-counted_on f position count count' value is (counted, low) (inr (none, same)) =
-    let next : tally (λ i. min (f i) 1) (position + 1) ≡ tally (λ i. min (f i) 1) position + min (f position) 1 =
-    ap (tally (λ i. min (f i) 1)) (add-one position) in
-    let zero : min (f position) 1 ≡ 0 = let empty : f position ≡ 0 = sym is ∙ none in omega arith in
-    (same ∙ omega (arith, counted, zero) ∙ sym next, omega (arith, same, low))
 
 -- ---- the search
 

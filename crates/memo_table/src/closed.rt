@@ -5,7 +5,6 @@ ghost use Rattle.memo_words.specs.Codes.{HasCellCode};
 ghost use Rattle.memo_table.specs.AnswerWords.{answer_of};
 
 use crate::laws::{answers_have_words, demanded_cells_have_codes, each_position_is_reached};
-use adp_model::laws::existence::demanded_cells_are_listed;
 use adp_model::{Answer, Answers, Cell, Choice};
 use memo_words::{Rest, Words, cell_code, code_choice, code_score, codes_tell_apart, nth_position};
 use std::marker::Model;
@@ -54,12 +53,17 @@ fn answer_of(score: Option<i64>, choice: Option<Choice>) -> Answer
 
 impl Closed {
     ghost use Rattle.adp_model.specs.ProblemFields.{IsAdmissible};
-    ghost use Rattle.adp_model.specs.Demand.{IsDemandedCount};
     ghost use Rattle.memo_words.specs.Layout.{IsPlanned, records_of};
-    ghost use Rattle.memo_words.specs.Kept.{filled};
     ghost use Rattle.memo_words.specs.Passes.{rest_words};
     ghost use Rattle.memo_table.specs.AnswerWords.{HasAnswerWords};
     ghost use Rattle.memo_table.specs.ClosedTables.{IsSettled, IsAt, IsNowhere, AreWordsOf};
+
+    /// The problem was admitted. Does nothing when it runs.
+    pub fn admissible(&self)
+        ensures { IsAdmissible self.now.plan.problem }
+    {
+        let _ = &self.rest;
+    }
 
     /// What is left of the rule of the table. Does nothing when it runs.
     fn settled(&self)
@@ -107,23 +111,6 @@ impl Closed {
         ensures { rest_words result.now ≡ self.now.words }
     {
         &self.rest
-    }
-
-    /// The number of published cells, which are the demanded ones. Takes no memory.
-    pub fn len(&self) -> u64
-        ensures filled { result ≡ filled self.now.plan self.now.words }
-        ensures demanded { IsDemandedCount self.now.plan.problem result }
-    {
-        self.settled();
-        demanded_cells_are_listed();
-        codes_tell_apart();
-        let mut count = 0;
-        for position in 0..self.rest.slots() {
-            if self.rest.record_word(position) != 0 {
-                count += 1;
-            }
-        }
-        count
     }
 }
 

@@ -3,6 +3,10 @@ use Rattle.std.proofs.lemmas.Result.{IfOk-weaker}
 use Rattle.adp_main.proofs.CompiledWords.{is_compiled}
 use Rattle.adp_main.proofs.lex.report_of_both.Goals as goal
 
+pub pair_report-requires-clause-cells : goal.pair_report-requires-clause-cells
+pair_report-requires-clause-cells c =
+    c.demanded_cells.ensures c.args.problem.now c.requires.finished.0 c.requires.finished.1
+
 pub returns : goal.returns
 returns c =
     IfOk-weaker c.pair_report.result _ _ (λ report all name p for same. all p for.second (record {

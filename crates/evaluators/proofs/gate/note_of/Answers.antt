@@ -1,6 +1,5 @@
-use Rattle.std.proofs.Common.{◌∙◌, ◌++◌, ◌∷◌, [], refl, ap, map, subst}
+use Rattle.std.proofs.Common.{◌∙◌, ◌++◌, ◌∷◌, [], refl, ap, map}
 use Rattle.adp_model.specs.PosedProblem.{PosedProblem}
-use Rattle.adp_model.specs.Demand.{IsDemandedCount}
 use Rattle.evaluators.specs.Runs.{moves_of, ended_of}
 use Rattle.evaluators.proofs.Listed.{map_one_more, take_whole}
 use Rattle.evaluators.proofs.gate.note_of.Goals as goal
@@ -28,7 +27,7 @@ returns c =
       algebra = ap (λ (p : PosedProblem). p.algebra) c.problem.view_is;
       seed_is = refl;
       answer = refl;
-      cells = subst (λ (p : PosedProblem). IsDemandedCount p c.len.result) c.requires.closed c.len.ensures.demanded;
+      cells = c.demanded_cells.ensures c.args.problem.now c.args.seed c.requires;
       wins = c.new.ensures ∙ c.in_ok-from_slice.ensures.items ∙ c.deref.ensures.value;
       moves = c.new-2.ensures ∙ inv.moves ∙ ap (map moves_of) whole;
       ended = c.new-3.ensures ∙ inv.ended ∙ ap (map ended_of) whole;

@@ -4,17 +4,17 @@ use Rattle.adp_model.specs.Demand.{IsDemandedCount}
 use Rattle.adp_model.specs.SplitArguments.{SplitArgument, AreRuleArguments}
 use Rattle.memo_model.specs.StepsMade.{steps_made}
 use Rattle.memo_model.specs.Machines.{IsUnderWay, IsMachine}
-use Rattle.memo_model.specs.StepBound.{remaining_bound}
-use Rattle.cell_core.specs.Working.{all_frames, work_left}
+use Rattle.memo_model.specs.StepBound.{steps_left, remaining_bound}
+use Rattle.cell_core.specs.Working.{frames_of, all_frames, work_left}
 use Rattle.cell_core.specs.FrameChanges.{standing, ChangesFrames, GainsWins}
 use Rattle.cell_core.specs.MachineViews.{MachineView, state_of, IsNotedIn, LoadsAsTold, looked_for, next_loads}
-use Rattle.cell_core.proofs.Stepped.{with_moves, sound_from, machine_from, machine_at_end}
+use Rattle.cell_core.proofs.Stepped.{sound_from, machine_from, machine_at_end}
 use Rattle.cell_core.proofs.machine.Machine.step.Goals as goal
 
 pub make_step-requires-clause-sound : goal.make_step-requires-clause-sound
 make_step-requires-clause-sound g c =
     sound_from g.M.Memo.meaning c.self.inside.problem.now c.args.pass.now c.in-Some.notes c.self.inside.work
-    c.self.invariant.0
+    (c.self.invariant.0 c.if-self.false).0
     (subst
     (λ notes.
     IsMachine g.M.Memo.meaning IsNotedIn (state_of c.self.inside.problem.now notes c.self.inside.work) c.args.pass.now)
@@ -27,7 +27,7 @@ make_step-requires-clause-memo g c = c.requires.memo ∙ sym (ap (λ (view : Mac
 
 pub make_step-requires-clause-notes : goal.make_step-requires-clause-notes
 make_step-requires-clause-notes g c =
-    subst (λ notes. IfSome notes (λ notes. notes.problem ≡ c.self.inside.problem.now)) c.in-Some.is c.self.invariant.2
+    subst (λ notes. IfSome notes (λ notes. notes.problem ≡ c.self.inside.problem.now)) c.in-Some.is c.self.invariant.1
 
 pub make_step-requires-clause-own : goal.make_step-requires-clause-own
 make_step-requires-clause-own g c = c.requires.own
@@ -130,15 +130,9 @@ returns-clause-known g c = c.make_step.ensures.known
 
 pub returns-clause-machine : goal.returns-clause-machine
 returns-clause-machine g c =
-    subst
-    (λ notes.
-    IsMachine g.M.Memo.meaning IsNotedIn
-    (state_of c.self.inside.problem.now notes
-    (with_moves c.make_step.new.work c.saturating_add-self-inside.result))
-    c.make_step.new.pass)
-    (sym c.forget.ensures)
-    (machine_at_end g.M.Memo.meaning c.self.inside.problem.now c.make_step.new.pass _ c.make_step.new.work
-    c.saturating_add-self-inside.result c.if-not-self.false c.make_step.ensures.sound c.make_step.ensures.under_way)
+    machine_at_end g.M.Memo.meaning c.self.inside.problem.now c.make_step.new.pass _ c.put_by.new.notes c.make_step.new.work
+    c.saturating_add-self-inside.result c.put_by.new.below.items c.put_by.ensures.gone c.put_by.ensures.frames
+    c.if-not-self.false c.make_step.ensures.sound c.make_step.ensures.under_way
 
 pub returns-clause-steps : goal.returns-clause-steps
 returns-clause-steps g c =
@@ -176,8 +170,14 @@ returns-clause-frames g c =
     (λ (view : MachineView _).
     ChangesFrames g.M.Memo.meaning view.machine.problem c.args.pass.now c.make_step.new.pass
     (standing view.machine.frames view.machine.opened view.orders)
-    (standing (all_frames c.make_step.new.work) c.make_step.new.work.opened c.make_step.new.orders)) c.self.view_is
-    c.make_step.ensures.frames
+    (standing (frames_of c.make_step.new.work.top c.put_by.new.below.items) c.make_step.new.work.opened
+    c.make_step.new.orders)) c.self.view_is
+    (subst
+    (λ below.
+    ChangesFrames g.M.Memo.meaning c.self.inside.problem.now c.args.pass.now c.make_step.new.pass
+    (standing (all_frames c.self.inside.work) c.self.inside.work.opened c.self.inside.orders)
+    (standing (frames_of c.make_step.new.work.top below) c.make_step.new.work.opened c.make_step.new.orders))
+    (sym c.put_by.ensures.frames) c.make_step.ensures.frames)
 
 pub returns-clause-turn : goal.returns-clause-turn
 returns-clause-turn g c = (c.if-not-self.false, refl)
@@ -195,6 +195,13 @@ returns-clause-bound g c = λ e.
     subst
     (λ (view : MachineView _). (m : ℕ) (arguments : List SplitArgument) → IsDemandedCount view.machine.problem m
     → AreRuleArguments view.machine.problem arguments
-    → work_left g.M.Memo.meaning c.self.inside.problem.now m arguments c.make_step.new.work c.make_step.new.pass
+    → steps_left g.M.Memo.meaning c.self.inside.problem.now m arguments c.make_step.new.work.ended
+    c.make_step.new.work.hand (frames_of c.make_step.new.work.top c.put_by.new.below.items) c.make_step.new.pass
     < remaining_bound g.M.Memo.meaning m arguments view.machine c.args.pass.now) c.self.view_is
-    c.make_step.ensures.lower
+    (subst
+    (λ below. (m : ℕ) (arguments : List SplitArgument) → IsDemandedCount c.self.inside.problem.now m
+    → AreRuleArguments c.self.inside.problem.now arguments
+    → steps_left g.M.Memo.meaning c.self.inside.problem.now m arguments c.make_step.new.work.ended
+    c.make_step.new.work.hand (frames_of c.make_step.new.work.top below) c.make_step.new.pass
+    < work_left g.M.Memo.meaning c.self.inside.problem.now m arguments c.self.inside.work c.args.pass.now)
+    (sym c.put_by.ensures.frames) c.make_step.ensures.lower)
