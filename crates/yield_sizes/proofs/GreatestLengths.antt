@@ -290,20 +290,6 @@ waits_first : (first place : Place) (places : List Place) → Contains (first �
 waits_first first place places (zero, inside, e) = inl e
 waits_first first place places (suc k, inside, e) = inr (k, omega arith, e)
 
--- a place may wait that need not
-pub rising_again : (grammar : Grammar) (place : Place) (waiting : List Place) (known : List (Option ℕ)) (risen : List Bool) → AreRising grammar waiting known risen → AreRising grammar (place ∷ waiting) known risen
-rising_again grammar place waiting known risen rising = record {
-  each = rising.each;
-  marked = rising.marked;
-  few = rising.few;
-  below = rising.below;
-  reached = rising.reached;
-  settled = λ rule alternative inside. elim (rising.settled rule alternative inside) [
-    | inl settled ↦ inl settled
-    | inr waits ↦ inr (contains_later place (record { rule = rule; alternative = alternative }) waiting waits)
-  ];
-}
-
 -- an alternative that is no greater waits no more
 pub rising_same : (grammar : Grammar) (place : Place) (waiting : List Place) (known : List (Option ℕ)) (risen : List Bool) → AreRising grammar (place ∷ waiting) known risen → is_below (get_or known place.rule None) (alternative_greatest known (alternative_at grammar place.rule place.alternative)) ≡ false → AreRising grammar waiting known risen
 rising_same grammar place waiting known risen rising is = record {

@@ -98,23 +98,6 @@ fn raise_at(grammar: &Grammar, place: Place, known: &mut [Option<u32>], risen: &
     }
 }
 
-/// Raises the greatest lengths of the rules at these places, the last one first, and marks the rules whose lengths rose:
-/// where rules name those behind them, each is looked at once those that it names have risen.
-fn raise_from_last(
-    grammar: &Grammar,
-    places: &[Place],
-    known: &mut [Option<u32>],
-    risen: &mut [bool],
-)
-    requires places { ArePlaces grammar.now places.now }
-    requires rising { AreRising grammar.now places.now known.old risen.old }
-    ensures { AreRising grammar.now places.now known.new risen.new }
-{
-    for place in places.iter().rev() {
-        raise_at(grammar, *place, known, risen);
-    }
-}
-
 /// Raises the greatest lengths of the rules at these places to what the alternatives there tell, and marks the rules
 /// whose lengths rose.
 fn raise(grammar: &Grammar, places: &[Place], known: &mut [Option<u32>], risen: &mut [bool])
@@ -159,10 +142,8 @@ fn raise_again(
     }
 }
 
-/// The greatest length of each rule, at most 4,000, or `None` where it is unbounded. From 0 up: all alternatives are looked
-/// at from the last to the first and once more from the first on, so that a grammar whose rules name those behind them,
-/// or those before, is done; then, where a length rises, the alternatives that name its rule are looked at again, at most
-/// 4,001 times for each argument and each rule.
+/// The greatest length of each rule, at most 4,000, or `None` where it is unbounded. From 0 up: where a length rises, the
+/// alternatives that name its rule are looked at again, at most 4,001 times for each argument and each rule.
 pub fn greatest_lengths(alloc: Global, grammar: &Grammar) -> Result<Vec<Option<u32>>, AllocError>
     ensures { IfOk result (λ known. AreGreatestSizes grammar.now known.items) }
 {
@@ -171,7 +152,6 @@ pub fn greatest_lengths(alloc: Global, grammar: &Grammar) -> Result<Vec<Option<u
     let naming = naming_rows(alloc, grammar, &places, count)?;
     let mut known = vec![in alloc; Some(0); count]?;
     let mut risen = vec![in alloc; false; count]?;
-    raise_from_last(grammar, &places, &mut known, &mut risen);
     raise(grammar, &places, &mut known, &mut risen);
     while raise_again(grammar, &naming, &mut known, &mut risen) {}
     Ok(known)

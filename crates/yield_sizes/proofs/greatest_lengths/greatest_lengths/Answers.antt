@@ -4,8 +4,8 @@ use Rattle.yield_sizes.specs.KnownGreatest.{AreRising}
 use Rattle.yield_sizes.proofs.GreatestLengths.{rising_start}
 use Rattle.yield_sizes.proofs.greatest_lengths.greatest_lengths.Goals as goal
 
-pub raise_from_last-requires-clause-rising : goal.raise_from_last-requires-clause-rising
-raise_from_last-requires-clause-rising c =
+pub raise-requires-clause-rising : goal.raise-requires-clause-rising
+raise-requires-clause-rising c =
     let grammar = c.args.grammar.now in
     let count = length c.as_slice-count.result.now in
     let places = c.in_ok-places.places.items in

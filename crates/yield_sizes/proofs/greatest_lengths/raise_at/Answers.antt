@@ -1,11 +1,26 @@
-use Rattle.std.proofs.Common.{◌≡◌, ℕ, ◌<◌, Bool, true, Option, None, List, ◌∷◌, length, get_or, set, sym, ap, subst, ◌∙◌}
+use Rattle.std.proofs.Common.{◌≡◌, ℕ, ◌<◌, inl, inr, Bool, true, Option, None, List, ◌∷◌, length, get_or, set, sym, ap, subst, ◌∙◌}
 use Rattle.adp_model.specs.declared.grammar.Grammar.{Grammar}
 use Rattle.adp_model.specs.Parts.{alternative_at}
 use Rattle.yield_sizes.specs.declared.places.Place.{Place}
 use Rattle.yield_sizes.specs.KnownGreatest.{AreRising, alternative_greatest, is_below, rise_left}
 use Rattle.yield_sizes.proofs.LeastLengths.{in_range}
-use Rattle.yield_sizes.proofs.GreatestLengths.{more_left, rising_again, rising_more, rising_same, risen_more}
+use Rattle.yield_sizes.proofs.Searching.{contains_later}
+use Rattle.yield_sizes.proofs.GreatestLengths.{more_left, rising_more, rising_same, risen_more}
 use Rattle.yield_sizes.proofs.greatest_lengths.raise_at.Goals as goal
+
+-- a place may wait that need not
+rising_again : (grammar : Grammar) (place : Place) (waiting : List Place) (known : List (Option ℕ)) (risen : List Bool) → AreRising grammar waiting known risen → AreRising grammar (place ∷ waiting) known risen
+rising_again grammar place waiting known risen rising = record {
+  each = rising.each;
+  marked = rising.marked;
+  few = rising.few;
+  below = rising.below;
+  reached = rising.reached;
+  settled = λ rule alternative inside. elim (rising.settled rule alternative inside) [
+    | inl settled ↦ inl settled
+    | inr waits ↦ inr (contains_later place (record { rule = rule; alternative = alternative }) waiting waits)
+  ];
+}
 
 pub loop-alternative-smaller : goal.loop-alternative-smaller
 loop-alternative-smaller c =
