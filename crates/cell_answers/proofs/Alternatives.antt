@@ -41,26 +41,33 @@ TokensKeepBound p =
     → nat_abs (token_value p.grammar token (letters_between p.word from to)) ≤ number
 
 module _ (p : PosedProblem) (admissible : IsAdmissible p) (bounded : TokensKeepBound p) (rule alternative : ℕ) where
-  token_low : (token : Arg) (from to : ℕ) → Contains (arguments_of p.grammar rule alternative) token → IsSpan p.word from to → Matches p.grammar token (letters_between p.word from to)
+  token_low : (token : Arg) (from to : ℕ) → Contains (arguments_of p.grammar rule alternative) token
+      → IsSpan p.word from to → Matches p.grammar token (letters_between p.word from to)
       → nat_abs (token_value p.grammar token (letters_between p.word from to)) ≤ greatest_score
   token_low token from to stands span matches =
       let limits = admissible.limits in
-      let low = bounded admissible.least admissible.greatest admissible.ranks admissible.checked limits.letters limits.scores.0 limits.scores.1 rule alternative token from to stands span matches in
+      let low = bounded admissible.least admissible.greatest admissible.ranks admissible.checked limits.letters
+      limits.scores.0 limits.scores.1 rule alternative token from to stands span matches in
       omega (arith, low, limits.scores.2)
 
   -- what tokens are worth keeps the greatest score
-  pub tokens_low : (token : Arg) (from to : ℕ) → Contains (arguments_of p.grammar rule alternative) token → FitsSpan p (on_span token from to) → nat_abs (token_value p.grammar token (letters_between p.word from to)) ≤ greatest_score
+  pub tokens_low : (token : Arg) (from to : ℕ) → Contains (arguments_of p.grammar rule alternative) token
+      → FitsSpan p (on_span token from to) → nat_abs (token_value p.grammar token (letters_between p.word from to))
+      ≤ greatest_score
   tokens_low (Rule other) from to stands fits = omega arith
   tokens_low (Literal text) from to stands fits = token_low (Literal text) from to stands fits.0 fits.1
   tokens_low (Letter class) from to stands fits = token_low (Letter class) from to stands fits.0 fits.1
   tokens_low (Run class low high) from to stands fits = token_low (Run class low high) from to stands fits.0 fits.1
 
-  pub weighted : (factors : List ℤ) → AllByRecursion (IsKnown p.grammar) (arguments_of p.grammar rule alternative) → length (arguments_of p.grammar rule alternative) ≤ 4
+  pub weighted : (factors : List ℤ) → AllByRecursion (IsKnown p.grammar) (arguments_of p.grammar rule alternative)
+      → length (arguments_of p.grammar rule alternative) ≤ 4
       → length factors ≡ length (arguments_of p.grammar rule alternative) → AreWeighted p (arguments_of p.grammar rule alternative) factors
   weighted factors known few each = record { known = known; few = few; factors_each = each; tokens_low = tokens_low }
 
-module _ (laws : AreTermLaws) (p : PosedProblem) (admissible : IsAdmissible p) (cell : Cell) (alternative : ℕ) (constant : ℤ) (factors : List ℤ) (is : IsScoredBy p cell.rule alternative constant factors)
-    (span : IsSpan p.word cell.from cell.to) (in_rules : cell.rule < length p.grammar.rules) (in_range : alternative < length (alternatives_of p.grammar cell.rule)) where
+module _ (laws : AreTermLaws) (p : PosedProblem) (admissible : IsAdmissible p) (cell : Cell) (alternative : ℕ)
+    (constant : ℤ) (factors : List ℤ) (is : IsScoredBy p cell.rule alternative constant factors)
+    (span : IsSpan p.word cell.from cell.to) (in_rules : cell.rule < length p.grammar.rules)
+    (in_range : alternative < length (alternatives_of p.grammar cell.rule)) where
   -- the arguments of an alternative on a cell whose demanded children have entries
   pub alternative_laid : TokensKeepBound p → (table : Table ℤ) → AllByRecursion (IsKnown p.grammar) (arguments_of p.grammar cell.rule alternative)
       → length (arguments_of p.grammar cell.rule alternative) ≤ 4 → AllowsLength (alternative_at p.grammar cell.rule alternative) (cell.to - cell.from)
@@ -85,7 +92,9 @@ module _ (laws : AreTermLaws) (p : PosedProblem) (admissible : IsAdmissible p) (
       omega arith
 
 -- the score of a split keeps the greatest score
-pub score_low : AreTermLaws → (p : PosedProblem) → IsAdmissible p → AreWithin p → (cell : Cell) (count : ℕ) (number : ℤ) → IsSpan p.word cell.from cell.to → cell.rule < length p.grammar.rules → count ≤ length (alternatives_of p.grammar cell.rule)
+pub score_low : AreTermLaws → (p : PosedProblem) → IsAdmissible p → AreWithin p → (cell : Cell) (count : ℕ) (number : ℤ)
+    → IsSpan p.word cell.from cell.to → cell.rule < length p.grammar.rules
+    → count ≤ length (alternatives_of p.grammar cell.rule)
     → HasScoreBefore p cell count number → nat_abs number ≤ greatest_score
 score_low laws p admissible within cell count number span in_rules l (alternative, before, (allowed, (values, have, is))) =
     let low = value_low laws p admissible cell alternative values span in_rules (omega (arith, before, l))

@@ -31,7 +31,9 @@ module _ (p : PosedProblem) (bellman : Bellman p) (cell : Cell) (span : IsSpan p
   abbrev Scored : ℤ → List ℕ → Type 0
   Scored score cuts = IsScoredSplit p (HasBestScore p) cell score (record { alt = alternative; cuts = cuts })
 
-  pub first_split : Scored best given.0 × ((score : ℤ) (other : Choice) → IsScoredSplit p (HasBestScore p) cell score other → SplitPrecedes goal score other best (record { alt = alternative; cuts = given.0 }) → ⊥)
+  pub first_split : Scored best given.0
+      × ((score : ℤ) (other : Choice) → IsScoredSplit p (HasBestScore p) cell score other
+      → SplitPrecedes goal score other best (record { alt = alternative; cuts = given.0 }) → ⊥)
   first_split =
       let it = bellman.only cell (Best best (record { alt = alternative; cuts = given.0 })) span given.1 in
       (it.1, λ score other scored precedes. it.2 score other tt scored precedes)
@@ -66,9 +68,11 @@ module _ (p : PosedProblem) (bellman : Bellman p) (cell : Cell) (span : IsSpan p
   pub answer_by_cuts : (cuts : List ℕ) → Scored best cuts → ((others : List ℕ) → Scored best others → LexicographicallyLess others cuts → ⊥)
       → IsAnswer p cell (Best best (record { alt = alternative; cuts = cuts }))
   answer_by_cuts cuts scored first =
-      bellman.first cell (Best best (record { alt = alternative; cuts = cuts })) span (tt, scored, λ score other counts has precedes. none score other has precedes)
+      bellman.first cell (Best best (record { alt = alternative; cuts = cuts })) span
+      (tt, scored, λ score other counts has precedes. none score other has precedes)
     where
-      none : (score : ℤ) (other : Choice) → IsScoredSplit p (HasBestScore p) cell score other → SplitPrecedes goal score other best (record { alt = alternative; cuts = cuts }) → ⊥
+      none : (score : ℤ) (other : Choice) → IsScoredSplit p (HasBestScore p) cell score other
+          → SplitPrecedes goal score other best (record { alt = alternative; cuts = cuts }) → ⊥
       none score other has (inl better) = first_split.1 score other has (inl better)
       none score other has (inr (same, inl earlier)) = first_split.1 score other has (inr (same, inl earlier))
       none score other has (inr (same, inr (alt_is, less))) =

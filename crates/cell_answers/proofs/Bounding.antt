@@ -1,5 +1,6 @@
 -- How great the values of laid arguments and their totals become.
-use Rattle.std.proofs.Common.{◌≡◌, ℕ, zero, suc, ◌+◌, ◌-◌, ◌*◌, ◌<◌, ◌≤◌, ◌⊎◌, ℤ, ◌+ℤ◌, nat_abs, Option, Some, None, List, [], ◌∷◌, length, map, sum, slice_index, refl, sym, ap, subst, ◌∙◌, inl, inr, arith}
+use Rattle.std.proofs.Common.{◌≡◌, ℕ, zero, suc, ◌+◌, ◌-◌, ◌*◌, ◌<◌, ◌≤◌, ◌⊎◌, ℤ, ◌+ℤ◌, nat_abs, Option, Some, None}
+use Rattle.std.proofs.Common.{List, [], ◌∷◌, length, map, sum, slice_index, refl, sym, ap, subst, ◌∙◌, inl, inr, arith}
 use Rattle.std.specs.Prelude.{◌==◌}
 use Rattle.std.proofs.lemmas.Bool.{cases_Bool}
 use Rattle.std.proofs.lemmas.Int.{ints}
@@ -22,7 +23,8 @@ use Rattle.adp_model.specs.Scores.{score_of}
 use Rattle.adp_model.specs.Bellman.{HasBestScore}
 use Rattle.adp_model.specs.Checks.{IsChecked}
 use Rattle.adp_model.specs.ProblemFields.{most_letters, greatest_score, IsAdmissible}
-use Rattle.adp_model.specs.Bounds.{IsInRange, AreInRange, greatest_weight, argument_bounds, IsGreatest, IsMagnitude, AreScoreBounds, IsRuleBound, IsTokenBound, IsScoreBound}
+use Rattle.adp_model.specs.Bounds.{IsInRange, AreInRange, greatest_weight, argument_bounds, IsGreatest, IsMagnitude}
+use Rattle.adp_model.specs.Bounds.{AreScoreBounds, IsRuleBound, IsTokenBound, IsScoreBound}
 use Rattle.viable_splits.specs.Placing.{on_span}
 use Rattle.split_lines.specs.Kept.{IsScoredBy}
 use Rattle.cell_answers.specs.Totals.{HaveValues, IsWithinBound, AreLow}
@@ -43,7 +45,9 @@ weight_low (entry ∷ entries) letter weight e =
           omega (arith, weight_low entries letter weight found)
     ]
 
-total_more_low : (entries : List (ℕ × ℤ)) (letter : ℕ) (letters : List ℕ) (found : Option ℤ) → weight_of entries letter ≡ found → nat_abs (total_weight entries letters) ≤ greatest_weight entries * length letters
+total_more_low : (entries : List (ℕ × ℤ)) (letter : ℕ) (letters : List ℕ) (found : Option ℤ)
+    → weight_of entries letter ≡ found → nat_abs (total_weight entries letters) ≤ greatest_weight entries
+    * length letters
     → nat_abs (total_weight entries (letter ∷ letters)) ≤ greatest_weight entries * length (letter ∷ letters)
 total_more_low entries letter letters None e low =
     let is : total_weight entries (letter ∷ letters) ≡ total_weight entries letters = rw e (omega (arith, ints)) in
@@ -71,9 +75,12 @@ module _ (p : PosedProblem) (bound : ℕ → ℕ → ℕ) (are : AreScoreBounds 
     in_range : IsInRange p.grammar argument (to - from)
     number : ℕ
     low : nat_abs value ≤ number
-    first : (arguments : List Arg) (lengths : List ℕ) → argument_bounds p.grammar bound (argument ∷ arguments) ((to - from) ∷ lengths) ≡ number ∷ argument_bounds p.grammar bound arguments lengths
+    first : (arguments : List Arg) (lengths : List ℕ)
+        → argument_bounds p.grammar bound (argument ∷ arguments) ((to - from) ∷ lengths) ≡ number
+        ∷ argument_bounds p.grammar bound arguments lengths
 
-  bounded : (argument : Arg) (from to : ℕ) (value : ℤ) → FitsSpan p (on_span argument from to) → IsValue p (IsWithinBound p) (on_span argument from to) value → IsBounded argument from to value
+  bounded : (argument : Arg) (from to : ℕ) (value : ℤ) → FitsSpan p (on_span argument from to)
+      → IsValue p (IsWithinBound p) (on_span argument from to) value → IsBounded argument from to value
   bounded (Rule rule) from to value fits is = record {
     in_range = fits.1;
     number = bound rule (to - from);
@@ -91,7 +98,10 @@ module _ (p : PosedProblem) (bound : ℕ → ℕ → ℕ) (are : AreScoreBounds 
       record {
         in_range = sym e ∙ fits.1.0;
         number = greatest_weight (letters_of p.grammar class) * (to - from);
-        low = subst (λ n. nat_abs value ≤ greatest_weight (letters_of p.grammar class) * n) e (subst (λ v. nat_abs v ≤ greatest_weight (letters_of p.grammar class) * length (letters_between p.word from to)) (sym is) (total_low (letters_of p.grammar class) (letters_between p.word from to)));
+        low = subst (λ n. nat_abs value ≤ greatest_weight (letters_of p.grammar class) * n) e
+            (subst (λ v. nat_abs v ≤ greatest_weight (letters_of p.grammar class)
+            * length (letters_between p.word from to)) (sym is)
+            (total_low (letters_of p.grammar class) (letters_between p.word from to)));
         first = λ arguments lengths. refl;
       }
   bounded (Run class low high) from to value fits is =
@@ -100,7 +110,10 @@ module _ (p : PosedProblem) (bound : ℕ → ℕ → ℕ) (are : AreScoreBounds 
       record {
         in_range = subst R e (fits.1.0, fits.1.1);
         number = greatest_weight (letters_of p.grammar class) * (to - from);
-        low = subst (λ n. nat_abs value ≤ greatest_weight (letters_of p.grammar class) * n) e (subst (λ v. nat_abs v ≤ greatest_weight (letters_of p.grammar class) * length (letters_between p.word from to)) (sym is) (total_low (letters_of p.grammar class) (letters_between p.word from to)));
+        low = subst (λ n. nat_abs value ≤ greatest_weight (letters_of p.grammar class) * n) e
+            (subst (λ v. nat_abs v ≤ greatest_weight (letters_of p.grammar class)
+            * length (letters_between p.word from to)) (sym is)
+            (total_low (letters_of p.grammar class) (letters_between p.word from to)));
         first = λ arguments lengths. refl;
       }
 
@@ -113,11 +126,14 @@ module _ (p : PosedProblem) (bound : ℕ → ℕ → ℕ) (are : AreScoreBounds 
     each : length (map nat_abs values) ≡ length (argument_bounds p.grammar bound arguments lengths)
     low : (place : ℕ) → slice_index (map nat_abs values) place ≤ slice_index (argument_bounds p.grammar bound arguments lengths) place
 
-  more_low : (number more : ℕ) (values bounds : List ℕ) → number ≤ more → ((place : ℕ) → slice_index values place ≤ slice_index bounds place) → (place : ℕ) → slice_index (number ∷ values) place ≤ slice_index (more ∷ bounds) place
+  more_low : (number more : ℕ) (values bounds : List ℕ) → number ≤ more
+      → ((place : ℕ) → slice_index values place ≤ slice_index bounds place) → (place : ℕ)
+      → slice_index (number ∷ values) place ≤ slice_index (more ∷ bounds) place
   more_low number more values bounds first others zero = first
   more_low number more values bounds first others (suc place) = others place
 
-  lengths_of : (arguments : List Arg) (from to : ℕ) (values : List ℤ) → HaveValues p (IsWithinBound p) arguments from to values → HasLengths arguments from to values
+  lengths_of : (arguments : List Arg) (from to : ℕ) (values : List ℤ)
+      → HaveValues p (IsWithinBound p) arguments from to values → HasLengths arguments from to values
   lengths_of [] from to [] have = record { lengths = []; in_order = omega arith; fit = tt; sum_is = omega arith; each = refl; low = λ place. omega arith }
   lengths_of [] from to (value ∷ values) have = absurd have
   lengths_of (argument ∷ arguments) from to [] have = absurd have
@@ -131,7 +147,9 @@ module _ (p : PosedProblem) (bound : ℕ → ℕ → ℕ) (are : AreScoreBounds 
         fit = (first.in_range, others.fit);
         sum_is = omega (arith, have.1.0.in_order, others.in_order, others.sum_is, sum_by-cons (λ (n : ℕ). n) (end - from) others.lengths);
         each = omega (arith, others.each, ap length (first.first arguments others.lengths));
-        low = subst (λ bounds. (place : ℕ) → slice_index (map nat_abs (value ∷ values)) place ≤ slice_index bounds place) (sym (first.first arguments others.lengths))
+        low =
+            subst (λ bounds. (place : ℕ) → slice_index (map nat_abs (value ∷ values)) place ≤ slice_index bounds place)
+            (sym (first.first arguments others.lengths))
             (more_low (nat_abs value) first.number (map nat_abs values) (argument_bounds p.grammar bound arguments others.lengths) first.low others.low);
       }
 
@@ -141,13 +159,18 @@ within_greatest Holds number other (inr (nothing, none)) it = absurd (none other
 
 -- what is so of all terms
 pub record AreTermLaws : Type 0 where
-  pub rises : (term : Term) (numbers others : List ℕ) → length numbers ≡ length others → ((place : ℕ) → slice_index numbers place ≤ slice_index others place) → magnitude term numbers ≤ magnitude term others
+  pub rises : (term : Term) (numbers others : List ℕ) → length numbers ≡ length others
+      → ((place : ℕ) → slice_index numbers place ≤ slice_index others place)
+      → magnitude term numbers ≤ magnitude term others
   pub within : (term : Term) (values : List ℤ) → nat_abs (term_value term values) ≤ magnitude term (map nat_abs values)
 
 -- at all values of its arguments on a cell the term of an alternative is within the word's score bound
-pub magnitude_within : AreTermLaws → (p : PosedProblem) → (cell : Cell) (alternative : ℕ) (values : List ℤ) (number : ℕ) → IsScoreBound p.grammar p.algebra (length p.word) number → IsSpan p.word cell.from cell.to → cell.rule < length p.grammar.rules
+pub magnitude_within : AreTermLaws → (p : PosedProblem) → (cell : Cell) (alternative : ℕ) (values : List ℤ) (number : ℕ)
+    → IsScoreBound p.grammar p.algebra (length p.word) number → IsSpan p.word cell.from cell.to
+    → cell.rule < length p.grammar.rules
     → alternative < length (alternatives_of p.grammar cell.rule)
-    → HaveValues p (IsWithinBound p) (arguments_of p.grammar cell.rule alternative) cell.from cell.to values → magnitude (term_of p cell.rule alternative) (map nat_abs values) ≤ number
+    → HaveValues p (IsWithinBound p) (arguments_of p.grammar cell.rule alternative) cell.from cell.to values
+    → magnitude (term_of p cell.rule alternative) (map nat_abs values) ≤ number
 magnitude_within laws p cell alternative values number scores span known in_range have =
     let bound = scores.0 in
     let are = scores.1 in
@@ -159,30 +182,38 @@ magnitude_within laws p cell alternative values number scores span known in_rang
     let low = laws.rises term (map nat_abs values) bounds it.each it.low in
     let of_rule = within_greatest (IsMagnitude p.grammar p.algebra bound cell.rule len) (bound cell.rule len) (magnitude term bounds) (are cell.rule len)
     (alternative, it.lengths, record { in_range = in_range; fit = it.fit; sum_is = it.sum_is }, refl) in
-    let of_word = within_greatest (λ other. IsRuleBound p.grammar bound (length p.word) other ⊎ IsTokenBound p.grammar (length p.word) other) number (bound cell.rule len) scores.2
+    let of_word = within_greatest (λ other. IsRuleBound p.grammar bound (length p.word) other
+    ⊎ IsTokenBound p.grammar (length p.word) other) number (bound cell.rule len) scores.2
     (inl (cell.rule, len, known, omega (arith, span.in_word), refl)) in
     omega (arith, low, of_rule, of_word)
 
 -- and so it is low
-pub magnitude_low : AreTermLaws → (p : PosedProblem) → IsAdmissible p → (cell : Cell) (alternative : ℕ) (values : List ℤ) → IsSpan p.word cell.from cell.to → cell.rule < length p.grammar.rules
+pub magnitude_low : AreTermLaws → (p : PosedProblem) → IsAdmissible p
+    → (cell : Cell) (alternative : ℕ) (values : List ℤ) → IsSpan p.word cell.from cell.to
+    → cell.rule < length p.grammar.rules
     → alternative < length (alternatives_of p.grammar cell.rule)
-    → HaveValues p (IsWithinBound p) (arguments_of p.grammar cell.rule alternative) cell.from cell.to values → magnitude (term_of p cell.rule alternative) (map nat_abs values) ≤ greatest_score
+    → HaveValues p (IsWithinBound p) (arguments_of p.grammar cell.rule alternative) cell.from cell.to values
+    → magnitude (term_of p cell.rule alternative) (map nat_abs values) ≤ greatest_score
 magnitude_low laws p admissible cell alternative values span known in_range have =
     let scores = admissible.limits.scores in
     let low = magnitude_within laws p cell alternative values scores.0 scores.1 span known in_range have in
     omega (arith, low, scores.2)
 
-pub value_low : AreTermLaws → (p : PosedProblem) → IsAdmissible p → (cell : Cell) (alternative : ℕ) (values : List ℤ) → IsSpan p.word cell.from cell.to → cell.rule < length p.grammar.rules
+pub value_low : AreTermLaws → (p : PosedProblem) → IsAdmissible p → (cell : Cell) (alternative : ℕ) (values : List ℤ)
+    → IsSpan p.word cell.from cell.to → cell.rule < length p.grammar.rules
     → alternative < length (alternatives_of p.grammar cell.rule)
-    → HaveValues p (IsWithinBound p) (arguments_of p.grammar cell.rule alternative) cell.from cell.to values → nat_abs (term_value (term_of p cell.rule alternative) values) ≤ greatest_score
+    → HaveValues p (IsWithinBound p) (arguments_of p.grammar cell.rule alternative) cell.from cell.to values
+    → nat_abs (term_value (term_of p cell.rule alternative) values) ≤ greatest_score
 value_low laws p admissible cell alternative values span known in_range have =
     let low = magnitude_low laws p admissible cell alternative values span known in_range have in
     let within = laws.within (term_of p cell.rule alternative) values in
     omega (arith, low, within)
 
 -- so is what scores it
-module _ (laws : AreTermLaws) (p : PosedProblem) (admissible : IsAdmissible p) (cell : Cell) (alternative : ℕ) (constant : ℤ) (factors : List ℤ) (scored : IsScoredBy p cell.rule alternative constant factors)
-    (span : IsSpan p.word cell.from cell.to) (known : cell.rule < length p.grammar.rules) (in_range : alternative < length (alternatives_of p.grammar cell.rule)) where
+module _ (laws : AreTermLaws) (p : PosedProblem) (admissible : IsAdmissible p) (cell : Cell) (alternative : ℕ)
+    (constant : ℤ) (factors : List ℤ) (scored : IsScoredBy p cell.rule alternative constant factors)
+    (span : IsSpan p.word cell.from cell.to) (known : cell.rule < length p.grammar.rules)
+    (in_range : alternative < length (alternatives_of p.grammar cell.rule)) where
   pub scored_low : (values : List ℤ) → HaveValues p (IsWithinBound p) (arguments_of p.grammar cell.rule alternative) cell.from cell.to values
       → nat_abs constant + weighted_total factors (map nat_abs values) ≤ greatest_score
   scored_low values have =
@@ -198,7 +229,11 @@ module _ (laws : AreTermLaws) (p : PosedProblem) (admissible : IsAdmissible p) (
 
 -- the scores of all trees are within their bounds
 abbrev pub AreBounded : PosedProblem → Type 0
-AreBounded p = (least : List ℕ) (greatest : List (Option ℕ)) (ranks : List ℕ) → IsChecked p.grammar p.algebra least greatest ranks → length p.word ≤ most_letters → (bound : ℕ → ℕ → ℕ) → AreScoreBounds p.grammar p.algebra bound → (cell : Cell) (tree : Tree) → Derives p cell tree → nat_abs (score_of p tree) ≤ bound cell.rule (cell.to - cell.from)
+AreBounded p =
+    (least : List ℕ) (greatest : List (Option ℕ)) (ranks : List ℕ) → IsChecked p.grammar p.algebra least greatest ranks
+    → length p.word ≤ most_letters → (bound : ℕ → ℕ → ℕ) → AreScoreBounds p.grammar p.algebra bound
+    → (cell : Cell) (tree : Tree) → Derives p cell tree
+    → nat_abs (score_of p tree) ≤ bound cell.rule (cell.to - cell.from)
 
 -- best scores are within their bounds
 pub best_within : (p : PosedProblem) → IsAdmissible p → AreBounded p → (cell : Cell) (score : ℤ) → HasBestScore p cell score → IsWithinBound p cell score

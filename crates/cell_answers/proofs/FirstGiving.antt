@@ -32,7 +32,11 @@ module _ (p : PosedProblem) (cell : Cell) (count : ℕ) where
   first_one score none here = record {
     before = omega arith;
     gives = here.0;
-    greatest = λ other number l has. elim (last_or_before (λ n. Unit {0}) other l) [ inl before ↦ absurd (none other number before has) | inr same ↦ here.1 number (at_count other number same has) ];
+    greatest = λ other number l has. elim (last_or_before (λ n. Unit {0}) other l) [
+      | inl before ↦ absurd (none other number before has)
+      | inr same ↦ here.1 number
+          (at_count other number same has)
+    ];
     first = λ other l has. none other score l has;
   }
 
@@ -41,7 +45,11 @@ module _ (p : PosedProblem) (cell : Cell) (count : ℕ) where
     kept_without none = record {
       before = omega (arith, is.before);
       gives = is.gives;
-      greatest = λ other number l has. elim (last_or_before (λ n. Unit {0}) other l) [ inl before ↦ is.greatest other number before has | inr same ↦ absurd (none number (at_count other number same has)) ];
+      greatest = λ other number l has. elim (last_or_before (λ n. Unit {0}) other l) [
+        | inl before ↦ is.greatest other number before has
+        | inr
+            same ↦ absurd (none number (at_count other number same has))
+      ];
       first = is.first;
     }
 
@@ -68,19 +76,23 @@ module _ (p : PosedProblem) (cell : Cell) (count : ℕ) where
     }
 
 -- alternatives that give nothing may be passed over
-pub passed_over : (p : PosedProblem) (cell : Cell) (count next : ℕ) (best : Option declared.Best) → count ≤ next → ((other : ℕ) → count ≤ other → other < next → IsGreatestOf (HasTurnedScore p cell other) None)
+pub passed_over : (p : PosedProblem) (cell : Cell) (count next : ℕ) (best : Option declared.Best) → count ≤ next
+    → ((other : ℕ) → count ≤ other → other < next → IsGreatestOf (HasTurnedScore p cell other) None)
     → IsBestOfFirst p cell count best → IsBestOfFirst p cell next best
 passed_over p cell count next None ahead none given = λ other number l has.
     elim (cases_lt other count) [ inl early ↦ given other number early has | inr late ↦ none other late l number has ]
 passed_over p cell count next (Some best) ahead none given = record {
   before = omega (arith, given.before);
   gives = given.gives;
-  greatest = λ other number l has. elim (cases_lt other count) [ inl early ↦ given.greatest other number early has | inr late ↦ absurd (none other late l number has) ];
+  greatest = λ other number l has. elim (cases_lt other count)
+      [ inl early ↦ given.greatest other number early has | inr late ↦ absurd (none other late l number has) ];
   first = given.first;
 }
 
 -- nothing more changes nothing
-pub best_kept : (p : PosedProblem) (cell : Cell) (count : ℕ) (best : Option declared.Best) → IsBestOfFirst p cell count best → IsGreatestOf (HasTurnedScore p cell count) None → IsBestOfFirst p cell (count + 1) best
+pub best_kept : (p : PosedProblem) (cell : Cell) (count : ℕ) (best : Option declared.Best)
+    → IsBestOfFirst p cell count best → IsGreatestOf (HasTurnedScore p cell count) None
+    → IsBestOfFirst p cell (count + 1) best
 best_kept p cell count None none here = none_more p cell count none here
 best_kept p cell count (Some best) is none = kept_without p cell count best.score best.alt is none
 
@@ -110,7 +122,10 @@ module _ (p : PosedProblem) (bellman : Bellman p) (cell : Cell) (span : IsSpan p
         let has = scored_in p bellman cell span some few best choice first.1 in
         let low = is.greatest choice.alt (turned goal best) first.1.viable.in_range has in
         let l : turned goal best ≤ℤ turned goal (turned goal score) = subst (λ it. turned goal best ≤ℤ it) (sym (turned_twice goal score)) low in
-        let same : best ≡ turned goal score = better_or_same goal best (turned goal score) (not_better goal best (turned goal score) l) (λ better. first.2 (turned goal score) (record { alt = alternative; cuts = split.0 }) tt split.1 (inl better)) in
+        let same : best ≡ turned goal score = better_or_same goal best (turned goal score)
+        (not_better goal best (turned goal score) l)
+        (λ better. first.2 (turned goal score) (record { alt = alternative; cuts = split.0 }) tt split.1
+        (inl better)) in
         let number : turned goal best ≡ score = ap (turned goal) same ∙ turned_twice goal score in
         let alt_is : choice.alt ≡ alternative = elim (cases_lt choice.alt alternative) [
           | inl earlier ↦ absurd (is.first choice.alt earlier (subst (HasTurnedScore p cell choice.alt) number has))
@@ -134,7 +149,8 @@ module _ (p : PosedProblem) (bellman : Bellman p) (cell : Cell) (span : IsSpan p
   sought = turned (algebra_of p).goal best
 
   -- no alternative gives more than it
-  not_more : (alternative : ℕ) (number : ℤ) → alternative < length (alternatives_of p.grammar cell.rule) → HasTurnedScore p cell alternative number → number ≤ℤ sought
+  not_more : (alternative : ℕ) (number : ℤ) → alternative < length (alternatives_of p.grammar cell.rule)
+      → HasTurnedScore p cell alternative number → number ≤ℤ sought
   not_more alternative number in_range has =
       let split = turned_in p bellman cell span some few number alternative in_range has in
       let first = bellman.only cell (Best best has_best.0) span has_best.1 in

@@ -31,7 +31,8 @@ all_back P [] ys all = all
 all_back P (x ∷ xs) ys all = all_back P xs ys all.1
 
 -- of weighted arguments those in front and those behind are weighted
-pub weighted_front : (p : PosedProblem) (front back : List Arg) (factors others : List ℤ) → length factors ≡ length front → AreWeighted p (front ++ back) (factors ++ others) → AreWeighted p front factors
+pub weighted_front : (p : PosedProblem) (front back : List Arg) (factors others : List ℤ)
+    → length factors ≡ length front → AreWeighted p (front ++ back) (factors ++ others) → AreWeighted p front factors
 weighted_front p front back factors others each it = record {
   known = all_front (IsKnown p.grammar) front back it.known;
   few = omega (arith, it.few, length-append front back);
@@ -39,7 +40,8 @@ weighted_front p front back factors others each it = record {
   tokens_low = λ token from to stands. it.tokens_low token from to (Contains-append_left front back token stands);
 }
 
-pub weighted_back : (p : PosedProblem) (front back : List Arg) (factors others : List ℤ) → length factors ≡ length front → AreWeighted p (front ++ back) (factors ++ others) → AreWeighted p back others
+pub weighted_back : (p : PosedProblem) (front back : List Arg) (factors others : List ℤ) → length factors ≡ length front
+    → AreWeighted p (front ++ back) (factors ++ others) → AreWeighted p back others
 weighted_back p front back factors others each it = record {
   known = all_back (IsKnown p.grammar) front back it.known;
   few = omega (arith, it.few, length-append front back);
@@ -48,7 +50,18 @@ weighted_back p front back factors others each it = record {
 }
 
 module _ (p : PosedProblem) (line : OpenedLine) (opened : IsOpened p line) where
-  open line use {arguments.{first.{now as first}, first_factor, middle.{now as middle}, middle_factors.{now as middle_factors}, second.{now as second}, second_factor}, boundary.{letters, last, positions.{now as positions}}, from}
+  open line use {
+    arguments.{
+      first.{now as first},
+      first_factor,
+      middle.{now as middle},
+      middle_factors.{now as middle_factors},
+      second.{now as second},
+      second_factor,
+    },
+    boundary.{letters, last, positions.{now as positions}},
+    from,
+  }
 
   middle_and_second : AreWeighted p (middle ++ second ∷ []) (middle_factors ++ second_factor ∷ [])
   middle_and_second = weighted_rest p first (middle ++ second ∷ []) first_factor (middle_factors ++ second_factor ∷ []) opened.weighted
@@ -70,10 +83,14 @@ module _ (p : PosedProblem) (line : OpenedLine) (opened : IsOpened p line) where
   pub all_through : (count : ℕ) (greatest : Option ℤ) → length positions ≤ count → count ≤ length positions → IsGreatestOf (HasBefore Through count) greatest
       → IsGreatestOf (HasTotal p (HasBestScore p) (first ∷ (middle ++ second ∷ [])) (first_factor ∷ (middle_factors ++ second_factor ∷ [])) from last) greatest
   all_through count greatest l m before =
-      greatest_same (HasBefore Through count) (HasTotal p (HasBestScore p) (first ∷ (middle ++ second ∷ [])) (first_factor ∷ (middle_factors ++ second_factor ∷ [])) from last) greatest
-      (λ total h. through_total p (HasBestScore p) first middle second first_factor middle_factors second_factor from letters last positions opened.boundary opened.middle_each (get_or positions h.0 0) total (Contains-get_or positions h.0 0 (omega (arith, h.1, m))) h.2)
+      greatest_same (HasBefore Through count) (HasTotal p (HasBestScore p) (first ∷ (middle ++ second ∷ []))
+      (first_factor ∷ (middle_factors ++ second_factor ∷ [])) from last) greatest
+      (λ total h. through_total p (HasBestScore p) first middle second first_factor middle_factors second_factor from
+      letters last positions opened.boundary opened.middle_each (get_or positions h.0 0) total
+      (Contains-get_or positions h.0 0 (omega (arith, h.1, m))) h.2)
       (λ total has.
-      let it = total_through p (HasBestScore p) first middle second first_factor middle_factors second_factor from letters last positions opened.boundary opened.middle_each total has in
+      let it = total_through p (HasBestScore p) first middle second first_factor middle_factors second_factor from
+      letters last positions opened.boundary opened.middle_each total has in
       let at : get_or positions it.1.0 0 ≡ it.0 = get_or_default positions it.1.0 0 it.0 it.1.1 ∙ it.1.2 in
       (it.1.0, omega (arith, it.1.1, l), subst (λ position. HasLineTotal p line position total) (sym at) it.2))
       before
@@ -100,22 +117,33 @@ module _ (p : PosedProblem) (line : OpenedLine) (opened : IsOpened p line) where
         (low_rest p first (middle ++ second ∷ []) first_factor (middle_factors ++ second_factor ∷ []) from position last opened.low first_fits)
         (last, second_fits, refl)
 
-    module _ (sound : AreSound p) (value between other : ℤ) (is_value : IsValue p (HasBestScore p) (on_span first from position) value) (has_between : HasTotal p (HasBestScore p) middle middle_factors position (position + letters) between)
+    module _ (sound : AreSound p) (value between other : ℤ)
+        (is_value : IsValue p (HasBestScore p) (on_span first from position) value)
+        (has_between : HasTotal p (HasBestScore p) middle middle_factors position (position + letters) between)
         (is_other : IsValue p (HasBestScore p) (on_span second (position + letters) last) other) where
       pub through_parts_low : nat_abs (first_factor *ℤ value) + nat_abs between + nat_abs (second_factor *ℤ other) ≤ greatest_score
       through_parts_low =
-          through_low p (HasBestScore p) first middle second first_factor middle_factors second_factor from letters last positions opened.boundary opened.middle_each sound.within opened.low position (((first_factor *ℤ value) +ℤ between) +ℤ (second_factor *ℤ other)) stands
+          through_low p (HasBestScore p) first middle second first_factor middle_factors second_factor from letters last
+          positions opened.boundary opened.middle_each sound.within opened.low position
+          (((first_factor *ℤ value) +ℤ between) +ℤ (second_factor *ℤ other)) stands
           (record { value = value; is_value = is_value; between = between; has_between = has_between; other = other; is_other = is_other; is = refl })
 
       pub greatest_here : IsGreatestOf (HasLineTotal p line position) (Some (((first_factor *ℤ value) +ℤ between) +ℤ (second_factor *ℤ other)))
       greatest_here =
-          greatest_through p (HasBestScore p) first middle second first_factor middle_factors second_factor from letters last positions opened.boundary opened.middle_each sound.one opened.middle_fixed position value between other is_value has_between is_other
+          greatest_through p (HasBestScore p) first middle second first_factor middle_factors second_factor from letters
+          last positions opened.boundary opened.middle_each sound.one opened.middle_fixed position value between
+          other is_value has_between is_other
 
       pub one_here : (number : ℤ) → HasLineTotal p line position number → number ≡ (((first_factor *ℤ value) +ℤ between) +ℤ (second_factor *ℤ other))
-      one_here = one_through p (HasBestScore p) first middle second first_factor middle_factors second_factor from letters last positions opened.boundary opened.middle_each sound.one opened.middle_fixed position value between other is_value has_between is_other
+      one_here =
+          one_through p (HasBestScore p) first middle second first_factor middle_factors second_factor from letters last
+          positions opened.boundary opened.middle_each sound.one opened.middle_fixed position value between other
+          is_value has_between is_other
 
 -- sums of numbers that are low together
-pub sums_low : (a b c : ℤ) → nat_abs a + nat_abs b + nat_abs c ≤ greatest_score → (nat_abs a ≤ greatest_score) × (nat_abs (a +ℤ b) ≤ greatest_score) × (nat_abs c ≤ greatest_score) × (nat_abs ((a +ℤ b) +ℤ c) ≤ greatest_score)
+pub sums_low : (a b c : ℤ) → nat_abs a + nat_abs b + nat_abs c ≤ greatest_score
+    → (nat_abs a ≤ greatest_score) × (nat_abs (a +ℤ b) ≤ greatest_score) × (nat_abs c ≤ greatest_score)
+    × (nat_abs ((a +ℤ b) +ℤ c) ≤ greatest_score)
 sums_low a b c low =
     let one = nat_abs-sum a b in
     let two = nat_abs-sum (a +ℤ b) c in

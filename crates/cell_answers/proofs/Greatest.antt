@@ -5,12 +5,15 @@ use Rattle.std.proofs.lemmas.Int.{ints}
 use Rattle.score_numbers.specs.Greatest.{IsGreatestOf}
 
 -- the same numbers
-pub greatest_same : (A B : ℤ → Type 0) (greatest : Option ℤ) → ((number : ℤ) → A number → B number) → ((number : ℤ) → B number → A number) → IsGreatestOf A greatest → IsGreatestOf B greatest
+pub greatest_same : (A B : ℤ → Type 0) (greatest : Option ℤ) → ((number : ℤ) → A number → B number)
+    → ((number : ℤ) → B number → A number) → IsGreatestOf A greatest → IsGreatestOf B greatest
 greatest_same A B None to back none = λ number b. none number (back number b)
 greatest_same A B (Some greatest) to back it = (to greatest it.0, λ number b. it.1 number (back number b))
 
 -- the greater of two is the greatest of both
-pub greatest_either : (A B : ℤ → Type 0) (a b both : Option ℤ) → IsGreatestOf A a → IsGreatestOf B b → IsGreatestOf (λ number. (a ≡ Some number) ⊎ (b ≡ Some number)) both → IsGreatestOf (λ number. A number ⊎ B number) both
+pub greatest_either : (A B : ℤ → Type 0) (a b both : Option ℤ) → IsGreatestOf A a → IsGreatestOf B b
+    → IsGreatestOf (λ number. (a ≡ Some number) ⊎ (b ≡ Some number)) both
+    → IsGreatestOf (λ number. A number ⊎ B number) both
 greatest_either A B None None None none none' it = λ number h. elim h [ inl x ↦ none number x | inr y ↦ none' number y ]
 greatest_either A B None None (Some both) none none' it = absurd (elim it.0 [ inl e ↦ absurd cc | inr e ↦ absurd cc ])
 greatest_either A B (Some a) b None is is' it = absurd (it a (inl (λ i. Some a)))
@@ -30,7 +33,8 @@ greatest_either A B (Some a) (Some b) (Some both) is is' it = (
 )
 
 -- the same number added to each
-pub greatest_moved : (A : ℤ → Type 0) (more greatest : ℤ) → IsGreatestOf A (Some greatest) → IsGreatestOf (λ number. (other : ℤ) × A other × (number ≡ (more +ℤ other))) (Some (more +ℤ greatest))
+pub greatest_moved : (A : ℤ → Type 0) (more greatest : ℤ) → IsGreatestOf A (Some greatest)
+    → IsGreatestOf (λ number. (other : ℤ) × A other × (number ≡ (more +ℤ other))) (Some (more +ℤ greatest))
 greatest_moved A more greatest it = ((greatest, it.0, λ i. more +ℤ greatest), λ number h. let l = it.1 h.0 h.1 in let e = h.2 in omega (arith, ints))
 
 -- it holds at some position before the bound
@@ -39,7 +43,9 @@ HasBefore At bound number = (position : ℕ) × (position < bound) × At positio
 
 module _ (At : ℕ → ℤ → Type 0) (bound : ℕ) (before : Option ℤ) (is : IsGreatestOf (HasBefore At bound) before) where
   -- one position more
-  pub before_more : (here both : Option ℤ) → IsGreatestOf (At bound) here → IsGreatestOf (λ number. (before ≡ Some number) ⊎ (here ≡ Some number)) both → IsGreatestOf (HasBefore At (bound + 1)) both
+  pub before_more : (here both : Option ℤ) → IsGreatestOf (At bound) here
+      → IsGreatestOf (λ number. (before ≡ Some number) ⊎ (here ≡ Some number)) both
+      → IsGreatestOf (HasBefore At (bound + 1)) both
   before_more here both is_here either =
       greatest_same (λ number. HasBefore At bound number ⊎ At bound number) (HasBefore At (bound + 1)) both
       (λ number h. elim h [ inl it ↦ (it.0, omega (arith, it.1), it.2) | inr it ↦ (bound, omega arith, it) ])

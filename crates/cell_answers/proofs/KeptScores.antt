@@ -30,7 +30,9 @@ entry_missing p cell entry is e =
     subst E ((Decides-int_eq entry no_candidate).1 e) is
 
 -- what is known of the best score is told by its entry
-pub entry_right : (p : PosedProblem) (cell : Cell) (score : Option ℤ) → MatchOption score (IsAnswer p cell NoCandidate) (HasBestScore p cell) → ((best : ℤ) → HasBestScore p cell best → nat_abs best < 2 ^ 63)
+pub entry_right : (p : PosedProblem) (cell : Cell) (score : Option ℤ)
+    → MatchOption score (IsAnswer p cell NoCandidate) (HasBestScore p cell)
+    → ((best : ℤ) → HasBestScore p cell best → nat_abs best < 2 ^ 63)
     → IsEntry p cell (unwrap_or score no_candidate)
 entry_right p cell None right low =
     let E : Bool → Type 0 = λ b. MatchOption (if b then None else Some no_candidate) (IsAnswer p cell NoCandidate) (HasBestScore p cell) in
@@ -44,14 +46,18 @@ entry_right p cell (Some best) right low =
       | inr missing ↦ subst E (sym missing) right
     ]
 
-module _ (old : Table ℤ) (rows columns : Spans ℤ) (cell : Cell) (entry : ℤ) (row : IsWritten old.rows rows cell.rule cell.from cell.to entry) (column : IsWritten old.columns columns cell.rule cell.to cell.from entry) (is_entry : IsEntry old.problem cell entry) where
+module _ (old : Table ℤ) (rows columns : Spans ℤ) (cell : Cell) (entry : ℤ)
+    (row : IsWritten old.rows rows cell.rule cell.from cell.to entry)
+    (column : IsWritten old.columns columns cell.rule cell.to cell.from entry)
+    (is_entry : IsEntry old.problem cell entry) where
   pub entry_now : HasEntry (record { problem = old.problem; rows = rows; columns = columns }) cell
   entry_now = record { entry = entry; in_row = row.there; in_column = column.there; is_entry = is_entry }
 
   pub entry_still : (other : Cell) → HasEntry old other → HasEntry (record { problem = old.problem; rows = rows; columns = columns }) other
   entry_still other has = go (cases_eq other.rule cell.rule) (cases_eq other.from cell.from) (cases_eq other.to cell.to)
     where
-      kept : ((other.rule ≡ cell.rule) × (other.from ≡ cell.from) × (other.to ≡ cell.to) → ⊥) → HasEntry (record { problem = old.problem; rows = rows; columns = columns }) other
+      kept : ((other.rule ≡ cell.rule) × (other.from ≡ cell.from) × (other.to ≡ cell.to) → ⊥)
+          → HasEntry (record { problem = old.problem; rows = rows; columns = columns }) other
       kept apart = record {
         entry = has.entry;
         in_row = row.others other.rule other.from other.to (λ (e, e', e''). apart (e, e', e'')) ∙ has.in_row;
@@ -59,7 +65,10 @@ module _ (old : Table ℤ) (rows columns : Spans ℤ) (cell : Cell) (entry : ℤ
         is_entry = has.is_entry;
       }
 
-      go : ((other.rule ≡ cell.rule) ⊎ (other.rule ≡ cell.rule → ⊥)) → ((other.from ≡ cell.from) ⊎ (other.from ≡ cell.from → ⊥)) → ((other.to ≡ cell.to) ⊎ (other.to ≡ cell.to → ⊥)) → HasEntry (record { problem = old.problem; rows = rows; columns = columns }) other
+      go : ((other.rule ≡ cell.rule) ⊎ (other.rule ≡ cell.rule → ⊥))
+          → ((other.from ≡ cell.from) ⊎ (other.from ≡ cell.from → ⊥))
+          → ((other.to ≡ cell.to) ⊎ (other.to ≡ cell.to → ⊥))
+          → HasEntry (record { problem = old.problem; rows = rows; columns = columns }) other
       go (inl e) (inl e') (inl e'') =
           let same : cell ≡ other = λ k. record { rule = sym e k; from = sym e' k; to = sym e'' k } in
           subst (HasEntry (record { problem = old.problem; rows = rows; columns = columns })) same entry_now

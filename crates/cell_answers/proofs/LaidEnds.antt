@@ -1,5 +1,6 @@
 -- Arguments laid by ends that are given: one end before others, totals with them, and the first of them.
-use Rattle.std.proofs.Common.{◌≡◌, ℕ, zero, suc, ◌+◌, ◌<◌, ◌≤◌, ℤ, pos, ◌+ℤ◌, ◌*ℤ◌, Some, None, List, [], ◌∷◌, length, get_or, take, refl, sym, ap, subst, ◌∙◌, inl, inr, arith}
+use Rattle.std.proofs.Common.{◌≡◌, ℕ, zero, suc, ◌+◌, ◌<◌, ◌≤◌, ℤ, pos, ◌+ℤ◌, ◌*ℤ◌, Some, None, List, [], ◌∷◌, length}
+use Rattle.std.proofs.Common.{get_or, take, refl, sym, ap, subst, ◌∙◌, inl, inr, arith}
 use Rattle.std.specs.List.{AllByRecursion}
 use Rattle.std.specs.declared.ops.Range.{Range}
 use Rattle.std.proofs.lemmas.Bool.{cases_lt}
@@ -42,21 +43,26 @@ all_there to (suc (suc (suc (suc zero)))) = (refl, (refl, (refl, (refl, tt))))
 all_there to (suc (suc (suc (suc (suc room))))) = (refl, (refl, (refl, (refl, tt))))
 
 -- no arguments
-pub none_laid : (p : PosedProblem) (factors : List ℤ) (from to : ℕ) (total : ℤ) (ends : List ℕ) → HasTotal p (HasBestScore p) [] factors from to total → AllByRecursion (λ end. end ≡ to) ends → AreFirstEnds p [] factors from to total ends
+pub none_laid : (p : PosedProblem) (factors : List ℤ) (from to : ℕ) (total : ℤ) (ends : List ℕ)
+    → HasTotal p (HasBestScore p) [] factors from to total → AllByRecursion (λ end. end ≡ to) ends
+    → AreFirstEnds p [] factors from to total ends
 none_laid p factors from to total ends ([], have, is) all = record {
   have = (have, all, is ∙ weighted_none factors);
   first = λ others has less. none_less to others ends has.1 all less;
 }
 none_laid p factors from to total ends (value ∷ values, have, is) all = absurd have
 
-pub none_here : (p : PosedProblem) (arguments : List Arg) (factors : List ℤ) (from to : ℕ) (total : ℤ) (room : ℕ) → length arguments ≡ 0 → HasTotal p (HasBestScore p) arguments factors from to total
+pub none_here : (p : PosedProblem) (arguments : List Arg) (factors : List ℤ) (from to : ℕ) (total : ℤ) (room : ℕ)
+    → length arguments ≡ 0 → HasTotal p (HasBestScore p) arguments factors from to total
     → AreFirstEnds p arguments factors from to total (take room (to ∷ to ∷ to ∷ to ∷ []))
 none_here p [] factors from to total room none has = none_laid p factors from to total (take room (to ∷ to ∷ to ∷ to ∷ [])) has (all_there to room)
 none_here p (argument ∷ arguments) factors from to total room none has = absurd (omega (arith, none))
 
 -- ---- one end before others
 
-pub total_by : (p : PosedProblem) (arguments : List Arg) (factors : List ℤ) (from to : ℕ) (total : ℤ) (ends : List ℕ) → HasTotalBy p (HasBestScore p) arguments factors from to total ends → HasTotal p (HasBestScore p) arguments factors from to total
+pub total_by : (p : PosedProblem) (arguments : List Arg) (factors : List ℤ) (from to : ℕ) (total : ℤ) (ends : List ℕ)
+    → HasTotalBy p (HasBestScore p) arguments factors from to total ends
+    → HasTotal p (HasBestScore p) arguments factors from to total
 total_by p [] factors from to total ends (here, closed, none) = ([], here, none ∙ sym (weighted_none factors))
 total_by p (argument ∷ arguments) [] from to total ends has = absurd has
 total_by p (argument ∷ arguments) (factor ∷ factors) from to total [] has = absurd has
@@ -72,7 +78,9 @@ module _ (p : PosedProblem) (sound : AreSound p) (argument : Arg) (others : List
   at_by end ends (value, rest, fits, is_value, has, is) =
       record { fits = fits; value = value; is_value = is_value; others = rest; have_others = total_by p others factors end to rest ends has; is = is }
 
-  module _ (end : ℕ) (there : At end) (value rest : ℤ) (is_value : IsValue p (HasBestScore p) (on_span argument from end) value) (is : total ≡ ((factor *ℤ value) +ℤ rest)) where
+  module _ (end : ℕ) (there : At end) (value rest : ℤ)
+      (is_value : IsValue p (HasBestScore p) (on_span argument from end) value)
+      (is : total ≡ ((factor *ℤ value) +ℤ rest)) where
     same_value : (other : ℤ) → IsValue p (HasBestScore p) (on_span argument from end) other → (factor *ℤ other) ≡ (factor *ℤ value)
     same_value other is_other = ap (λ v. factor *ℤ v) (value_unique p (HasBestScore p) sound.one argument from end other value is_other is_value)
 
@@ -83,20 +91,34 @@ module _ (p : PosedProblem) (sound : AreSound p) (argument : Arg) (others : List
         omega (arith, ints)
 
     -- what is left for the others is their greatest total
-    pub rest_greatest : IsGreatestOf (HasTotal p (HasBestScore p) (argument ∷ others) (factor ∷ factors) from to) (Some total) → IsGreatestOf (HasTotal p (HasBestScore p) others factors end to) (Some rest)
+    pub rest_greatest : IsGreatestOf (HasTotal p (HasBestScore p) (argument ∷ others) (factor ∷ factors) from to)
+        (Some total) → IsGreatestOf (HasTotal p (HasBestScore p) others factors end to) (Some rest)
     rest_greatest greatest = (
       subst (HasTotal p (HasBestScore p) others factors end to) (rest_is there) there.have_others,
       λ number has.
-          let more : HasTotalAt p (HasBestScore p) argument others factor factors from end to ((factor *ℤ value) +ℤ number) = record { fits = there.fits; value = value; is_value = is_value; others = number; have_others = has; is = refl } in
-          let l = greatest.1 ((factor *ℤ value) +ℤ number) (at_total p (HasBestScore p) argument others factor factors from to end ((factor *ℤ value) +ℤ number) more) in
+          let more : HasTotalAt p (HasBestScore p) argument others factor factors from end to
+          ((factor *ℤ value) +ℤ number) = record {
+            fits = there.fits;
+            value = value;
+            is_value = is_value;
+            others = number;
+            have_others = has;
+            is = refl;
+          } in
+          let l = greatest.1 ((factor *ℤ value) +ℤ number)
+          (at_total p (HasBestScore p) argument others factor factors from to end
+          ((factor *ℤ value) +ℤ number) more) in
           omega (arith, ints),
     )
 
     -- the first end with the first ends of the others
-    pub first_more : ((other : ℕ) → At other → end ≤ other) → (ends : List ℕ) → AreFirstEnds p others factors end to rest ends → AreFirstEnds p (argument ∷ others) (factor ∷ factors) from to total (end ∷ ends)
+    pub first_more : ((other : ℕ) → At other → end ≤ other) → (ends : List ℕ)
+        → AreFirstEnds p others factors end to rest ends → AreFirstEnds p (argument ∷ others) (factor ∷ factors) from to
+        total (end ∷ ends)
     first_more none_before ends later = record { have = (value, rest, there.fits, is_value, later.have, is); first = first }
       where
-        first : (found : List ℕ) → HasTotalBy p (HasBestScore p) (argument ∷ others) (factor ∷ factors) from to total found → LexicographicallyLess found (end ∷ ends) → ⊥
+        first : (found : List ℕ) → HasTotalBy p (HasBestScore p) (argument ∷ others) (factor ∷ factors) from to total
+            found → LexicographicallyLess found (end ∷ ends) → ⊥
         first [] has less = has
         first (other ∷ found) has (inl before) = let l = none_before other (at_by other found has) in absurd (omega arith)
         first (other ∷ found) (value', rest', fits', is_value', has', is') (inr (same, less)) =
@@ -112,12 +134,17 @@ abbrev pub HasTotalNowhere : PosedProblem → Arg → List Arg → ℤ → List 
 HasTotalNowhere p argument others factor factors from to total bound =
     (end : ℕ) → end < bound → HasTotalAt p (HasBestScore p) argument others factor factors from end to total → ⊥
 
-module _ (p : PosedProblem) (table : Table ℤ) (sound : AreSound p) (argument : Arg) (others : List Arg) (factor : ℤ) (factors : List ℤ) (from to : ℕ) (total : ℤ)
-    (laid : AreLaid p table (argument ∷ others) (factor ∷ factors) from to) (greatest : IsGreatestOf (HasTotal p (HasBestScore p) (argument ∷ others) (factor ∷ factors) from to) (Some total)) where
+module _ (p : PosedProblem) (table : Table ℤ) (sound : AreSound p) (argument : Arg) (others : List Arg) (factor : ℤ)
+    (factors : List ℤ) (from to : ℕ) (total : ℤ)
+    (laid : AreLaid p table (argument ∷ others) (factor ∷ factors) from to)
+    (greatest : IsGreatestOf (HasTotal p (HasBestScore p) (argument ∷ others) (factor ∷ factors) from to)
+    (Some total)) where
   abbrev HasNoneBefore : ℕ → Type 0
   HasNoneBefore = HasTotalNowhere p argument others factor factors from to total
 
-  one_more : (bound : ℕ) → HasNoneBefore bound → (HasTotalAt p (HasBestScore p) argument others factor factors from bound to total → ⊥) → HasNoneBefore (bound + 1)
+  one_more : (bound : ℕ) → HasNoneBefore bound
+      → (HasTotalAt p (HasBestScore p) argument others factor factors from bound to total → ⊥)
+      → HasNoneBefore (bound + 1)
   one_more bound before none end l it =
       elim (cases_lt end bound) [
         | inl less ↦ before end less it
@@ -127,17 +154,23 @@ module _ (p : PosedProblem) (table : Table ℤ) (sound : AreSound p) (argument :
       ]
 
   module _ (bound : ℕ) (before : HasNoneBefore bound) (fits : FitsSpan p (on_span argument from bound)) where
-    pub none_valued : (AtRule (HasEntry table) (on_span argument from bound) → (value : ℤ) → IsValue p (HasBestScore p) (on_span argument from bound) value → ⊥) → HasNoneBefore (bound + 1)
+    pub none_valued : (AtRule (HasEntry table) (on_span argument from bound) → (value : ℤ)
+        → IsValue p (HasBestScore p) (on_span argument from bound) value → ⊥) → HasNoneBefore (bound + 1)
     none_valued none =
         one_more bound before
-        (λ it. none (first_known_entry p table argument others factor factors from to laid bound fits (values_cover p (HasBestScore p) others bound to it.have_others.0 it.have_others.1)) it.value it.is_value)
+        (λ it. none (first_known_entry p table argument others factor factors from to laid bound fits
+        (values_cover p (HasBestScore p) others bound to it.have_others.0 it.have_others.1)) it.value it.is_value)
 
     pub none_totalled : IsGreatestOf (HasTotal p (HasBestScore p) others factors bound to) None → HasNoneBefore (bound + 1)
     none_totalled none = one_more bound before (λ it. none it.others it.have_others)
 
-    module _ (value rest : ℤ) (told : AtRule (HasEntry table) (on_span argument from bound) → IsValue p (HasBestScore p) (on_span argument from bound) value) (is_rest : IsGreatestOf (HasTotal p (HasBestScore p) others factors bound to) (Some rest)) where
+    module _ (value rest : ℤ) (told : AtRule (HasEntry table) (on_span argument from bound)
+        → IsValue p (HasBestScore p) (on_span argument from bound) value)
+        (is_rest : IsGreatestOf (HasTotal p (HasBestScore p) others factors bound to) (Some rest)) where
       is_value : IsValue p (HasBestScore p) (on_span argument from bound) value
-      is_value = told (first_known_entry p table argument others factor factors from to laid bound fits (values_cover p (HasBestScore p) others bound to is_rest.0.0 is_rest.0.1))
+      is_value =
+          told (first_known_entry p table argument others factor factors from to laid bound fits
+          (values_cover p (HasBestScore p) others bound to is_rest.0.0 is_rest.0.1))
 
       here : HasTotalAt p (HasBestScore p) argument others factor factors from bound to ((factor *ℤ value) +ℤ rest)
       here = record { fits = fits; value = value; is_value = is_value; others = rest; have_others = is_rest.0; is = refl }
@@ -146,9 +179,12 @@ module _ (p : PosedProblem) (table : Table ℤ) (sound : AreSound p) (argument :
       none_so_great differs =
           one_more bound before
           (λ it.
-          let product : (factor *ℤ it.value) ≡ (factor *ℤ value) = ap (λ v. factor *ℤ v) (value_unique p (HasBestScore p) sound.one argument from bound it.value value it.is_value is_value) in
+          let product : (factor *ℤ it.value) ≡ (factor *ℤ value) = ap (λ v. factor *ℤ v)
+          (value_unique p (HasBestScore p) sound.one argument from bound it.value value it.is_value is_value) in
           let l = is_rest.1 it.others it.have_others in
-          let m = greatest.1 ((factor *ℤ value) +ℤ rest) (at_total p (HasBestScore p) argument others factor factors from to bound ((factor *ℤ value) +ℤ rest) here) in
+          let m = greatest.1 ((factor *ℤ value) +ℤ rest)
+          (at_total p (HasBestScore p) argument others factor factors from to bound
+          ((factor *ℤ value) +ℤ rest) here) in
           let e = it.is in
           differs (omega (arith, ints)))
 
@@ -180,8 +216,11 @@ module _ (p : PosedProblem) (table : Table ℤ) (sound : AreSound p) (argument :
 -- ---- an end without a choice
 
 -- arguments that have a total, where lengths leave the first one no other end, have it with that end first
-pub only_first : (p : PosedProblem) (arguments : List Arg) (factors : List ℤ) (argument : Arg) (others : List Arg) (from to : ℕ) (total : ℤ) (only : ℕ) → arguments ≡ argument ∷ others → length factors ≡ length arguments
-    → HasTotal p (HasBestScore p) arguments factors from to total → ((end : ℕ) → FitsSpan p (on_span argument from end) → Cover p others end to → end ≡ only) → IsFirstEnd p arguments factors from to total only
+pub only_first : (p : PosedProblem) (arguments : List Arg) (factors : List ℤ) (argument : Arg) (others : List Arg)
+    (from to : ℕ) (total : ℤ) (only : ℕ) → arguments ≡ argument ∷ others → length factors ≡ length arguments
+    → HasTotal p (HasBestScore p) arguments factors from to total
+    → ((end : ℕ) → FitsSpan p (on_span argument from end) → Cover p others end to → end ≡ only)
+    → IsFirstEnd p arguments factors from to total only
 only_first p arguments [] argument others from to total only are each has one = absurd (omega (arith, each, ap length are))
 only_first p arguments (factor ∷ factors) argument others from to total only are each has one =
     subst (λ them. IsFirstEnd p them (factor ∷ factors) from to total only) (sym are) (record {
@@ -199,14 +238,19 @@ only_first p arguments (factor ∷ factors) argument others from to total only a
     stands end at = one end at.fits (values_cover p (HasBestScore p) others end to at.have_others.0 at.have_others.1)
 
     it : (end : ℕ) × HasTotalAt p (HasBestScore p) argument others factor factors from end to total
-    it = total_at p (HasBestScore p) argument others factor factors from to total (subst (λ them. HasTotal p (HasBestScore p) them (factor ∷ factors) from to total) are has)
+    it =
+        total_at p (HasBestScore p) argument others factor factors from to total
+        (subst (λ them. HasTotal p (HasBestScore p) them (factor ∷ factors) from to total) are has)
 
 -- and they are laid somehow
-pub laid_of_total : (p : PosedProblem) (arguments : List Arg) (factors : List ℤ) (argument : Arg) (others : List Arg) (from to : ℕ) (total : ℤ) → arguments ≡ argument ∷ others → length factors ≡ length arguments → HasTotal p (HasBestScore p) arguments factors from to total
+pub laid_of_total : (p : PosedProblem) (arguments : List Arg) (factors : List ℤ) (argument : Arg) (others : List Arg)
+    (from to : ℕ) (total : ℤ) → arguments ≡ argument ∷ others → length factors ≡ length arguments
+    → HasTotal p (HasBestScore p) arguments factors from to total
     → (end : ℕ) × FitsSpan p (on_span argument from end) × Cover p others end to
 laid_of_total p arguments [] argument others from to total are each has = absurd (omega (arith, each, ap length are))
 laid_of_total p arguments (factor ∷ factors) argument others from to total are each has =
-    let it = total_at p (HasBestScore p) argument others factor factors from to total (subst (λ them. HasTotal p (HasBestScore p) them (factor ∷ factors) from to total) are has) in
+    let it = total_at p (HasBestScore p) argument others factor factors from to total
+    (subst (λ them. HasTotal p (HasBestScore p) them (factor ∷ factors) from to total) are has) in
     (it.0, it.1.fits, values_cover p (HasBestScore p) others it.0 to it.1.have_others.0 it.1.have_others.1)
 
 -- ---- of the arguments as they are split
@@ -216,7 +260,9 @@ pub record IsFirstEndOf (p : PosedProblem) (argument : Arg) (others : List Arg) 
   pub there : HasTotalAt p (HasBestScore p) argument others factor more from end to total
   pub first : (other : ℕ) → HasTotalAt p (HasBestScore p) argument others factor more from other to total → end ≤ other
 
-pub end_of_first : (p : PosedProblem) (arguments : List Arg) (factors : List ℤ) (argument : Arg) (others : List Arg) (factor : ℤ) (more : List ℤ) (from to : ℕ) (total : ℤ) (end : ℕ) → arguments ≡ argument ∷ others → factors ≡ factor ∷ more
+pub end_of_first : (p : PosedProblem) (arguments : List Arg) (factors : List ℤ) (argument : Arg) (others : List Arg)
+    (factor : ℤ) (more : List ℤ) (from to : ℕ) (total : ℤ) (end : ℕ) → arguments ≡ argument ∷ others
+    → factors ≡ factor ∷ more
     → IsFirstEnd p arguments factors from to total end → IsFirstEndOf p argument others factor more from to total end
 end_of_first p arguments factors argument others factor more from to total end are factors_are it =
     let given = it.arguments_are in
@@ -226,7 +272,9 @@ end_of_first p arguments factors argument others factor more from to total end a
     let f : it.factor ≡ factor = cc in
     let m : it.more ≡ more = cc in
     let T : Arg → List Arg → ℤ → List ℤ → Type 0 = λ a o f m. IsFirstEndOf p a o f m from to total end in
-    subst (λ x. T x others factor more) a (subst (λ x. T it.argument x factor more) o (subst (λ x. T it.argument it.others x more) f (subst (λ x. T it.argument it.others it.factor x) m
+    subst (λ x. T x others factor more) a
+    (subst (λ x. T it.argument x factor more) o
+    (subst (λ x. T it.argument it.others x more) f (subst (λ x. T it.argument it.others it.factor x) m
     (record { there = it.there; first = it.first }))))
 
 -- the first of four ends, as they are read

@@ -1,6 +1,8 @@
 -- Lines of two rules with no tokens but literals: the values of their arguments at each position of the boundary, and
 -- what a term comes to at them.
-use Rattle.std.proofs.Common.{◌≡◌, ℕ, zero, suc, ◌+◌, ◌-◌, ◌≤◌, ℤ, pos, nat_abs, Option, Some, None, List, [], ◌∷◌, ◌++◌, length, map, take, replicate, slice_get, slice_set, refl, sym, ap, subst, ◌∙◌, arith, append_assoc, length-take}
+use Rattle.std.proofs.Common.{◌≡◌, ℕ, zero, suc, ◌+◌, ◌-◌, ◌≤◌, ℤ, pos, nat_abs, Option, Some, None, List, [], ◌∷◌}
+use Rattle.std.proofs.Common.{◌++◌, length, map, take, replicate, slice_get, slice_set, refl, sym, ap, subst, ◌∙◌}
+use Rattle.std.proofs.Common.{arith, append_assoc, length-take}
 use Rattle.std.specs.Prelude.{IfSome}
 use Rattle.std.specs.List.{Contains}
 use Rattle.std.proofs.lemmas.List.{length-append, length-replicate}
@@ -71,7 +73,8 @@ literals_worthless (Letter class ∷ tokens) factors literals = absurd literals
 literals_worthless (Run class low high ∷ tokens) factors literals = absurd literals
 
 module _ (p : PosedProblem) (HasScore : Cell → ℤ → Type 0) where
-  literal_values : (tokens : List Arg) (from to : ℕ) (values : List ℤ) → AreLiterals tokens → HaveValues p HasScore tokens from to values → values ≡ nothing tokens
+  literal_values : (tokens : List Arg) (from to : ℕ) (values : List ℤ) → AreLiterals tokens
+      → HaveValues p HasScore tokens from to values → values ≡ nothing tokens
   literal_values [] from to [] literals have = refl
   literal_values [] from to (value ∷ values) literals have = absurd have
   literal_values (Literal text ∷ tokens) from to [] literals have = absurd have
@@ -100,7 +103,8 @@ module _ (p : PosedProblem) (HasScore : Cell → ℤ → Type 0) where
     is_value : IsValue p HasScore (on_span argument from end) value
     have_more : HaveValues p HasScore others end to more
 
-  have_first : (argument : Arg) (others : List Arg) (from to : ℕ) (values : List ℤ) → HaveValues p HasScore (argument ∷ others) from to values → HaveFirst argument others from to values
+  have_first : (argument : Arg) (others : List Arg) (from to : ℕ) (values : List ℤ)
+      → HaveValues p HasScore (argument ∷ others) from to values → HaveFirst argument others from to values
   have_first argument others from to [] have = absurd have
   have_first argument others from to (value ∷ more) have =
       record { value = value; more = more; are = refl; end = have.0; fits = have.1; is_value = have.2; have_more = have.3 }
@@ -124,7 +128,8 @@ set_two before between behind a b new other place next is is' =
 -- ---- the arguments of a line
 
 -- a term with the values before a line, and the line that was opened for its arguments
-pub record IsTermLine (p : PosedProblem) (form : WideForm) (before : List ℤ) (arguments : List Arg) (from to : ℕ) (line : OpenedLine) (term : TermLine) : Type 0 where
+pub record IsTermLine (p : PosedProblem) (form : WideForm) (before : List ℤ) (arguments : List Arg) (from to : ℕ)
+    (line : OpenedLine) (term : TermLine) : Type 0 where
   pub factors : List ℤ
   pub opened : IsOpenedOn p arguments factors from to line
   pub plain : IsPlain line term.goal
@@ -135,8 +140,20 @@ pub record IsTermLine (p : PosedProblem) (form : WideForm) (before : List ℤ) (
   pub behind_is : term.behind ≡ length before + 1 + length line.arguments.middle.now
   pub are : AreTermArguments p (terms.Wide form) before arguments from to
 
-module _ (p : PosedProblem) (form : WideForm) (before : List ℤ) (arguments : List Arg) (from to : ℕ) (line : OpenedLine) (term : TermLine) (it : IsTermLine p form before arguments from to line term) where
-  open line use {arguments.{first.{now as first}, first_factor, middle.{now as middle}, middle_factors.{now as middle_factors}, second.{now as second}, second_factor, tail.{now as tail}}, boundary.{letters, last, positions.{now as positions}}}
+module _ (p : PosedProblem) (form : WideForm) (before : List ℤ) (arguments : List Arg) (from to : ℕ) (line : OpenedLine)
+    (term : TermLine) (it : IsTermLine p form before arguments from to line term) where
+  open line use {
+    arguments.{
+      first.{now as first},
+      first_factor,
+      middle.{now as middle},
+      middle_factors.{now as middle_factors},
+      second.{now as second},
+      second_factor,
+      tail.{now as tail},
+    },
+    boundary.{letters, last, positions.{now as positions}},
+  }
 
   abbrev line_values : ℤ → ℤ → List ℤ
   line_values value other = value ∷ (nothing middle ++ other ∷ nothing tail)
@@ -146,24 +163,43 @@ module _ (p : PosedProblem) (form : WideForm) (before : List ℤ) (arguments : L
 
   values_at_are : (number other : ℤ) → values_at term number other ≡ before ++ line_values (turned term.goal number) (turned term.goal other)
   values_at_are number other =
-      ap (λ values. slice_set (slice_set values term.before (turned term.goal number)) term.behind (turned term.goal other)) (it.values_are ∙ ap (λ values. before ++ values) all_nothing)
+      ap (λ values. slice_set (slice_set values term.before (turned term.goal number)) term.behind
+      (turned term.goal other)) (it.values_are ∙ ap (λ values. before ++ values) all_nothing)
       ∙ set_two before (nothing middle) (nothing tail) (pos 0) (pos 0) (turned term.goal number) (turned term.goal other) term.before term.behind it.before_is
       (omega (arith, it.behind_is, length-replicate (length middle) (pos 0)))
 
   pub two : AreTwo term
   two = record {
     in_order = omega (arith, it.before_is, it.behind_is);
-    within = omega (arith, it.behind_is, ap length it.values_are, length-append before (nothing arguments), length-replicate (length arguments) (pos 0), ap length it.opened.arguments_are, length-append middle (second ∷ tail));
+    within = omega (
+      arith,
+      it.behind_is,
+      ap length it.values_are,
+      length-append before (nothing arguments),
+      length-replicate (length arguments) (pos 0),
+      ap length it.opened.arguments_are,
+      length-append middle
+          (second ∷ tail),
+    );
   }
 
   module _ (HasScore : Cell → ℤ → Type 0) where
-    have_values : (position : ℕ) → Contains positions position → (value other : ℤ) → IsValue p HasScore (on_span first line.from position) value → IsValue p HasScore (on_span second (position + letters) last) other
+    have_values : (position : ℕ) → Contains positions position → (value other : ℤ)
+        → IsValue p HasScore (on_span first line.from position) value
+        → IsValue p HasScore (on_span second (position + letters) last) other
         → HaveValues p HasScore arguments from to (line_values value other)
     have_values position stands value other is is' =
         let fit = (it.opened.boundary.exact position).0 stands in
-        let behind : HaveValues p HasScore (second ∷ tail) (position + letters) to (other ∷ nothing tail) = (last, fit.2, is', literals_have p HasScore tail last to it.plain.tail fit.3) in
-        let have : HaveValues p HasScore (first ∷ (middle ++ second ∷ tail)) line.from to (line_values value other) =
-        (position, fit.0, is, values_joined p HasScore middle (second ∷ tail) position (position + letters) to (nothing middle) (other ∷ nothing tail) (literals_have p HasScore middle position (position + letters) it.plain.middle fit.1) behind) in
+        let behind : HaveValues p HasScore (second ∷ tail) (position + letters) to (other ∷ nothing tail) =
+        (last, fit.2, is', literals_have p HasScore tail last to it.plain.tail fit.3) in
+        let have : HaveValues p HasScore (first ∷ (middle ++ second ∷ tail)) line.from to (line_values value other) = (
+          position,
+          fit.0,
+          is,
+          values_joined p HasScore middle (second ∷ tail) position (position + letters) to
+              (nothing middle) (other ∷ nothing tail) (literals_have p HasScore middle position (position + letters)
+              it.plain.middle fit.1) behind,
+        ) in
         subst (λ them. HaveValues p HasScore them from to (line_values value other)) (sym it.opened.arguments_are)
         (subst (λ begin. HaveValues p HasScore (first ∷ (middle ++ second ∷ tail)) begin to (line_values value other)) it.opened.begins have)
 
@@ -189,15 +225,24 @@ module _ (p : PosedProblem) (form : WideForm) (before : List ℤ) (arguments : L
         let tail_covers = values_cover p HasScore tail two.end to two.more two.have_more in
         let at : parted.middle ≡ one.end + letters = it.opened.boundary.one_middle one.end parted.middle covers in
         let ends : two.end ≡ last = it.opened.boundary.one_tail two.end tail_covers in
-        let fits : FitsSpan p (on_span second (one.end + letters) last) = subst (λ n. FitsSpan p (on_span second n last)) at (subst (λ n. FitsSpan p (on_span second parted.middle n)) ends two.fits) in
-        let is_other : IsValue p HasScore (on_span second (one.end + letters) last) two.value = subst (λ n. IsValue p HasScore (on_span second n last) two.value) at (subst (λ n. IsValue p HasScore (on_span second parted.middle n) two.value) ends two.is_value) in
+        let fits : FitsSpan p (on_span second (one.end + letters) last) =
+        subst (λ n. FitsSpan p (on_span second n last))
+        at (subst (λ n. FitsSpan p (on_span second parted.middle n)) ends two.fits) in
+        let is_other : IsValue p HasScore (on_span second (one.end + letters) last) two.value =
+        subst (λ n. IsValue p HasScore (on_span second n last) two.value)
+        at (subst (λ n. IsValue p HasScore (on_span second parted.middle n) two.value) ends two.is_value) in
         let front : parted.values ≡ nothing middle = literal_values p HasScore middle one.end parted.middle parted.values it.plain.middle parted.front_have in
         let back : two.more ≡ nothing tail = literal_values p HasScore tail two.end to two.more it.plain.tail two.have_more in
         let others : parted.others ≡ two.value ∷ nothing tail = two.are ∙ ap (λ them. two.value ∷ them) back in
         let more : one.more ≡ nothing middle ++ two.value ∷ nothing tail = parted.are ∙ (λ i. front i ++ others i) in
         record {
           position = one.end;
-          stands = (it.opened.boundary.exact one.end).1 (one.fits, subst (λ n. Cover p middle one.end n) at covers, fits, subst (λ n. Cover p tail n to) ends tail_covers);
+          stands = (it.opened.boundary.exact one.end).1 (
+            one.fits,
+            subst (λ n. Cover p middle one.end n) at covers,
+            fits,
+            subst (λ n. Cover p tail n to) ends tail_covers,
+          );
           value = one.value;
           other = two.value;
           is_value = one.is_value;
@@ -219,7 +264,14 @@ module _ (p : PosedProblem) (form : WideForm) (before : List ℤ) (arguments : L
     }
 
     numbers : AreNumbersOf width line scales firsts seconds
-    numbers = record { scaled = scaled; firsts_proper = on.firsts_proper; seconds_proper = on.seconds_proper; firsts_told = on.firsts_told; seconds_told = on.seconds_told }
+    numbers =
+        record {
+          scaled = scaled;
+          firsts_proper = on.firsts_proper;
+          seconds_proper = on.seconds_proper;
+          firsts_told = on.firsts_told;
+          seconds_told = on.seconds_told;
+        }
 
     pub have : HaveNumbers (positions_of line) firsts seconds
     have = have_numbers p sound.one width on.spaced on.small line it.opened.opened scales firsts seconds numbers
@@ -228,17 +280,24 @@ module _ (p : PosedProblem) (form : WideForm) (before : List ℤ) (arguments : L
       same : position + letters - line.column.first ≡ number_at (positions_of line) position
       same = same_position p sound.one width on.spaced on.small line it.opened.opened scales firsts seconds numbers position
 
-      value_before : (number : ℤ) → slice_get firsts (number_at (positions_of line) position) ≡ Some number → (number ≡ width.mark → ⊥) → IsValue p (HasBestScore p) (on_span first line.from position) (turned term.goal number)
+      value_before : (number : ℤ) → slice_get firsts (number_at (positions_of line) position) ≡ Some number
+          → (number ≡ width.mark → ⊥) → IsValue p (HasBestScore p) (on_span first line.from position)
+          (turned term.goal number)
       value_before number there apart =
           subst (λ goal. IsValue p (HasBestScore p) (on_span first line.from position) (turned goal number)) it.plain.row
-          (value_told p sound.one width on.spaced on.small first first_factor line.row.goal scales.before scaled.before firsts on.firsts_proper line.row.first position line.from position
+          (value_told p sound.one width on.spaced on.small first first_factor line.row.goal scales.before scaled.before
+          firsts on.firsts_proper line.row.first position line.from position
           (row p sound.one width on.spaced on.small line it.opened.opened scales firsts seconds numbers position stands) number there apart)
 
-      value_behind : (number : ℤ) → slice_get seconds (number_at (positions_of line) position) ≡ Some number → (number ≡ width.mark → ⊥) → IsValue p (HasBestScore p) (on_span second (position + letters) last) (turned term.goal number)
+      value_behind : (number : ℤ) → slice_get seconds (number_at (positions_of line) position) ≡ Some number
+          → (number ≡ width.mark → ⊥) → IsValue p (HasBestScore p) (on_span second (position + letters) last)
+          (turned term.goal number)
       value_behind number there apart =
           subst (λ goal. IsValue p (HasBestScore p) (on_span second (position + letters) last) (turned goal number)) it.plain.column
-          (value_told p sound.one width on.spaced on.small second second_factor line.column.goal scales.behind scaled.behind seconds on.seconds_proper line.column.first (position + letters) (position + letters) last
-          (column p sound.one width on.spaced on.small line it.opened.opened scales firsts seconds numbers position stands) number (ap (slice_get seconds) same ∙ there) apart)
+          (value_told p sound.one width on.spaced on.small second second_factor line.column.goal scales.behind
+          scaled.behind seconds on.seconds_proper line.column.first (position + letters) (position + letters) last
+          (column p sound.one width on.spaced on.small line it.opened.opened scales firsts seconds numbers position
+          stands) number (ap (slice_get seconds) same ∙ there) apart)
 
       -- a number for a value
       record HasNumber (numbers : List ℤ) (value : ℤ) : Type 0 where
@@ -250,33 +309,45 @@ module _ (p : PosedProblem) (form : WideForm) (before : List ℤ) (arguments : L
       number_before : (value : ℤ) → IsValue p (HasBestScore p) (on_span first line.from position) value → HasNumber firsts value
       number_before value is =
           let told =
-          number_told p sound.one width on.spaced on.small first first_factor line.row.goal scales.before scaled.before firsts on.firsts_proper line.row.first position line.from position
+          number_told p sound.one width on.spaced on.small first first_factor line.row.goal scales.before scaled.before
+          firsts on.firsts_proper line.row.first position line.from position
           (row p sound.one width on.spaced on.small line it.opened.opened scales firsts seconds numbers position stands) value is in
           record { number = told.0; there = told.1; apart = told.2; is = told.3 ∙ ap (λ goal. turned goal told.0) it.plain.row }
 
       number_behind : (value : ℤ) → IsValue p (HasBestScore p) (on_span second (position + letters) last) value → HasNumber seconds value
       number_behind value is =
           let told =
-          number_told p sound.one width on.spaced on.small second second_factor line.column.goal scales.behind scaled.behind seconds on.seconds_proper line.column.first (position + letters) (position + letters) last
+          number_told p sound.one width on.spaced on.small second second_factor line.column.goal scales.behind
+          scaled.behind seconds on.seconds_proper line.column.first (position + letters) (position + letters) last
           (column p sound.one width on.spaced on.small line it.opened.opened scales firsts seconds numbers position stands) value is in
-          record { number = told.0; there = ap (slice_get seconds) (sym same) ∙ told.1; apart = told.2; is = told.3 ∙ ap (λ goal. turned goal told.0) it.plain.column }
+          record {
+            number = told.0;
+            there = ap (slice_get seconds) (sym same) ∙ told.1;
+            apart = told.2;
+            is = told.3
+                ∙ ap (λ goal. turned goal told.0) it.plain.column;
+          }
 
     -- the values at two numbers
-    laid_at : (position : ℕ) → Contains positions position → (number : ℤ) (has : HasTermValue width term firsts seconds (number_at (positions_of line) position) number)
+    laid_at : (position : ℕ) → Contains positions position
+        → (number : ℤ) (has : HasTermValue width term firsts seconds (number_at (positions_of line) position) number)
         → HaveValues p (HasBestScore p) arguments from to (line_values (turned term.goal has.before) (turned term.goal has.behind))
     laid_at position stands number has =
         have_values (HasBestScore p) position stands (turned term.goal has.before) (turned term.goal has.behind)
-        (value_before position stands has.before has.before_there has.before_scores) (value_behind position stands has.behind has.behind_there has.behind_scores)
+        (value_before position stands has.before has.before_there has.before_scores)
+        (value_behind position stands has.behind has.behind_there has.behind_scores)
 
     value_is : (number other : ℤ) → turned term.goal (wide_value (form_of term.term.now) (values_at term number other))
         ≡ turned (algebra_of p).goal (wide_value form (before ++ line_values (turned term.goal number) (turned term.goal other)))
     value_is number other = λ i. turned (it.goal_is i) (wide_value (it.form_is i) (values_at_are number other i))
 
-    to_score : (number : ℤ) → HasTermValueAt width term (positions_of line) firsts seconds number → HasTermScore p (terms.Wide form) before arguments from to number
+    to_score : (number : ℤ) → HasTermValueAt width term (positions_of line) firsts seconds number
+        → HasTermScore p (terms.Wide form) before arguments from to number
     to_score number (position, stands, has) =
         (line_values (turned term.goal has.before) (turned term.goal has.behind), laid_at position stands number has, has.is ∙ value_is has.before has.behind)
 
-    to_value : (number : ℤ) → HasTermScore p (terms.Wide form) before arguments from to number → HasTermValueAt width term (positions_of line) firsts seconds number
+    to_value : (number : ℤ) → HasTermScore p (terms.Wide form) before arguments from to number
+        → HasTermValueAt width term (positions_of line) firsts seconds number
     to_value number (values, have, is) =
         let through = are_through (HasBestScore p) values have in
         let a = number_before through.position through.stands through.value through.is_value in
@@ -295,23 +366,28 @@ module _ (p : PosedProblem) (form : WideForm) (before : List ℤ) (arguments : L
           },
         )
 
-    low : (bound : ℕ) → IsScoreBound p.grammar p.algebra (length p.word) bound → bound ≤ width.limit → AreLowValues width term (positions_of line) firsts seconds
+    low : (bound : ℕ) → IsScoreBound p.grammar p.algebra (length p.word) bound → bound ≤ width.limit
+        → AreLowValues width term (positions_of line) firsts seconds
     low bound scores within position number stands has =
         let values = line_values (turned term.goal has.before) (turned term.goal has.behind) in
         let kept = values_kept p (HasBestScore p) (IsWithinBound p) sound.within arguments from to values (laid_at position stands number has) in
         let small : wide_magnitude form (map nat_abs (before ++ values)) ≤ bound = it.are.bounded bound values scores kept in
-        let same : wide_magnitude (form_of term.term.now) (map nat_abs (values_at term has.before has.behind)) ≡ wide_magnitude form (map nat_abs (before ++ values)) =
+        let same : wide_magnitude (form_of term.term.now) (map nat_abs (values_at term has.before has.behind))
+        ≡ wide_magnitude form (map nat_abs (before ++ values)) =
         λ i. wide_magnitude (it.form_is i) (map nat_abs (values_at_are has.before has.behind i)) in
         omega (arith, small, within, same)
 
-    greatest_score : (greatest : Option ℤ) → IsGreatestOf (HasTermValueAt width term (positions_of line) firsts seconds) greatest → IsGreatestOf (HasTermScore p (terms.Wide form) before arguments from to) greatest
+    greatest_score : (greatest : Option ℤ) → IsGreatestOf (HasTermValueAt width term (positions_of line) firsts seconds)
+        greatest → IsGreatestOf (HasTermScore p (terms.Wide form) before arguments from to) greatest
     greatest_score greatest =
-        greatest_same (HasTermValueAt width term (positions_of line) firsts seconds) (HasTermScore p (terms.Wide form) before arguments from to) greatest to_score to_value
+        greatest_same (HasTermValueAt width term (positions_of line) firsts seconds)
+        (HasTermScore p (terms.Wide form) before arguments from to) greatest to_score to_value
 
   pub numbers_fit : AreSound p → (bound : ℕ) → IsScoreBound p.grammar p.algebra (length p.word) bound → AreFitNumbers line term bound
   numbers_fit sound bound scores width firsts seconds on = (have sound width firsts seconds on, low sound width firsts seconds on bound scores)
 
-  pub found_score : AreSound p → (bound : ℕ) (greatest : Option ℤ) → IsFoundOn line term bound greatest → IsGreatestOf (HasTermScore p (terms.Wide form) before arguments from to) greatest
+  pub found_score : AreSound p → (bound : ℕ) (greatest : Option ℤ) → IsFoundOn line term bound greatest
+      → IsGreatestOf (HasTermScore p (terms.Wide form) before arguments from to) greatest
   found_score sound bound greatest found = greatest_score sound found.width found.firsts found.seconds found.are greatest found.is_greatest
 
 -- ---- arguments that weigh nothing
@@ -329,5 +405,6 @@ module _ (p : PosedProblem) (form : Term) (before : List ℤ) (arguments : List 
   nothing_low values have = omega (arith, nothing_weighs (length arguments) 4 (map nat_abs values))
 
   -- without a total there is no score
-  pub none_scored : (factors : List ℤ) → ((total : ℤ) → HasTotal p (HasBestScore p) arguments factors from to total → ⊥) → (number : ℤ) → HasTermScore p form before arguments from to number → ⊥
+  pub none_scored : (factors : List ℤ) → ((total : ℤ) → HasTotal p (HasBestScore p) arguments factors from to total → ⊥)
+      → (number : ℤ) → HasTermScore p form before arguments from to number → ⊥
   none_scored factors none number (values, have, is) = none (weighted_sum factors values) (values, have, refl)

@@ -17,7 +17,9 @@ pub record IsTail (p : PosedProblem) (line : OpenedLine) (to : ℕ) : Type 0 whe
   pub covers : Cover p line.arguments.tail.now line.boundary.last to
   pub low : AreLow p line.arguments.tail.now line.arguments.tail_factors.now line.boundary.last to
 
-module _ (p : PosedProblem) (table : Table ℤ) (arguments : List Arg) (factors : List ℤ) (from to : ℕ) (laid : AreLaid p table arguments factors from to) (line : OpenedLine) (is : IsOpenedOn p arguments factors from to line) where
+module _ (p : PosedProblem) (table : Table ℤ) (arguments : List Arg) (factors : List ℤ) (from to : ℕ)
+    (laid : AreLaid p table arguments factors from to) (line : OpenedLine)
+    (is : IsOpenedOn p arguments factors from to line) where
   abbrev its_arguments : List Arg
   its_arguments = line.arguments.first.now ∷ (line.arguments.middle.now ++ line.arguments.second.now ∷ line.arguments.tail.now)
 

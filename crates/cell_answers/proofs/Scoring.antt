@@ -1,5 +1,6 @@
 -- The best score of a cell is the greatest of its splits' scores, turned.
-use Rattle.std.proofs.Common.{◌≡◌, ℕ, zero, suc, negsuc, ◌-◌, ◌*◌, ◌<◌, ◌≤◌, ◌⊎◌, ℤ, pos, neg_ℤ, ◌+ℤ◌, ◌*ℤ◌, ◌≤ℤ◌, ◌<ℤ◌, nat_abs, Option, Some, None, List, length, refl, sym, ap, subst, ◌∙◌, inl, inr, arith}
+use Rattle.std.proofs.Common.{◌≡◌, ℕ, zero, suc, negsuc, ◌-◌, ◌*◌, ◌<◌, ◌≤◌, ◌⊎◌, ℤ, pos, neg_ℤ, ◌+ℤ◌, ◌*ℤ◌, ◌≤ℤ◌, ◌<ℤ◌}
+use Rattle.std.proofs.Common.{nat_abs, Option, Some, None, List, length, refl, sym, ap, subst, ◌∙◌, inl, inr, arith}
 use Rattle.std.specs.Prelude.{MatchOption}
 use Rattle.std.proofs.lemmas.Int.{ints}
 use Rattle.std.proofs.Math.IntN.{neg_ℤ-neg_ℤ, zero-*ℤ}
@@ -47,7 +48,8 @@ turned_product Least a b = product_negated a b
 turned_product Greatest a b = refl
 
 -- the constant with the greatest total of the factors
-pub turned_greatest : (p : PosedProblem) (cell : Cell) (alternative : ℕ) (constant : ℤ) (factors : List ℤ) → IsScoredBy p cell.rule alternative constant factors → (greatest : Option ℤ)
+pub turned_greatest : (p : PosedProblem) (cell : Cell) (alternative : ℕ) (constant : ℤ) (factors : List ℤ)
+    → IsScoredBy p cell.rule alternative constant factors → (greatest : Option ℤ)
     → IsGreatestOf (HasTotal p (HasBestScore p) (arguments_of p.grammar cell.rule alternative) factors cell.from cell.to) greatest
     → (all : Option ℤ) → MatchOption greatest (all ≡ None) (λ total. all ≡ Some (constant +ℤ total)) → IsGreatestOf (HasLaidScore p cell alternative) all
 turned_greatest p cell alternative constant factors scored None none all is =
@@ -64,7 +66,8 @@ turned_greatest p cell alternative constant factors scored (Some greatest) it al
     (greatest_moved Total constant greatest it))
 
 -- what gives the greatest score where the alternative allows the cell's length
-pub greatest_allowed : (p : PosedProblem) (cell : Cell) (alternative : ℕ) (greatest : Option ℤ) → AllowsLength (alternative_at p.grammar cell.rule alternative) (cell.to - cell.from)
+pub greatest_allowed : (p : PosedProblem) (cell : Cell) (alternative : ℕ) (greatest : Option ℤ)
+    → AllowsLength (alternative_at p.grammar cell.rule alternative) (cell.to - cell.from)
     → IsGreatestOf (HasLaidScore p cell alternative) greatest → IsGreatestOf (HasTurnedScore p cell alternative) greatest
 greatest_allowed p cell alternative greatest allowed it =
     greatest_same (HasLaidScore p cell alternative) (HasTurnedScore p cell alternative) greatest (λ number has. (allowed, has)) (λ number has. has.1) it
@@ -98,15 +101,21 @@ module _ (p : PosedProblem) (bellman : Bellman p) (cell : Cell) (span : IsSpan p
 
   pub scored_in : (score : ℤ) (choice : Choice) → Scored score choice → HasTurnedScore p cell choice.alt (turned (algebra_of p).goal score)
   scored_in score choice split =
-      let have = values_of_split p (HasBestScore p) cell choice.alt choice.cuts split.values (some choice.alt split.viable.in_range) (few choice.alt) split.viable split.are_values in
+      let have = values_of_split p (HasBestScore p) cell choice.alt choice.cuts split.values
+      (some choice.alt split.viable.in_range) (few choice.alt) split.viable split.are_values in
       (split.viable.allowed, (split.values, have, ap (turned (algebra_of p).goal) split.scored))
 
-  pub turned_in : (number : ℤ) (alternative : ℕ) → alternative < length (alternatives_of p.grammar cell.rule) → HasTurnedScore p cell alternative number → (cuts : List ℕ) × Scored (turned (algebra_of p).goal number) (record { alt = alternative; cuts = cuts })
+  pub turned_in : (number : ℤ) (alternative : ℕ) → alternative < length (alternatives_of p.grammar cell.rule)
+      → HasTurnedScore p cell alternative number → (cuts : List ℕ) × Scored (turned (algebra_of p).goal number)
+      (record { alt = alternative; cuts = cuts })
   turned_in number alternative in_range (allowed, (values, have, is)) =
       let split = split_of_values p (HasBestScore p) cell alternative values in_range allowed (some alternative in_range) (few alternative) have in
-      let score : turned (algebra_of p).goal number ≡ term_value (term_of p cell.rule alternative) values = ap (turned (algebra_of p).goal) is ∙ turned_twice (algebra_of p).goal (term_value (term_of p cell.rule alternative) values) in
+      let score : turned (algebra_of p).goal number ≡ term_value (term_of p cell.rule alternative) values =
+      ap (turned (algebra_of p).goal) is ∙ turned_twice (algebra_of p).goal
+      (term_value (term_of p cell.rule alternative) values) in
       (split.0, record { viable = split.1; values = values; are_values = split.2; scored = score })
 
 -- a cell has one score at most, where it has one answer at most
-pub one_score : (p : PosedProblem) → ((cell : Cell) (a b : Answer) → IsAnswer p cell a → IsAnswer p cell b → a ≡ b) → (cell : Cell) (a b : ℤ) → HasBestScore p cell a → HasBestScore p cell b → a ≡ b
+pub one_score : (p : PosedProblem) → ((cell : Cell) (a b : Answer) → IsAnswer p cell a → IsAnswer p cell b → a ≡ b)
+    → (cell : Cell) (a b : ℤ) → HasBestScore p cell a → HasBestScore p cell b → a ≡ b
 one_score p one cell a b (choice, is) (choice', is') = let e = one cell (Best a choice) (Best b choice') is is' in cc

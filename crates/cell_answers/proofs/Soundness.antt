@@ -37,8 +37,13 @@ pub fits_below : (z : ℤ) → nat_abs z ≤ greatest_score → FitsSigned w64 z
 fits_below z below = fits_signed_from_abs w64 z (omega arith)
 
 -- the product of the first argument, a total of the others, and both together fit
-pub parts_fit : (p : PosedProblem) (table : Table ℤ) (argument : Arg) (others : List Arg) (factor : ℤ) (factors : List ℤ) (from to : ℕ) → AreLaid p table (argument ∷ others) (factor ∷ factors) from to → (end : ℕ) → FitsSpan p (on_span argument from end) → AreSound p → (value : ℤ) → (AtRule (HasEntry table) (on_span argument from end) → IsValue p (HasBestScore p) (on_span argument from end) value)
-    → (rest : ℤ) → HasTotal p (HasBestScore p) others factors end to rest → FitsSigned w64 (factor *ℤ value) × FitsSigned w64 rest × FitsSigned w64 ((factor *ℤ value) +ℤ rest)
+pub parts_fit : (p : PosedProblem) (table : Table ℤ) (argument : Arg) (others : List Arg) (factor : ℤ)
+    (factors : List ℤ) (from to : ℕ) → AreLaid p table (argument ∷ others) (factor ∷ factors) from to → (end : ℕ)
+    → FitsSpan p (on_span argument from end) → AreSound p → (value : ℤ)
+    → (AtRule (HasEntry table) (on_span argument from end)
+    → IsValue p (HasBestScore p) (on_span argument from end) value)
+    → (rest : ℤ) → HasTotal p (HasBestScore p) others factors end to rest
+    → FitsSigned w64 (factor *ℤ value) × FitsSigned w64 rest × FitsSigned w64 ((factor *ℤ value) +ℤ rest)
 parts_fit p table argument others factor factors from to laid end fits sound value told rest total =
     let low = parts_low p table argument others factor factors from to laid end fits sound value told rest total in
     (fits_below (factor *ℤ value) low.0, fits_below rest low.1, fits_below ((factor *ℤ value) +ℤ rest) low.2)

@@ -1,5 +1,6 @@
 -- Between the viable splits of an alternative and its arguments, laid one behind the other.
-use Rattle.std.proofs.Common.{◌≡◌, ℕ, zero, suc, ◌+◌, ◌-◌, ◌<◌, ◌≤◌, ℤ, replicate, List, [], ◌∷◌, ◌++◌, length, drop, refl, sym, ap, subst, ◌∙◌, inl, inr, arith}
+use Rattle.std.proofs.Common.{◌≡◌, ℕ, zero, suc, ◌+◌, ◌-◌, ◌<◌, ◌≤◌, ℤ, replicate, List, [], ◌∷◌, ◌++◌, length, drop}
+use Rattle.std.proofs.Common.{refl, sym, ap, subst, ◌∙◌, inl, inr, arith}
 use Rattle.std.specs.List.{AllByRecursion, Contains}
 use Rattle.std.proofs.lemmas.List.{length-replicate}
 use Rattle.adp_model.specs.declared.grammar.Arg.{Arg}
@@ -28,7 +29,9 @@ closed_at to zero = (refl, tt)
 closed_at to (suc room) = (refl, closed_at to room)
 
 module _ (p : PosedProblem) where
-  pub lay_last : (argument : Arg) (from to room : ℕ) (Holds : List Placed → Type 0) → FitsSpan p (on_span argument from to) → Holds (on_span argument from to ∷ []) → HasCuts p (argument ∷ []) from to room Holds
+  pub lay_last : (argument : Arg) (from to room : ℕ) (Holds : List Placed → Type 0)
+      → FitsSpan p (on_span argument from to) → Holds (on_span argument from to ∷ [])
+      → HasCuts p (argument ∷ []) from to room Holds
   lay_last argument from to zero Holds fits holds = record { cuts = []; counted = refl; fits = (fits, tt); closed = (refl, tt); holds = holds }
   lay_last argument from to (suc room) Holds fits holds = record {
     cuts = replicate (suc room) to;
@@ -38,7 +41,8 @@ module _ (p : PosedProblem) where
     holds = holds;
   }
 
-  closed_later : (next : Arg) (arguments : List Arg) (end to : ℕ) (cuts : List ℕ) → AllByRecursion (λ boundary. boundary ≡ to) (drop (length (next ∷ arguments) - 1) (cuts ++ to ∷ []))
+  closed_later : (next : Arg) (arguments : List Arg) (end to : ℕ) (cuts : List ℕ)
+      → AllByRecursion (λ boundary. boundary ≡ to) (drop (length (next ∷ arguments) - 1) (cuts ++ to ∷ []))
       → (argument : Arg) → AllByRecursion (λ boundary. boundary ≡ to) (drop (length (argument ∷ next ∷ arguments) - 1) ((end ∷ cuts) ++ to ∷ []))
   closed_later next arguments end to cuts closed argument =
       let more : suc (suc (length arguments)) - 1 ≡ suc (length arguments) = omega arith in
@@ -47,7 +51,9 @@ module _ (p : PosedProblem) where
       subst C (ap (λ n. drop n (cuts ++ to ∷ [])) fewer ∙ sym (ap (λ n. drop n (end ∷ (cuts ++ to ∷ []))) more)) closed
 
   pub lay : (argument next : Arg) (arguments : List Arg) (from end to room : ℕ) (Before Holds : List Placed → Type 0) → FitsSpan p (on_span argument from end)
-      → ((others : List Placed) → Before others → Holds (on_span argument from end ∷ others)) → HasCuts p (next ∷ arguments) end to room Before → HasCuts p (argument ∷ next ∷ arguments) from to (suc room) Holds
+      → ((others : List Placed) → Before others → Holds (on_span argument from end ∷ others))
+      → HasCuts p (next ∷ arguments) end to room Before
+      → HasCuts p (argument ∷ next ∷ arguments) from to (suc room) Holds
   lay argument next arguments from end to room Before Holds fits more others = record {
     cuts = end ∷ others.cuts;
     counted = ap suc others.counted;
@@ -56,15 +62,18 @@ module _ (p : PosedProblem) where
     holds = more _ others.holds;
   }
 
-  cuts_of_cover : (argument : Arg) (arguments : List Arg) (from to room : ℕ) → length arguments ≤ room → Cover p (argument ∷ arguments) from to → HasCuts p (argument ∷ arguments) from to room (λ _. Unit {0})
+  cuts_of_cover : (argument : Arg) (arguments : List Arg) (from to room : ℕ) → length arguments ≤ room
+      → Cover p (argument ∷ arguments) from to → HasCuts p (argument ∷ arguments) from to room (λ _. Unit {0})
   cuts_of_cover argument [] from to room few cover =
       let F : ℕ → Type 0 = λ end. FitsSpan p (on_span argument from end) in
       lay_last argument from to room (λ _. Unit {0}) (subst F cover.2 cover.1) tt
   cuts_of_cover argument (next ∷ arguments) from to zero few cover = absurd (omega arith)
   cuts_of_cover argument (next ∷ arguments) from to (suc room) few cover =
-      lay argument next arguments from cover.0 to room (λ _. Unit {0}) (λ _. Unit {0}) cover.1 (λ others h. tt) (cuts_of_cover next arguments cover.0 to room (omega arith) cover.2)
+      lay argument next arguments from cover.0 to room (λ _. Unit {0}) (λ _. Unit {0}) cover.1 (λ others h. tt)
+      (cuts_of_cover next arguments cover.0 to room (omega arith) cover.2)
 
-  pub cuts_of_values : (HasScore : Cell → ℤ → Type 0) (argument : Arg) (arguments : List Arg) (from to room : ℕ) (values : List ℤ) → length arguments ≤ room → HaveValues p HasScore (argument ∷ arguments) from to values
+  pub cuts_of_values : (HasScore : Cell → ℤ → Type 0) (argument : Arg) (arguments : List Arg) (from to room : ℕ)
+      (values : List ℤ) → length arguments ≤ room → HaveValues p HasScore (argument ∷ arguments) from to values
       → HasCuts p (argument ∷ arguments) from to room (λ placed. AreArgumentValues p HasScore placed values)
   cuts_of_values HasScore argument arguments from to room [] few have = absurd have
   cuts_of_values HasScore argument [] from to room (value ∷ []) few have =
@@ -74,19 +83,22 @@ module _ (p : PosedProblem) where
   cuts_of_values HasScore argument [] from to room (value ∷ other ∷ values) few have = absurd have.3
   cuts_of_values HasScore argument (next ∷ arguments) from to zero (value ∷ values) few have = absurd (omega arith)
   cuts_of_values HasScore argument (next ∷ arguments) from to (suc room) (value ∷ values) few have =
-      lay argument next arguments from have.0 to room (λ placed. AreArgumentValues p HasScore placed values) (λ placed. AreArgumentValues p HasScore placed (value ∷ values)) have.1 (λ others are. (have.2, are))
+      lay argument next arguments from have.0 to room (λ placed. AreArgumentValues p HasScore placed values)
+      (λ placed. AreArgumentValues p HasScore placed (value ∷ values)) have.1 (λ others are. (have.2, are))
       (cuts_of_values HasScore next arguments have.0 to room values (omega arith) have.3)
 
   abbrev Stands : Cell → List Placed → Type 0
   Stands cell placed = Contains placed (on_span (Rule cell.rule) cell.from cell.to)
 
-  stands_first : (argument : Arg) (from end : ℕ) (cell : Cell) (others : List Placed) → IsCellOf argument from end cell → Stands cell (on_span argument from end ∷ others)
+  stands_first : (argument : Arg) (from end : ℕ) (cell : Cell) (others : List Placed) → IsCellOf argument from end cell
+      → Stands cell (on_span argument from end ∷ others)
   stands_first argument from end cell others is = (0, omega arith, λ i. on_span (is.rule i) (is.begins i) (is.ends i))
 
   stands_later : (first : Placed) (cell : Cell) (others : List Placed) → Stands cell others → Stands cell (first ∷ others)
   stands_later first cell others (at, within, is) = (suc at, omega arith, is)
 
-  cuts_of_demand : (argument : Arg) (arguments : List Arg) (from to room : ℕ) (cell : Cell) → length arguments ≤ room → Demands p (argument ∷ arguments) from to cell → HasCuts p (argument ∷ arguments) from to room (Stands cell)
+  cuts_of_demand : (argument : Arg) (arguments : List Arg) (from to room : ℕ) (cell : Cell) → length arguments ≤ room
+      → Demands p (argument ∷ arguments) from to cell → HasCuts p (argument ∷ arguments) from to room (Stands cell)
   cuts_of_demand argument [] from to room cell few (end, fits, inl (is, e)) =
       let F : ℕ → Type 0 = λ it. FitsSpan p (on_span argument from it) in
       let S : ℕ → Type 0 = λ it. Stands cell (on_span argument from it ∷ []) in
@@ -94,26 +106,35 @@ module _ (p : PosedProblem) where
   cuts_of_demand argument [] from to room cell few (end, fits, inr none) = absurd none
   cuts_of_demand argument (next ∷ arguments) from to zero cell few demand = absurd (omega arith)
   cuts_of_demand argument (next ∷ arguments) from to (suc room) cell few (end, fits, inl (is, cover)) =
-      lay argument next arguments from end to room (λ _. Unit {0}) (Stands cell) fits (λ others h. stands_first argument from end cell others is) (cuts_of_cover next arguments end to room (omega arith) cover)
+      lay argument next arguments from end to room (λ _. Unit {0}) (Stands cell) fits
+      (λ others h. stands_first argument from end cell others is)
+      (cuts_of_cover next arguments end to room (omega arith) cover)
   cuts_of_demand argument (next ∷ arguments) from to (suc room) cell few (end, fits, inr later) =
-      lay argument next arguments from end to room (Stands cell) (Stands cell) fits (stands_later (on_span argument from end) cell) (cuts_of_demand next arguments end to room cell (omega arith) later)
+      lay argument next arguments from end to room (Stands cell) (Stands cell) fits
+      (stands_later (on_span argument from end) cell)
+      (cuts_of_demand next arguments end to room cell (omega arith) later)
 
   -- what cuts lay of a whole alternative is a viable split
   pub split_of_cuts : (cell : Cell) (alternative : ℕ) (Holds : List Placed → Type 0) → alternative < length (alternatives_of p.grammar cell.rule)
-      → AllowsLength (alternative_at p.grammar cell.rule alternative) (cell.to - cell.from) → HasCuts p (arguments_of p.grammar cell.rule alternative) cell.from cell.to 3 Holds
+      → AllowsLength (alternative_at p.grammar cell.rule alternative) (cell.to - cell.from)
+      → HasCuts p (arguments_of p.grammar cell.rule alternative) cell.from cell.to 3 Holds
       → (cuts : List ℕ) × IsViable p cell alternative cuts × Holds (placed p cell alternative cuts)
   split_of_cuts cell alternative Holds in_range allowed has =
       (has.cuts, record { in_range = in_range; allowed = allowed; three = has.counted; last = has.closed; fits = has.fits }, has.holds)
 
-  pub split_of_values : (HasScore : Cell → ℤ → Type 0) (cell : Cell) (alternative : ℕ) (values : List ℤ) → alternative < length (alternatives_of p.grammar cell.rule)
+  pub split_of_values : (HasScore : Cell → ℤ → Type 0) (cell : Cell) (alternative : ℕ) (values : List ℤ)
+      → alternative < length (alternatives_of p.grammar cell.rule)
       → AllowsLength (alternative_at p.grammar cell.rule alternative) (cell.to - cell.from)
       → 1 ≤ length (arguments_of p.grammar cell.rule alternative) → length (arguments_of p.grammar cell.rule alternative) ≤ 4
       → HaveValues p HasScore (arguments_of p.grammar cell.rule alternative) cell.from cell.to values
       → (cuts : List ℕ) × IsViable p cell alternative cuts × AreArgumentValues p HasScore (placed p cell alternative cuts) values
   split_of_values HasScore cell alternative values in_range allowed some few have =
-      split_of_cuts cell alternative (λ placed. AreArgumentValues p HasScore placed values) in_range allowed (by (arguments_of p.grammar cell.rule alternative) some few have)
+      split_of_cuts cell alternative (λ placed. AreArgumentValues p HasScore placed values) in_range allowed
+      (by (arguments_of p.grammar cell.rule alternative) some few have)
     where
-      by : (arguments : List Arg) → 1 ≤ length arguments → length arguments ≤ 4 → HaveValues p HasScore arguments cell.from cell.to values → HasCuts p arguments cell.from cell.to 3 (λ placed. AreArgumentValues p HasScore placed values)
+      by : (arguments : List Arg) → 1 ≤ length arguments → length arguments ≤ 4
+          → HaveValues p HasScore arguments cell.from cell.to values
+          → HasCuts p arguments cell.from cell.to 3 (λ placed. AreArgumentValues p HasScore placed values)
       by [] some few have = absurd (omega arith)
       by (argument ∷ arguments) some few have = cuts_of_values HasScore argument arguments cell.from cell.to 3 values (omega arith) have
 
@@ -131,8 +152,11 @@ module _ (p : PosedProblem) where
 
   -- ---- and back
 
-  pub values_of_cuts : (HasScore : Cell → ℤ → Type 0) (argument : Arg) (arguments : List Arg) (from to : ℕ) (ends : List ℕ) (values : List ℤ) → AllByRecursion (FitsSpan p) (place (argument ∷ arguments) from ends)
-      → AllByRecursion (λ boundary. boundary ≡ to) (drop (length arguments) ends) → AreArgumentValues p HasScore (place (argument ∷ arguments) from ends) values → length arguments + 1 ≤ length ends
+  pub values_of_cuts : (HasScore : Cell → ℤ → Type 0) (argument : Arg) (arguments : List Arg) (from to : ℕ)
+      (ends : List ℕ) (values : List ℤ) → AllByRecursion (FitsSpan p) (place (argument ∷ arguments) from ends)
+      → AllByRecursion (λ boundary. boundary ≡ to) (drop (length arguments) ends)
+      → AreArgumentValues p HasScore (place (argument ∷ arguments) from ends) values
+      → length arguments + 1 ≤ length ends
       → HaveValues p HasScore (argument ∷ arguments) from to values
   values_of_cuts HasScore argument arguments from to [] values fits closed are few = absurd (omega arith)
   values_of_cuts HasScore argument arguments from to (end ∷ ends) [] fits closed are few = absurd are
@@ -145,15 +169,21 @@ module _ (p : PosedProblem) where
   length_ends [] to = refl
   length_ends (cut ∷ cuts) to = omega (arith, length_ends cuts to)
 
-  pub values_of_split : (HasScore : Cell → ℤ → Type 0) (cell : Cell) (alternative : ℕ) (cuts : List ℕ) (values : List ℤ) → 1 ≤ length (arguments_of p.grammar cell.rule alternative) → length (arguments_of p.grammar cell.rule alternative) ≤ 4
-      → IsViable p cell alternative cuts → AreArgumentValues p HasScore (placed p cell alternative cuts) values → HaveValues p HasScore (arguments_of p.grammar cell.rule alternative) cell.from cell.to values
+  pub values_of_split : (HasScore : Cell → ℤ → Type 0) (cell : Cell) (alternative : ℕ) (cuts : List ℕ) (values : List ℤ)
+      → 1 ≤ length (arguments_of p.grammar cell.rule alternative)
+      → length (arguments_of p.grammar cell.rule alternative) ≤ 4
+      → IsViable p cell alternative cuts → AreArgumentValues p HasScore (placed p cell alternative cuts) values
+      → HaveValues p HasScore (arguments_of p.grammar cell.rule alternative) cell.from cell.to values
   values_of_split HasScore cell alternative cuts values some few viable are =
       by (arguments_of p.grammar cell.rule alternative) some few viable.fits viable.last are
     where
-      by : (arguments : List Arg) → 1 ≤ length arguments → length arguments ≤ 4 → AllByRecursion (FitsSpan p) (place arguments cell.from (cuts ++ cell.to ∷ [])) → AllByRecursion (λ boundary. boundary ≡ cell.to) (drop (length arguments - 1) (cuts ++ cell.to ∷ []))
+      by : (arguments : List Arg) → 1 ≤ length arguments → length arguments ≤ 4
+          → AllByRecursion (FitsSpan p) (place arguments cell.from (cuts ++ cell.to ∷ []))
+          → AllByRecursion (λ boundary. boundary ≡ cell.to) (drop (length arguments - 1) (cuts ++ cell.to ∷ []))
           → AreArgumentValues p HasScore (place arguments cell.from (cuts ++ cell.to ∷ [])) values → HaveValues p HasScore arguments cell.from cell.to values
       by [] some few fits last are = absurd (omega arith)
       by (argument ∷ arguments) some few fits last are =
           let fewer : suc (length arguments) - 1 ≡ length arguments = omega arith in
           let C : ℕ → Type 0 = λ n. AllByRecursion (λ boundary. boundary ≡ cell.to) (drop n (cuts ++ cell.to ∷ [])) in
-          values_of_cuts HasScore argument arguments cell.from cell.to (cuts ++ cell.to ∷ []) values fits (subst C fewer last) are (omega (arith, length_ends cuts cell.to, viable.three))
+          values_of_cuts HasScore argument arguments cell.from cell.to (cuts ++ cell.to ∷ []) values fits
+          (subst C fewer last) are (omega (arith, length_ends cuts cell.to, viable.three))

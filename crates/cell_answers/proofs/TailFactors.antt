@@ -1,5 +1,6 @@
 -- The factors that score an alternative are one list, so those of a tail are too.
-use Rattle.std.proofs.Common.{◌≡◌, ℕ, ℤ, pos, ◌+ℤ◌, Option, Some, None, List, [], ◌∷◌, ◌++◌, length, refl, ap, sym, subst, ◌∙◌, arith, option_map, append_assoc, length-append}
+use Rattle.std.proofs.Common.{◌≡◌, ℕ, ℤ, pos, ◌+ℤ◌, Option, Some, None, List, [], ◌∷◌, ◌++◌, length, refl, ap, sym}
+use Rattle.std.proofs.Common.{subst, ◌∙◌, arith, option_map, append_assoc, length-append}
 use Rattle.std.proofs.lemmas.Int.{ints}
 use Rattle.std.proofs.Math.IntN.{*ℤ-zero, *ℤ-one}
 use Rattle.adp_model.specs.declared.grammar.Arg.{Arg}
@@ -71,7 +72,8 @@ same_ends [] after (x ∷ before') after' same each = absurd (omega (arith, each
 same_ends (x ∷ before) after [] after' same each = absurd (omega (arith, each, ap length same, length-append before after))
 same_ends (x ∷ before) after (y ∷ before') after' same each = same_ends before after before' after' (cc) each
 
-module _ (p : PosedProblem) (tail : Tail) (arguments others : List Arg) (factors more : List ℤ) (is : IsTail p tail arguments factors) (other : IsTail p tail others more) where
+module _ (p : PosedProblem) (tail : Tail) (arguments others : List Arg) (factors more : List ℤ)
+    (is : IsTail p tail arguments factors) (other : IsTail p tail others more) where
   pub same_arguments : arguments ≡ others
   same_arguments = same_ends is.before arguments other.before others (sym is.arguments_are ∙ other.arguments_are) (is.count ∙ sym other.count)
 
@@ -85,7 +87,8 @@ module _ (p : PosedProblem) (tail : Tail) (arguments others : List Arg) (factors
       same_ends is.factors_before factors other.factors_before more all_same (is.each ∙ is.count ∙ sym other.count ∙ sym other.each)
 
 -- so what is found of its arguments and factors is found of the tail
-pub tail_total_is : (p : PosedProblem) (tail : Tail) (arguments : List Arg) (factors : List ℤ) (from to : ℕ) (total : Option ℤ) → IsTail p tail arguments factors
+pub tail_total_is : (p : PosedProblem) (tail : Tail) (arguments : List Arg) (factors : List ℤ) (from to : ℕ)
+    (total : Option ℤ) → IsTail p tail arguments factors
     → IsGreatestOf (HasTotal p (HasBestScore p) arguments factors from to) total → IsTailTotal p tail from to total
 tail_total_is p tail arguments factors from to total is greatest = λ others more other.
     let A : List Arg → Type 0 = λ others. IsGreatestOf (HasTotal p (HasBestScore p) others more from to) total in
@@ -106,18 +109,22 @@ shorter_tail p rule alt argument others factor factors is = record {
   scored = subst (λ all. IsScoredBy p rule alt is.constant all) (sym (append_assoc is.factors_before (factor ∷ []) factors)) is.scored;
 }
 
-pub shorter_owner : (p : PosedProblem) (owner : Option Owner) (argument : Arg) (others : List Arg) (factor : ℤ) (factors : List ℤ) → IsOwner p owner (argument ∷ others) (factor ∷ factors) → IsOwner p owner others factors
+pub shorter_owner : (p : PosedProblem) (owner : Option Owner) (argument : Arg) (others : List Arg) (factor : ℤ)
+    (factors : List ℤ) → IsOwner p owner (argument ∷ others) (factor ∷ factors) → IsOwner p owner others factors
 shorter_owner p None argument others factor factors is = tt
 shorter_owner p (Some it) argument others factor factors is = shorter_tail p it.rule it.alt argument others factor factors is
 
-pub owner_tail : (p : PosedProblem) (owner : Option Owner) (arguments : List Arg) (factors : List ℤ) (tail : Tail) → Some tail ≡ option_map (λ it. tail_with it (length arguments)) owner → IsOwner p owner arguments factors → IsTail p tail arguments factors
+pub owner_tail : (p : PosedProblem) (owner : Option Owner) (arguments : List Arg) (factors : List ℤ) (tail : Tail)
+    → Some tail ≡ option_map (λ it. tail_with it (length arguments)) owner → IsOwner p owner arguments factors
+    → IsTail p tail arguments factors
 owner_tail p None arguments factors tail same is = absurd cc
 owner_tail p (Some it) arguments factors tail same is =
     let e : tail_with it (length arguments) ≡ tail = cc in
     subst (λ tail. IsTail p tail arguments factors) e is
 
 -- all arguments behind the tokens in front, where a sum scores the alternative
-pub whole_tail : (p : PosedProblem) (cell : Cell) (alt : ℕ) (kept : KeptAlternative) (is : IsAlternative p cell.rule alt kept) (sum : WeightedSum) (summed : IsSummed p cell.rule alt kept sum)
+pub whole_tail : (p : PosedProblem) (cell : Cell) (alt : ℕ) (kept : KeptAlternative)
+    (is : IsAlternative p cell.rule alt kept) (sum : WeightedSum) (summed : IsSummed p cell.rule alt kept sum)
     → IsTail p (record { rule = cell.rule; alt = alt; count = length kept.others.now }) kept.others.now (factors_behind kept sum)
 whole_tail p cell alt kept is sum summed = record {
   before = kept.front.now;
@@ -130,7 +137,8 @@ whole_tail p cell alt kept is sum summed = record {
 }
 
 -- all arguments of an alternative are the longest tail
-pub all_arguments_tail : (p : PosedProblem) (rule alt : ℕ) (constant : ℤ) (factors : List ℤ) → length factors ≡ length (arguments_of p.grammar rule alt) → IsScoredBy p rule alt constant factors
+pub all_arguments_tail : (p : PosedProblem) (rule alt : ℕ) (constant : ℤ) (factors : List ℤ)
+    → length factors ≡ length (arguments_of p.grammar rule alt) → IsScoredBy p rule alt constant factors
     → IsTail p (record { rule = rule; alt = alt; count = length (arguments_of p.grammar rule alt) }) (arguments_of p.grammar rule alt) factors
 all_arguments_tail p rule alt constant factors each scored = record {
   before = [];

@@ -1,5 +1,6 @@
 -- Rows of notes, as they are made and put.
-use Rattle.std.proofs.Common.{◌≡◌, ℕ, ℤ, zero, suc, Bool, true, false, ◌&&◌, eqb, Option, Some, List, [], ◌∷◌, ◌++◌, ◌⊎◌, ⊎_elim, inl, inr, get_or, refl, sym, ap, subst, ◌∙◌}
+use Rattle.std.proofs.Common.{◌≡◌, ℕ, ℤ, zero, suc, Bool, true, false, ◌&&◌, eqb, Option, Some, List, [], ◌∷◌, ◌++◌}
+use Rattle.std.proofs.Common.{◌⊎◌, ⊎_elim, inl, inr, get_or, refl, sym, ap, subst, ◌∙◌}
 use Rattle.std.specs.Prelude.{slice_get, slice_set}
 use Rattle.std.proofs.lemmas.Option.{get_or_from_slice_get}
 use Rattle.std.proofs.lemmas.Bool.{eqb-true, false≢true}
@@ -46,7 +47,10 @@ set_cases (y ∷ xs) zero (suc j) v x e = inr e
 set_cases (y ∷ xs) (suc i) zero v x e = inr e
 set_cases (y ∷ xs) (suc i) (suc j) v x e = ⊎_elim (λ (same, is). inl (ap (λ n. suc n) same, is)) (λ was. inr was) (set_cases xs i j v x e)
 
-module _ (p : PosedProblem) (tail : Tail) (from to : ℕ) (total : Option ℤ) (note : Note) (tells : (start end : ℕ) (said : Option ℤ) → Tells note start end said → (start ≡ from) × (end ≡ to) × (said ≡ total)) (told : IsTailTotal p tail from to total) (old new : TailRow) (same : old.tail ≡ tail) (noted : IsNoted old new note) where
+module _ (p : PosedProblem) (tail : Tail) (from to : ℕ) (total : Option ℤ) (note : Note)
+    (tells : (start end : ℕ) (said : Option ℤ) → Tells note start end said
+    → (start ≡ from) × (end ≡ to) × (said ≡ total)) (told : IsTailTotal p tail from to total) (old new : TailRow)
+    (same : old.tail ≡ tail) (noted : IsNoted old new note) where
   -- what is noted now is true
   note_true : (start end : ℕ) (said : Option ℤ) → Tells note start end said → IsTailTotal p new.tail start end said
   note_true start end said says =

@@ -19,12 +19,14 @@ use Rattle.cell_answers.proofs.Splitting.{child_of_demands}
 use Rattle.cell_answers.proofs.TermScores.{AreTermLaid}
 
 module _ (laws : AreTermLaws) (p : PosedProblem) (admissible : IsAdmissible p) (bounded : TokensKeepBound p) (cell : Cell) (alternative : ℕ)
-    (span : IsSpan p.word cell.from cell.to) (in_rules : cell.rule < length p.grammar.rules) (in_range : alternative < length (alternatives_of p.grammar cell.rule))
+    (span : IsSpan p.word cell.from cell.to) (in_rules : cell.rule < length p.grammar.rules)
+    (in_range : alternative < length (alternatives_of p.grammar cell.rule))
     (allowed : AllowsLength (alternative_at p.grammar cell.rule alternative) (cell.to - cell.from)) where
   abbrev arguments : List Arg
   arguments = arguments_of p.grammar cell.rule alternative
 
-  pub term_laid : (table : Table ℤ) → AllByRecursion (IsKnown p.grammar) arguments → length arguments ≤ 4 → HasValues (length arguments) (term_of p cell.rule alternative)
+  pub term_laid : (table : Table ℤ) → AllByRecursion (IsKnown p.grammar) arguments → length arguments ≤ 4
+      → HasValues (length arguments) (term_of p cell.rule alternative)
       → ((child : Cell) → IsDemandedChild p cell child → HasEntry table child)
       → (given : List Arg) → given ≡ arguments → (term : Term) → term ≡ term_of p cell.rule alternative → AreTermLaid p table term [] given cell.from cell.to
   term_laid table known few there scored given given_is term term_is =

@@ -1,5 +1,6 @@
 -- What a term comes to at the values of laid arguments, one end of the first argument after another.
-use Rattle.std.proofs.Common.{◌≡◌, ℕ, ◌+◌, ◌≤◌, ◌⊎◌, ℤ, nat_abs, Option, Some, None, List, [], ◌∷◌, ◌++◌, get_or, length, map, refl, sym, ap, subst, ◌∙◌, inl, inr, arith, length-append}
+use Rattle.std.proofs.Common.{◌≡◌, ℕ, ◌+◌, ◌≤◌, ◌⊎◌, ℤ, nat_abs, Option, Some, None, List, [], ◌∷◌, ◌++◌, get_or}
+use Rattle.std.proofs.Common.{length, map, refl, sym, ap, subst, ◌∙◌, inl, inr, arith, length-append}
 use Rattle.std.specs.List.{Contains}
 use Rattle.std.specs.declared.ops.Range.{Range}
 use Rattle.std.proofs.lemmas.Int.{ints}
@@ -54,7 +55,8 @@ module _ (p : PosedProblem) (term : Term) (before : List ℤ) (from to : ℕ) wh
   score_is number ([], have, is) = is ∙ ap (λ values. turned (algebra_of p).goal (term_value term values)) (none_more before)
   score_is number (value ∷ values, have, is) = absurd have
 
-  all_laid : (number : ℤ) → from ≡ to → number ≡ turned (algebra_of p).goal (term_value term before) → IsGreatestOf (HasTermScore p term before [] from to) (Some number)
+  all_laid : (number : ℤ) → from ≡ to → number ≡ turned (algebra_of p).goal (term_value term before)
+      → IsGreatestOf (HasTermScore p term before [] from to) (Some number)
   all_laid number same is = (
     ([], same, is ∙ sym (ap (λ values. turned (algebra_of p).goal (term_value term values)) (none_more before))),
     λ other has. let e : other ≡ number = score_is other has ∙ sym is in omega (arith, ints),
@@ -65,15 +67,19 @@ module _ (p : PosedProblem) (term : Term) (before : List ℤ) (from to : ℕ) wh
 
 -- the same of arguments of which there are none
 module _ (p : PosedProblem) (term : Term) (before : List ℤ) where
-  pub none_here : (arguments : List Arg) (from to : ℕ) → length arguments ≡ 0 → (from ≡ to → ⊥) → IsGreatestOf (HasTermScore p term before arguments from to) None
+  pub none_here : (arguments : List Arg) (from to : ℕ) → length arguments ≡ 0 → (from ≡ to → ⊥)
+      → IsGreatestOf (HasTermScore p term before arguments from to) None
   none_here [] from to none apart = none_apart p term before from to apart
   none_here (argument ∷ arguments) from to none apart = absurd (omega (arith, none))
 
-  pub score_here : (arguments : List Arg) (from to : ℕ) → length arguments ≡ 0 → (number : ℤ) → from ≡ to → number ≡ turned (algebra_of p).goal (term_value term before) → IsGreatestOf (HasTermScore p term before arguments from to) (Some number)
+  pub score_here : (arguments : List Arg) (from to : ℕ) → length arguments ≡ 0 → (number : ℤ) → from ≡ to
+      → number ≡ turned (algebra_of p).goal (term_value term before)
+      → IsGreatestOf (HasTermScore p term before arguments from to) (Some number)
   score_here [] from to none number same is = all_laid p term before from to number same is
   score_here (argument ∷ arguments) from to none number same is = absurd (omega (arith, none))
 
-  pub low_here : (arguments : List Arg) (from to : ℕ) → length arguments ≡ 0 → from ≡ to → AreTermArguments p term before arguments from to → magnitude term (map nat_abs before) ≤ greatest_score
+  pub low_here : (arguments : List Arg) (from to : ℕ) → length arguments ≡ 0 → from ≡ to
+      → AreTermArguments p term before arguments from to → magnitude term (map nat_abs before) ≤ greatest_score
   low_here [] from to none same are = low_alone p term before from to same are
   low_here (argument ∷ arguments) from to none same are = absurd (omega (arith, none))
 
@@ -103,13 +109,18 @@ module _ (p : PosedProblem) (term : Term) (before : List ℤ) (argument : Arg) (
   )
 
   pub at_score : (end : ℕ) (number : ℤ) → HasTermScoreAt end number → HasTermScore p term before (argument ∷ others) from to number
-  at_score end number at =
-      (at.value ∷ at.behind.0, (end, at.fits, at.is_value, at.behind.1), at.behind.2 ∙ ap (λ them. turned (algebra_of p).goal (term_value term them)) (more_before before at.value at.behind.0))
+  at_score end number at = (
+    at.value ∷ at.behind.0,
+    (end, at.fits, at.is_value, at.behind.1),
+    at.behind.2
+        ∙ ap (λ them. turned (algebra_of p).goal (term_value term them)) (more_before before at.value at.behind.0),
+  )
 
   abbrev pub HasTermScoreBefore : ℕ → ℤ → Type 0
   HasTermScoreBefore = HasBefore (λ end number. HasTermScoreAt end number)
 
-  module _ (table : Table ℤ) (laid : AreTermLaid p table term before (argument ∷ others) from to) (end : ℕ) (fits : FitsSpan p (on_span argument from end)) where
+  module _ (table : Table ℤ) (laid : AreTermLaid p table term before (argument ∷ others) from to) (end : ℕ)
+      (fits : FitsSpan p (on_span argument from end)) where
     pub first_low : nat_abs (token_value p.grammar argument (letters_between p.word from end)) ≤ greatest_score
     first_low = laid.are.tokens_low argument from end (0, omega arith, refl) fits
 
@@ -120,13 +131,16 @@ module _ (p : PosedProblem) (term : Term) (before : List ℤ) (argument : Arg) (
     pub unvalued_more : (AtRule (HasEntry table) (on_span argument from end) → (value : ℤ) → IsValue p (HasBestScore p) (on_span argument from end) value → ⊥)
         → (found : Option ℤ) → IsGreatestOf (HasTermScoreBefore end) found → IsGreatestOf (HasTermScoreBefore (end + 1)) found
     unvalued_more none found is =
-        before_none (λ end number. HasTermScoreAt end number) end found is (λ number at. none (first_known_entry (cover_behind end number at)) at.value at.is_value)
+        before_none (λ end number. HasTermScoreAt end number) end found is
+        (λ number at. none (first_known_entry (cover_behind end number at)) at.value at.is_value)
 
-    module _ (sound : AreSound p) (value : ℤ) (told : AtRule (HasEntry table) (on_span argument from end) → IsValue p (HasBestScore p) (on_span argument from end) value) where
+    module _ (sound : AreSound p) (value : ℤ) (told : AtRule (HasEntry table) (on_span argument from end)
+        → IsValue p (HasBestScore p) (on_span argument from end) value) where
       next : (at : ℕ) (token : Arg) → get_or others at token ≡ token → get_or (argument ∷ others) (at + 1) token ≡ token
       next at token is = grind (arith, is)
 
-      tokens_low : (token : Arg) (from' to' : ℕ) → Contains others token → FitsSpan p (on_span token from' to') → nat_abs (token_value p.grammar token (letters_between p.word from' to')) ≤ greatest_score
+      tokens_low : (token : Arg) (from' to' : ℕ) → Contains others token → FitsSpan p (on_span token from' to')
+          → nat_abs (token_value p.grammar token (letters_between p.word from' to')) ≤ greatest_score
       tokens_low token from' to' (at, within, is) fits' = laid.are.tokens_low token from' to' (at + 1, omega arith, next at token is) fits'
 
       counted : length before + length (argument ∷ others) ≡ length (before ++ value ∷ []) + length others
@@ -140,18 +154,29 @@ module _ (p : PosedProblem) (term : Term) (before : List ℤ) (argument : Arg) (
           there = subst (λ n. HasValues n term) counted laid.are.there;
           tokens_low = tokens_low;
           low = λ values have. subst (λ them. magnitude term (map nat_abs them) ≤ greatest_score) (sym (more_before before value values))
-              (laid.are.low (value ∷ values)
-              (end, fits, value_kept p (HasBestScore p) (IsWithinBound p) sound.within argument from end value (told (first_known_entry (values_cover p (IsWithinBound p) others end to values have))), have));
+              (laid.are.low (value ∷ values) (
+                end,
+                fits,
+                value_kept p (HasBestScore p) (IsWithinBound p) sound.within argument from end value
+                    (told (first_known_entry (values_cover p (IsWithinBound p) others end to values have))),
+                have,
+              ));
           bounded = λ number values scores have. subst (λ them. magnitude term (map nat_abs them) ≤ number) (sym (more_before before value values))
-              (laid.are.bounded number (value ∷ values) scores
-              (end, fits, value_kept p (HasBestScore p) (IsWithinBound p) sound.within argument from end value (told (first_known_entry (values_cover p (IsWithinBound p) others end to values have))), have));
+              (laid.are.bounded number (value ∷ values) scores (
+                end,
+                fits,
+                value_kept p (HasBestScore p) (IsWithinBound p) sound.within argument from end value
+                    (told (first_known_entry (values_cover p (IsWithinBound p) others end to values have))),
+                have,
+              ));
         };
         span = record { in_order = l; in_word = laid.span.in_word };
         scored = λ cell demands. laid.scored cell (end, fits, inr demands);
       }
 
       same_value : (number : ℤ) (at : HasTermScoreAt end number) → at.value ≡ value
-      same_value number at = value_unique p (HasBestScore p) sound.one argument from end at.value value at.is_value (told (first_known_entry (cover_behind end number at)))
+      same_value number at =
+          value_unique p (HasBestScore p) sound.one argument from end at.value value at.is_value (told (first_known_entry (cover_behind end number at)))
 
       pub to_at : (number : ℤ) → HasTermScore p term (before ++ value ∷ []) others end to number → HasTermScoreAt end number
       to_at number has = record {
@@ -162,12 +187,14 @@ module _ (p : PosedProblem) (term : Term) (before : List ℤ) (argument : Arg) (
       }
 
       -- what the others come to behind the value is what all come to at this end
-      pub greatest_here : (best : Option ℤ) → IsGreatestOf (HasTermScore p term (before ++ value ∷ []) others end to) best → IsGreatestOf (λ number. HasTermScoreAt end number) best
+      pub greatest_here : (best : Option ℤ) → IsGreatestOf (HasTermScore p term (before ++ value ∷ []) others end to)
+          best → IsGreatestOf (λ number. HasTermScoreAt end number) best
       greatest_here best it =
           greatest_same (HasTermScore p term (before ++ value ∷ []) others end to) (λ number. HasTermScoreAt end number) best to_at
           (λ number at. subst (λ v. HasTermScore p term (before ++ v ∷ []) others end to number) (same_value number at) at.behind) it
 
-      pub found_more : (best : Option ℤ) → IsGreatestOf (HasTermScore p term (before ++ value ∷ []) others end to) best → (found both : Option ℤ) → IsGreatestOf (HasTermScoreBefore end) found
+      pub found_more : (best : Option ℤ) → IsGreatestOf (HasTermScore p term (before ++ value ∷ []) others end to) best
+          → (found both : Option ℤ) → IsGreatestOf (HasTermScoreBefore end) found
           → IsGreatestOf (λ number. (found ≡ Some number) ⊎ (best ≡ Some number)) both → IsGreatestOf (HasTermScoreBefore (end + 1)) both
       found_more best it found both is either = before_more (λ end number. HasTermScoreAt end number) end found is best both (greatest_here best it) either
 
@@ -179,7 +206,9 @@ module _ (p : PosedProblem) (term : Term) (before : List ℤ) (argument : Arg) (
         omega (arith, missed.0, it.1)
 
     -- and behind the last one neither
-    pub all_found : (bound : ℕ) (greatest : Option ℤ) → positions.end ≤ bound → IsGreatestOf (HasTermScoreBefore bound) greatest → IsGreatestOf (HasTermScore p term before (argument ∷ others) from to) greatest
+    pub all_found : (bound : ℕ) (greatest : Option ℤ) → positions.end ≤ bound
+        → IsGreatestOf (HasTermScoreBefore bound) greatest
+        → IsGreatestOf (HasTermScore p term before (argument ∷ others) from to) greatest
     all_found bound greatest l =
         greatest_same (HasTermScoreBefore bound) (HasTermScore p term before (argument ∷ others) from to) greatest
         (λ number h. at_score h.0 number h.2)

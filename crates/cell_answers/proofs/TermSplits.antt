@@ -30,17 +30,21 @@ module _ (p : PosedProblem) where
     closed : AllByRecursion (λ boundary. boundary ≡ to) (drop (length arguments) ends)
     are : AreArgumentValues p (HasBestScore p) (place (argument ∷ arguments) from ends) values
 
-  placed_by : (argument : Arg) (arguments : List Arg) (from to : ℕ) (values : List ℤ) (ends : List ℕ) → HaveValuesBy p (argument ∷ arguments) from to values ends → ArePlacedBy argument arguments from to values ends
+  placed_by : (argument : Arg) (arguments : List Arg) (from to : ℕ) (values : List ℤ) (ends : List ℕ)
+      → HaveValuesBy p (argument ∷ arguments) from to values ends → ArePlacedBy argument arguments from to values ends
   placed_by argument arguments from to [] ends have = absurd have
   placed_by argument arguments from to (value ∷ values) [] have = absurd have
-  placed_by argument [] from to (value ∷ []) (end ∷ ends) (fits, is_value, (here, closed)) = record { fits = (fits, tt); closed = (here, closed); are = (is_value, tt) }
+  placed_by argument [] from to (value ∷ []) (end ∷ ends) (fits, is_value, (here, closed)) =
+      record { fits = (fits, tt); closed = (here, closed); are = (is_value, tt) }
   placed_by argument [] from to (value ∷ other ∷ values) (end ∷ ends) (fits, is_value, have) = absurd have
   placed_by argument (next ∷ arguments) from to (value ∷ values) (end ∷ ends) (fits, is_value, have) =
       let later = placed_by next arguments end to values ends have in
       record { fits = (fits, later.fits); closed = later.closed; are = (is_value, later.are) }
 
   by_placed : (argument : Arg) (arguments : List Arg) (from to : ℕ) (values : List ℤ) (ends : List ℕ) → length arguments + 1 ≤ length ends
-      → AllByRecursion (FitsSpan p) (place (argument ∷ arguments) from ends) → AllByRecursion (λ boundary. boundary ≡ to) (drop (length arguments) ends) → AreArgumentValues p (HasBestScore p) (place (argument ∷ arguments) from ends) values
+      → AllByRecursion (FitsSpan p) (place (argument ∷ arguments) from ends)
+      → AllByRecursion (λ boundary. boundary ≡ to) (drop (length arguments) ends)
+      → AreArgumentValues p (HasBestScore p) (place (argument ∷ arguments) from ends) values
       → HaveValuesBy p (argument ∷ arguments) from to values ends
   by_placed argument arguments from to values [] many fits closed are = absurd (omega arith)
   by_placed argument arguments from to [] (end ∷ ends) many fits closed are = absurd are
@@ -50,7 +54,8 @@ module _ (p : PosedProblem) where
       (fits.0, are.0, by_placed next arguments end to values ends (omega arith) fits.1 closed are.1)
 
 -- ends that are as many as the arguments, or more, come to the last position
-last_at : (p : PosedProblem) (arguments : List Arg) (from to : ℕ) (values : List ℤ) (x : ℕ) (xs : List ℕ) → length arguments ≤ length (x ∷ xs) → HaveValuesBy p arguments from to values (x ∷ xs) → last_of x xs ≡ to
+last_at : (p : PosedProblem) (arguments : List Arg) (from to : ℕ) (values : List ℤ) (x : ℕ) (xs : List ℕ)
+    → length arguments ≤ length (x ∷ xs) → HaveValuesBy p arguments from to values (x ∷ xs) → last_of x xs ≡ to
 last_at p [] from to [] x xs l have = last_all to x xs have.1
 last_at p [] from to (value ∷ values) x xs l have = absurd have
 last_at p (argument ∷ arguments) from to [] x xs l have = absurd have
@@ -105,7 +110,8 @@ module _ (p : PosedProblem) (bellman : Bellman p) (cell : Cell) (span : IsSpan p
       ends : List ℕ
       ends = cuts ++ cell.to ∷ []
 
-      by : (arguments : List Arg) → arguments_of p.grammar cell.rule alternative ≡ arguments → HaveValuesBy p (arguments_of p.grammar cell.rule alternative) cell.from cell.to scored.values ends
+      by : (arguments : List Arg) → arguments_of p.grammar cell.rule alternative ≡ arguments
+          → HaveValuesBy p (arguments_of p.grammar cell.rule alternative) cell.from cell.to scored.values ends
       by [] e = absurd (let l = some alternative in_range in omega (arith, ap length e))
       by (argument ∷ arguments) e =
           let fewer : length (arguments_of p.grammar cell.rule alternative) - 1 ≡ length arguments = omega (arith, ap length e) in
@@ -114,10 +120,12 @@ module _ (p : PosedProblem) (bellman : Bellman p) (cell : Cell) (span : IsSpan p
           let fits = subst (λ them. AllByRecursion (FitsSpan p) (place them cell.from ends)) e scored.viable.fits in
           let are = subst (λ them. AreArgumentValues p (HasBestScore p) (place them cell.from ends) scored.values) e scored.are_values in
           subst (λ them. HaveValuesBy p them cell.from cell.to scored.values ends) (sym e)
-          (by_placed p argument arguments cell.from cell.to scored.values ends (omega (arith, four, ap length e, scored.viable.three, length_ends p cuts cell.to)) fits closed are)
+          (by_placed p argument arguments cell.from cell.to scored.values ends
+          (omega (arith, four, ap length e, scored.viable.three, length_ends p cuts cell.to)) fits closed are)
 
   abbrev AreFirst : List ℕ → Type 0
-  AreFirst ends = AreFirstTermEnds p (term_of p cell.rule alternative) [] (arguments_of p.grammar cell.rule alternative) cell.from cell.to (turned goal best) ends
+  AreFirst ends =
+      AreFirstTermEnds p (term_of p cell.rule alternative) [] (arguments_of p.grammar cell.rule alternative) cell.from cell.to (turned goal best) ends
 
   -- the first ends are the cuts of the answer
   answer_by : (cuts : List ℕ) → length cuts ≡ 3 → AreFirst (cuts ++ cell.to ∷ []) → IsAnswer p cell (Best best (record { alt = alternative; cuts = cuts }))
@@ -128,5 +136,6 @@ module _ (p : PosedProblem) (bellman : Bellman p) (cell : Cell) (span : IsSpan p
   -- the same of four ends, the last of which is that of the cell
   pub answer_by_term_ends : (a b c d : ℕ) → AreFirst (a ∷ b ∷ c ∷ d ∷ []) → IsAnswer p cell (Best best (record { alt = alternative; cuts = a ∷ b ∷ c ∷ [] }))
   answer_by_term_ends a b c d first =
-      let last : d ≡ cell.to = last_at p (arguments_of p.grammar cell.rule alternative) cell.from cell.to first.have.0 a (b ∷ c ∷ d ∷ []) (few alternative) first.have.1 in
+      let last : d ≡ cell.to = last_at p (arguments_of p.grammar cell.rule alternative) cell.from cell.to first.have.0 a
+      (b ∷ c ∷ d ∷ []) (few alternative) first.have.1 in
       answer_by (a ∷ b ∷ c ∷ []) refl (subst (λ at. AreFirst (a ∷ b ∷ c ∷ at ∷ [])) last first)

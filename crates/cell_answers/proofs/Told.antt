@@ -34,7 +34,8 @@ module _ (width : Width) (goal : Goal) where
         | inr missing ↦ ap (λ b. if b then no_candidate else turned goal number) missing
       ]
 
-  pub value_told : (spans : Spans ℤ) (rule near far : ℕ) → value_at (told_spans width goal spans) rule near far ≡ option_map (told width goal) (value_at spans rule near far)
+  pub value_told : (spans : Spans ℤ) (rule near far : ℕ) → value_at (told_spans width goal spans) rule near far
+      ≡ option_map (told width goal) (value_at spans rule near far)
   value_told spans rule near far =
       elim (cases_Bool (ltb near spans.positions && (leb (block_at spans rule near).first far && ltb far (block_at spans rule near).past))) [
         | inl there ↦
@@ -46,7 +47,8 @@ module _ (width : Width) (goal : Goal) where
             ∙ sym (ap (λ b. option_map (told width goal) (cond b (slice_get spans.values (place_of spans rule near far)) None)) missing)
       ]
 
-  pub told_written : (old new : Spans ℤ) (rule near far : ℕ) (number : ℤ) → IsWritten old new rule near far number → IsWritten (told_spans width goal old) (told_spans width goal new) rule near far (told width goal number)
+  pub told_written : (old new : Spans ℤ) (rule near far : ℕ) (number : ℤ) → IsWritten old new rule near far number
+      → IsWritten (told_spans width goal old) (told_spans width goal new) rule near far (told width goal number)
   told_written old new rule near far number written = record {
     same = record {
       positions = written.same.positions;
@@ -54,11 +56,15 @@ module _ (width : Width) (goal : Goal) where
       as_many = length-map new.values (told width goal) ∙ written.same.as_many ∙ sym (length-map old.values (told width goal));
     };
     there = value_told new rule near far ∙ ap (option_map (told width goal)) written.there;
-    others = λ rule' near' far' apart. value_told new rule' near' far' ∙ ap (option_map (told width goal)) (written.others rule' near' far' apart) ∙ sym (value_told old rule' near' far');
+    others = λ rule' near' far' apart. value_told new rule' near' far' ∙ ap (option_map (told width goal))
+        (written.others rule' near' far' apart) ∙ sym (value_told old rule' near' far');
   }
 
-pub proper_written : (width : Width) (old new : Spans ℤ) (rule near far : ℕ) (number : ℤ) → IsWritten old new rule near far number → IsProper width number → AreProperSpans width old → AreProperSpans width new
-proper_written width old new rule near far number written proper each rule' near' far' number' there = go (cases_eq rule' rule) (cases_eq near' near) (cases_eq far' far)
+pub proper_written : (width : Width) (old new : Spans ℤ) (rule near far : ℕ) (number : ℤ)
+    → IsWritten old new rule near far number → IsProper width number → AreProperSpans width old
+    → AreProperSpans width new
+proper_written width old new rule near far number written proper each rule' near' far' number' there =
+    go (cases_eq rule' rule) (cases_eq near' near) (cases_eq far' far)
   where
     kept : ((rule' ≡ rule) × (near' ≡ near) × (far' ≡ far) → ⊥) → IsProper width number'
     kept apart = each rule' near' far' number' (sym (written.others rule' near' far' apart) ∙ there)

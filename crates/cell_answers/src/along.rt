@@ -233,6 +233,7 @@ fn greatest_with_letters(lines: &Lines<'_>, line: &OpenedLine<'_>) -> Option<i64
         line.now.from line.now.boundary.last) result }
 {
     if let Some(weighed) = weighed_line(lines, line) {
+        let (weights, scales) = (weighed.weights, weighed.scales);
         lines.problem().admissible();
         bounds_are_sound();
         answer_is_unique();
@@ -242,35 +243,17 @@ fn greatest_with_letters(lines: &Lines<'_>, line: &OpenedLine<'_>) -> Option<i64
         };
         match (line.row.numbers, line.column.numbers) {
             (Numbers::Short(first), Numbers::Short(second)) => {
-                return greatest_short_weighed(
-                    first,
-                    second,
-                    weighed.weights,
-                    positions,
-                    weighed.scales,
-                );
+                return greatest_short_weighed(first, second, weights, positions, scales);
             }
             (Numbers::Medium(first), Numbers::Medium(second)) => {
-                return greatest_medium_weighed(
-                    first,
-                    second,
-                    weighed.weights,
-                    positions,
-                    weighed.scales,
-                );
+                return greatest_medium_weighed(first, second, weights, positions, scales);
             }
             (Numbers::Long(first), Numbers::Long(second)) => {
-                return greatest_long_weighed(
-                    first,
-                    second,
-                    weighed.weights,
-                    positions,
-                    weighed.scales,
-                );
+                return greatest_long_weighed(first, second, weights, positions, scales);
             }
             (Numbers::Whole(first), Numbers::Whole(second)) => {
                 let factors = factors_of(line);
-                return greatest_whole_weighed(first, second, weighed.weights, positions, factors);
+                return greatest_whole_weighed(first, second, weights, positions, factors);
             }
             _ => {}
         }

@@ -73,6 +73,7 @@ fn first_with_letters(lines: &Lines<'_>, line: &OpenedLine<'_>, total: i64) -> O
         (λ position. HasLineTotal lines.now line.now position total) result }
 {
     if let Some(weighed) = weighed_line(lines, line) {
+        let (weights, scales) = (weighed.weights, weighed.scales);
         lines.problem().admissible();
         bounds_are_sound();
         answer_is_unique();
@@ -82,45 +83,17 @@ fn first_with_letters(lines: &Lines<'_>, line: &OpenedLine<'_>, total: i64) -> O
         };
         match (line.row.numbers, line.column.numbers) {
             (Numbers::Short(first), Numbers::Short(second)) => {
-                return first_short_weighed(
-                    first,
-                    second,
-                    weighed.weights,
-                    positions,
-                    weighed.scales,
-                    total,
-                );
+                return first_short_weighed(first, second, weights, positions, scales, total);
             }
             (Numbers::Medium(first), Numbers::Medium(second)) => {
-                return first_medium_weighed(
-                    first,
-                    second,
-                    weighed.weights,
-                    positions,
-                    weighed.scales,
-                    total,
-                );
+                return first_medium_weighed(first, second, weights, positions, scales, total);
             }
             (Numbers::Long(first), Numbers::Long(second)) => {
-                return first_long_weighed(
-                    first,
-                    second,
-                    weighed.weights,
-                    positions,
-                    weighed.scales,
-                    total,
-                );
+                return first_long_weighed(first, second, weights, positions, scales, total);
             }
             (Numbers::Whole(first), Numbers::Whole(second)) => {
                 let factors = factors_of(line);
-                return first_whole_weighed(
-                    first,
-                    second,
-                    weighed.weights,
-                    positions,
-                    factors,
-                    total,
-                );
+                return first_whole_weighed(first, second, weights, positions, factors, total);
             }
             _ => {}
         }

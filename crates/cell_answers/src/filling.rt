@@ -9,7 +9,7 @@ ghost use Rattle.adp_model.specs.Answers.{IsAnswer};
 ghost use Rattle.adp_model.specs.Bellman.{HasBestScore};
 ghost use Rattle.adp_model.specs.Demand.{IsDemandedChild};
 ghost use Rattle.adp_model.specs.Splits.{FitsSpan};
-ghost use Rattle.viable_splits.specs.Placing.{on_span};
+ghost use Rattle.viable_splits.specs.Placing.{ArePositions, on_span};
 ghost use Rattle.split_lines.specs.Beginnings.{IsCandidate};
 ghost use Rattle.split_lines.specs.Kept.{IsAlternative, IsSummed};
 ghost use Rattle.split_lines.specs.Laid.{Demands};
@@ -39,6 +39,7 @@ use split_lines::{
     Candidates, KeptAlternative, Line, Lines, Scoring, Way, WeightedSum, is_fixed,
     line_begins_here, line_begins_later, line_here,
 };
+use std::ops::Range;
 
 /// The best score of a cell and the first alternative that gives it.
 #[derive(Clone, Copy)]
@@ -175,6 +176,49 @@ fn total_at(
     Some(laid.factor * value + rest)
 }
 
+/// The greatest total of laid arguments whose first one may end at no other positions than these: end by end, and at
+/// once over those from which it is noted what the others are worth.
+#[cycle(totals)]
+#[inline(always)]
+fn total_by_ends(
+    known: &Known<'_, '_>,
+    tails: &mut Tails<'_>,
+    ahead: u8,
+    laid: &LaidArguments<'_>,
+    ends: Range<u16>,
+) -> Option<i64>
+    requires same_problem { known.now.scores.now.problem ≡ known.now.lines.now }
+    requires same_tails { tails.old ≡ known.now.lines.now }
+    requires owner { IsOwner known.now.lines.now known.now.owner laid.now.others.now laid.now.factors.now }
+    requires line { IfSome known.now.line (λ line. IsLine known.now.lines.now (drop ahead laid.now.others.now) line) }
+    requires laid { AreLaidOut known.now.lines.now known.now.scores.now laid.now }
+    requires ends { ArePositions known.now.lines.now laid.now.first.now laid.now.others.now laid.now.from laid.now.to
+        ends }
+    ensures same { tails.new ≡ tails.old }
+    ensures greatest { IsGreatestOf (HasTotal known.now.lines.now (HasBestScore known.now.lines.now)
+        (laid.now.first.now ∷ laid.now.others.now) (laid.now.factor ∷ laid.now.factors.now) laid.now.from laid.now.to)
+        result }
+{
+    let Known { lines, scores, .. } = *known;
+    let tail = tail_of(known.owner, laid.others);
+    let sides = side_by_side(scores, tail, laid, ends.start, ends.end);
+    let mut reached = Reached {
+        greatest: None,
+        end: ends.start,
+    };
+    while reached.end < ends.end {
+        reached = over_noted(lines, scores, tails, laid, sides, reached, ends.end);
+        if reached.end < ends.end {
+            let total = total_at(known, tails, ahead, laid, reached.end);
+            reached = Reached {
+                greatest: greater(reached.greatest, total),
+                end: reached.end + 1,
+            };
+        }
+    }
+    reached.greatest
+}
+
 /// The greatest total of arguments that are laid from `from` to `to`. If they have a line, `ahead` of them come before
 /// it.
 #[cycle(totals)]
@@ -232,24 +276,8 @@ fn greatest_total(
         from,
         to,
     };
-    let positions = lines.ends_of_first(arguments, from, to);
-    let tail = tail_of(known.owner, others);
-    let sides = side_by_side(scores, tail, &laid, positions.start, positions.end);
-    let mut reached = Reached {
-        greatest: None,
-        end: positions.start,
-    };
-    while reached.end < positions.end {
-        reached = over_noted(lines, scores, tails, &laid, sides, reached, positions.end);
-        if reached.end < positions.end {
-            let total = total_at(known, tails, ahead, &laid, reached.end);
-            reached = Reached {
-                greatest: greater(reached.greatest, total),
-                end: reached.end + 1,
-            };
-        }
-    }
-    reached.greatest
+    let ends = lines.ends_of_first(arguments, from, to);
+    total_by_ends(known, tails, ahead, &laid, ends)
 }
 
 /// The greatest total of several arguments that are laid from `from` to `to`, along their line if they have one.

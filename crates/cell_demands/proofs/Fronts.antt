@@ -15,7 +15,8 @@ module _ (p : PosedProblem) (front others : List Arg) (from to : ℕ) (fixed : A
   pub demanded_behind : (cell : Cell) → Demands p others end to cell → Demands p (front ++ others) from to cell
   demanded_behind cell demands = demands_join p front others from end to cell covers demands
 
-  pub marked_behind_front : (begin : ℕ) (old new : CellMarks) → AreMarkedFrom begin old new (Demands p others end to) → AreMarkedFrom begin old new (Demands p (front ++ others) from to)
+  pub marked_behind_front : (begin : ℕ) (old new : CellMarks) → AreMarkedFrom begin old new (Demands p others end to)
+      → AreMarkedFrom begin old new (Demands p (front ++ others) from to)
   marked_behind_front begin old new marked =
       marked_like begin old new (Demands p others end to) (Demands p (front ++ others) from to)
       (λ cell demands. demanded_behind cell demands)

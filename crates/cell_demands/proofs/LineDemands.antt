@@ -1,5 +1,6 @@
 -- What arguments demand: with the first of them on a span, along a line, and by alternatives.
-use Rattle.std.proofs.Common.{◌≡◌, ◌⊎◌, ◌↔◌, ℕ, ◌+◌, ◌<◌, ◌≤◌, Bool, true, false, not, ◌||◌, IsTrue, List, [], ◌∷◌, ◌++◌, length, get_or, refl, sym, subst, inl, inr, ⊎_elim, arith}
+use Rattle.std.proofs.Common.{◌≡◌, ◌⊎◌, ◌↔◌, ℕ, ◌+◌, ◌<◌, ◌≤◌, Bool, true, false, not, ◌||◌, IsTrue, List, [], ◌∷◌}
+use Rattle.std.proofs.Common.{◌++◌, length, get_or, refl, sym, subst, inl, inr, ⊎_elim, arith}
 use Rattle.std.specs.Prelude.{◌==◌}
 use Rattle.std.specs.List.{AllByRecursion, Contains}
 use Rattle.std.specs.declared.ops.Range.{Range}
@@ -51,22 +52,29 @@ module _ (p : PosedProblem) where
   fixed_demands_none (token ∷ tokens) from to cell fixed (end, fits, inl (is, cover)) = no_cell token from end cell fixed.0 is
   fixed_demands_none (token ∷ tokens) from to cell fixed (end, fits, inr later) = fixed_demands_none tokens end to cell fixed.1 later
 
-  pub demands_behind : (tokens back : List Arg) (from to : ℕ) (cell : Cell) → AllByRecursion IsFixed tokens → Demands p (tokens ++ back) from to cell → (middle : ℕ) × Cover p tokens from middle × Demands p back middle to cell
+  pub demands_behind : (tokens back : List Arg) (from to : ℕ) (cell : Cell) → AllByRecursion IsFixed tokens
+      → Demands p (tokens ++ back) from to cell → (middle : ℕ) × Cover p tokens from middle × Demands p back
+      middle to cell
   demands_behind [] back from to cell fixed demands = (from, refl, demands)
   demands_behind (token ∷ tokens) back from to cell fixed (end, fits, inl (is, cover)) = absurd (no_cell token from end cell fixed.0 is)
   demands_behind (token ∷ tokens) back from to cell fixed (end, fits, inr later) =
       let parts = demands_behind tokens back end to cell fixed.1 later in
       (parts.0, (end, fits, parts.1), parts.2)
 
-  pub demands_join : (tokens back : List Arg) (from middle to : ℕ) (cell : Cell) → Cover p tokens from middle → Demands p back middle to cell → Demands p (tokens ++ back) from to cell
+  pub demands_join : (tokens back : List Arg) (from middle to : ℕ) (cell : Cell) → Cover p tokens from middle
+      → Demands p back middle to cell → Demands p (tokens ++ back) from to cell
   demands_join [] back from middle to cell here demands = subst (λ at. Demands p back at to cell) (sym here) demands
-  demands_join (token ∷ tokens) back from middle to cell (end, fits, others) demands = (end, fits, inr (demands_join tokens back end middle to cell others demands))
+  demands_join (token ∷ tokens) back from middle to cell (end, fits, others) demands =
+      (end, fits, inr (demands_join tokens back end middle to cell others demands))
 
-  module _ (parts : LineParts) (from to letters last : ℕ) (positions : List ℕ) (middle_fixed : AllByRecursion IsFixed parts.middle) (tail_fixed : AllByRecursion IsFixed parts.tail) (boundaries : AreBoundaries p parts from to letters last positions) where
+  module _ (parts : LineParts) (from to letters last : ℕ) (positions : List ℕ)
+      (middle_fixed : AllByRecursion IsFixed parts.middle) (tail_fixed : AllByRecursion IsFixed parts.tail)
+      (boundaries : AreBoundaries p parts from to letters last positions) where
     abbrev line : List Arg
     line = (parts.first ∷ parts.middle) ++ (parts.second ∷ parts.tail)
 
-    position_found : (place : ℕ) → FitsSpan p (on_span parts.first from place) → (middle end : ℕ) → Cover p parts.middle place middle → FitsSpan p (on_span parts.second middle end) → Cover p parts.tail end to
+    position_found : (place : ℕ) → FitsSpan p (on_span parts.first from place) → (middle end : ℕ)
+        → Cover p parts.middle place middle → FitsSpan p (on_span parts.second middle end) → Cover p parts.tail end to
         → Contains positions place × (middle ≡ place + letters) × (end ≡ last)
     position_found place first middle end tokens second tail =
         let same = boundaries.one_middle place middle tokens in
@@ -90,7 +98,8 @@ module _ (p : PosedProblem) where
 
     -- the cells that a line demands: those of the first argument up to the boundary, and those of the second one behind it
     pub line_demands : (cell : Cell) → Demands p line from to cell
-        → ((place : ℕ) × Contains positions place × IsCellOf parts.first from place cell) ⊎ ((place : ℕ) × Contains positions place × IsCellOf parts.second (place + letters) last cell)
+        → ((place : ℕ) × Contains positions place × IsCellOf parts.first from place cell)
+        ⊎ ((place : ℕ) × Contains positions place × IsCellOf parts.second (place + letters) last cell)
     line_demands cell (place, first, inl (is, cover)) =
         let parts' = cover_parts parts.middle (parts.second ∷ parts.tail) place to cover in
         let found = position_found place first parts'.0 parts'.2.0 parts'.1 parts'.2.1 parts'.2.2 in
@@ -99,8 +108,10 @@ module _ (p : PosedProblem) where
         let behind = demands_behind parts.middle (parts.second ∷ parts.tail) place to cell middle_fixed later in
         second_demands place first cell behind.0 behind.1 behind.2
       where
-        second_demands : (place : ℕ) → FitsSpan p (on_span parts.first from place) → (cell : Cell) (middle : ℕ) → Cover p parts.middle place middle → Demands p (parts.second ∷ parts.tail) middle to cell
-            → ((place : ℕ) × Contains positions place × IsCellOf parts.first from place cell) ⊎ ((place : ℕ) × Contains positions place × IsCellOf parts.second (place + letters) last cell)
+        second_demands : (place : ℕ) → FitsSpan p (on_span parts.first from place) → (cell : Cell) (middle : ℕ)
+            → Cover p parts.middle place middle → Demands p (parts.second ∷ parts.tail) middle to cell
+            → ((place : ℕ) × Contains positions place × IsCellOf parts.first from place cell)
+            ⊎ ((place : ℕ) × Contains positions place × IsCellOf parts.second (place + letters) last cell)
         second_demands place first cell middle tokens (end, second, inl (is, tail)) =
             let found = position_found place first middle end tokens second tail in
             let C : ℕ → ℕ → Type 0 = λ at till. IsCellOf parts.second at till cell in
@@ -119,7 +130,9 @@ module _ (p : PosedProblem) where
 
 -- ---- arguments that begin with the first one of a line
 
-module _ (p : PosedProblem) (arguments : List Arg) (between from to letters last : ℕ) (positions : List ℕ) (has : HasLine arguments between) (boundaries : AreBoundaries p (parts_by arguments between) from to letters last positions) where
+module _ (p : PosedProblem) (arguments : List Arg) (between from to letters last : ℕ) (positions : List ℕ)
+    (has : HasLine arguments between)
+    (boundaries : AreBoundaries p (parts_by arguments between) from to letters last positions) where
   abbrev parts : LineParts
   parts = parts_by arguments between
 
@@ -135,36 +148,46 @@ module _ (p : PosedProblem) (arguments : List Arg) (between from to letters last
   second_is : (argument : Arg) → argument ≡ get_or arguments (between + 1) argument → argument ≡ parts.second
   second_is argument read = get_or_read arguments (between + 1) argument has.several read (Rule 0)
 
-  pub demands_first : (argument : Arg) → argument ≡ get_or arguments 0 argument → (cell : Cell) (place : ℕ) → Contains positions place → IsCellOf argument from place cell → Demands p arguments from to cell
+  pub demands_first : (argument : Arg) → argument ≡ get_or arguments 0 argument → (cell : Cell) (place : ℕ)
+      → Contains positions place → IsCellOf argument from place cell → Demands p arguments from to cell
   demands_first argument read cell place there is =
       from_parts (λ all. Demands p all from to cell)
-      (first_demanded p parts from to letters last positions has.parts.middle_fixed has.parts.tail_fixed boundaries cell place there (subst (λ it. IsCellOf it from place cell) (first_is argument read) is))
+      (first_demanded p parts from to letters last positions has.parts.middle_fixed has.parts.tail_fixed boundaries cell
+      place there (subst (λ it. IsCellOf it from place cell) (first_is argument read) is))
 
-  pub demands_second : (argument : Arg) → argument ≡ get_or arguments (between + 1) argument → (cell : Cell) (place : ℕ) → Contains positions place → IsCellOf argument (place + letters) last cell → Demands p arguments from to cell
+  pub demands_second : (argument : Arg) → argument ≡ get_or arguments (between + 1) argument → (cell : Cell) (place : ℕ)
+      → Contains positions place → IsCellOf argument (place + letters) last cell → Demands p arguments from to cell
   demands_second argument read cell place there is =
       from_parts (λ all. Demands p all from to cell)
-      (second_demanded p parts from to letters last positions has.parts.middle_fixed has.parts.tail_fixed boundaries cell place there (subst (λ it. IsCellOf it (place + letters) last cell) (second_is argument read) is))
+      (second_demanded p parts from to letters last positions has.parts.middle_fixed has.parts.tail_fixed boundaries
+      cell place there (subst (λ it. IsCellOf it (place + letters) last cell) (second_is argument read) is))
 
-  pub demanded_by_line : (first second : Arg) → first ≡ get_or arguments 0 first → second ≡ get_or arguments (between + 1) second → (cell : Cell) → Demands p arguments from to cell
-      → ((place : ℕ) × Contains positions place × IsCellOf first from place cell) ⊎ ((place : ℕ) × Contains positions place × IsCellOf second (place + letters) last cell)
+  pub demanded_by_line : (first second : Arg) → first ≡ get_or arguments 0 first
+      → second ≡ get_or arguments (between + 1) second → (cell : Cell) → Demands p arguments from to cell
+      → ((place : ℕ) × Contains positions place × IsCellOf first from place cell)
+      ⊎ ((place : ℕ) × Contains positions place × IsCellOf second (place + letters) last cell)
   demanded_by_line first second read read' cell demands =
       ⊎_elim
       (λ (place, there, is). inl (place, there, subst (λ it. IsCellOf it from place cell) (sym (first_is first read)) is))
       (λ (place, there, is). inr (place, there, subst (λ it. IsCellOf it (place + letters) last cell) (sym (second_is second read')) is))
-      (line_demands p parts from to letters last positions has.parts.middle_fixed has.parts.tail_fixed boundaries cell (back_to_parts (λ all. Demands p all from to cell) demands))
+      (line_demands p parts from to letters last positions has.parts.middle_fixed has.parts.tail_fixed boundaries cell
+      (back_to_parts (λ all. Demands p all from to cell) demands))
 
   -- the line may have the letters where the boundary has a place
   pub cover_told : (is_empty : Bool) → is_empty ≡ (length positions == 0) → IsTrue (not is_empty) ↔ Cover p arguments from to
   cover_told true e = (
     λ none. absurd cc,
     λ cover.
-        let there = line_cover p parts from to letters last positions has.parts.middle_fixed has.parts.tail_fixed boundaries (back_to_parts (λ all. Cover p all from to) cover) in
+        let there = line_cover p parts from to letters last positions has.parts.middle_fixed has.parts.tail_fixed
+        boundaries (back_to_parts (λ all. Cover p all from to) cover) in
         let none : length positions ≡ 0 = eqb-true (length positions) 0 (sym e) in
         let at = there.1 in
         absurd (omega (arith, at.1)),
   )
   cover_told false e = (
-    λ some. from_parts (λ all. Cover p all from to) (cover_line p parts from to letters last positions has.parts.middle_fixed has.parts.tail_fixed boundaries (get_or positions 0 0) (some_position positions e)),
+    λ some. from_parts (λ all. Cover p all from to)
+        (cover_line p parts from to letters last positions has.parts.middle_fixed has.parts.tail_fixed boundaries
+        (get_or positions 0 0) (some_position positions e)),
     λ cover. refl,
   )
     where
@@ -179,7 +202,8 @@ module _ (p : PosedProblem) (argument : Arg) (others : List Arg) (from to low en
   last_or_before high l = elim (cases_lt high end) [ inl before ↦ inl before | inr behind ↦ inr (omega arith) ]
 
   covers_cases : CoversBelow p argument others from to low (end + 1) → CoversBelow p argument others from to low end ⊎ Cover p others end to
-  covers_cases (at, l, m, fits, cover) = ⊎_elim (λ before. inl (at, l, before, fits, cover)) (λ e. inr (subst (λ x. Cover p others x to) e cover)) (last_or_before at m)
+  covers_cases (at, l, m, fits, cover) =
+      ⊎_elim (λ before. inl (at, l, before, fits, cover)) (λ e. inr (subst (λ x. Cover p others x to) e cover)) (last_or_before at m)
 
   demands_cases : (cell : Cell) → DemandsBelow p argument others from to low (end + 1) cell
       → DemandsBelow p argument others from to low end cell ⊎ ((IsCellOf argument from end cell × Cover p others end to) ⊎ Demands p others end to cell)
@@ -190,24 +214,35 @@ module _ (p : PosedProblem) (argument : Arg) (others : List Arg) (from to low en
   demands_keep : (cell : Cell) → DemandsBelow p argument others from to low end cell → DemandsBelow p argument others from to low (end + 1) cell
   demands_keep cell (at, l, m, fits, some) = (at, l, omega arith, fits, some)
 
-  module _ (fits : FitsSpan p (on_span argument from end)) (above : low ≤ end) (begin : ℕ) (first second third : CellMarks) (before : AreMarkedFrom begin first second (DemandsBelow p argument others from to low end)) (here : AreMarkedFrom begin second third (Demands p others end to)) where
+  module _ (fits : FitsSpan p (on_span argument from end)) (above : low ≤ end) (begin : ℕ)
+      (first second third : CellMarks)
+      (before : AreMarkedFrom begin first second (DemandsBelow p argument others from to low end))
+      (here : AreMarkedFrom begin second third (Demands p others end to)) where
     -- the others may not have the letters behind this end: nothing was marked
     pub marked_none : (Cover p others end to → ⊥) → AreMarkedFrom begin first third (DemandsBelow p argument others from to low (end + 1))
     marked_none none =
-        marked_like begin first third (λ cell. DemandsBelow p argument others from to low end cell ⊎ Demands p others end to cell) (DemandsBelow p argument others from to low (end + 1))
+        marked_like begin first third (λ cell. DemandsBelow p argument others from to low end cell
+        ⊎ Demands p others end to cell) (DemandsBelow p argument others from to low (end + 1))
         (λ cell some. ⊎_elim (demands_keep cell) (λ demands. absurd (none (cover_of_demands p others end to cell demands))) some)
         (λ cell demands. ⊎_elim (λ was. inl was) (λ now. ⊎_elim (λ (is, cover). absurd (none cover)) (λ later. inr later) now) (demands_cases cell demands))
         (marked_more begin first second third (DemandsBelow p argument others from to low end) (Demands p others end to) before here)
 
-    pub marked_some : (fourth : CellMarks) → Cover p others end to → AreMarkedFrom begin third fourth (IsCellOf argument from end) → AreMarkedFrom begin first fourth (DemandsBelow p argument others from to low (end + 1))
+    pub marked_some : (fourth : CellMarks) → Cover p others end to
+        → AreMarkedFrom begin third fourth (IsCellOf argument from end)
+        → AreMarkedFrom begin first fourth (DemandsBelow p argument others from to low (end + 1))
     marked_some fourth cover last =
-        marked_like begin first fourth (λ cell. (DemandsBelow p argument others from to low end cell ⊎ Demands p others end to cell) ⊎ IsCellOf argument from end cell) (DemandsBelow p argument others from to low (end + 1))
-        (λ cell some. ⊎_elim (λ early. ⊎_elim (demands_keep cell) (λ later. (end, above, omega arith, fits, inr later)) early) (λ is. (end, above, omega arith, fits, inl (is, cover))) some)
+        marked_like begin first fourth
+        (λ cell. (DemandsBelow p argument others from to low end cell ⊎ Demands p others end to cell)
+        ⊎ IsCellOf argument from end cell) (DemandsBelow p argument others from to low (end + 1))
+        (λ cell some. ⊎_elim (λ early. ⊎_elim (demands_keep cell) (λ later. (end, above, omega arith, fits, inr later))
+        early) (λ is. (end, above, omega arith, fits, inl (is, cover))) some)
         (λ cell demands. ⊎_elim (λ was. inl (inl was)) (λ now. ⊎_elim (λ (is, _). inr is) (λ later. inl (inr later)) now) (demands_cases cell demands))
-        (marked_more begin first third fourth (λ cell. DemandsBelow p argument others from to low end cell ⊎ Demands p others end to cell) (IsCellOf argument from end)
+        (marked_more begin first third fourth (λ cell. DemandsBelow p argument others from to low end cell
+        ⊎ Demands p others end to cell) (IsCellOf argument from end)
         (marked_more begin first second third (DemandsBelow p argument others from to low end) (Demands p others end to) before here) last)
 
-  pub covers_none : (was : Bool) → IsTrue was ↔ CoversBelow p argument others from to low end → (Cover p others end to → ⊥) → IsTrue was ↔ CoversBelow p argument others from to low (end + 1)
+  pub covers_none : (was : Bool) → IsTrue was ↔ CoversBelow p argument others from to low end
+      → (Cover p others end to → ⊥) → IsTrue was ↔ CoversBelow p argument others from to low (end + 1)
   covers_none was told none = (
     λ is. let c = told.0 is in (c.0, c.1, omega (arith, c.2), c.3, c.4),
     λ covers. ⊎_elim (λ early. told.1 early) (λ cover. absurd (none cover)) (covers_cases covers),
@@ -254,14 +289,18 @@ module _ (p : PosedProblem) (argument : Arg) (others : List Arg) (from to low mi
 
 -- ---- all ends of the first argument
 
-module _ (p : PosedProblem) (argument : Arg) (others : List Arg) (from to : ℕ) (positions : Range ℕ) (past : ℕ) (are : ArePositions p argument others from to positions) (whole : positions.end ≤ past) where
-  pub all_covered : (is_laid : Bool) → IsTrue is_laid ↔ CoversBelow p argument others from to positions.start past → IsTrue is_laid ↔ Cover p (argument ∷ others) from to
+module _ (p : PosedProblem) (argument : Arg) (others : List Arg) (from to : ℕ) (positions : Range ℕ) (past : ℕ)
+    (are : ArePositions p argument others from to positions) (whole : positions.end ≤ past) where
+  pub all_covered : (is_laid : Bool) → IsTrue is_laid ↔ CoversBelow p argument others from to positions.start past
+      → IsTrue is_laid ↔ Cover p (argument ∷ others) from to
   all_covered is_laid told = (
     λ is. let c = told.0 is in (c.0, c.3, c.4),
     λ (end, fits, cover). let within = are.none_missed end fits cover in told.1 (end, within.0, omega (arith, within.1), fits, cover),
   )
 
-  pub all_marked : (begin : ℕ) (first second : CellMarks) → AreMarkedFrom begin first second (DemandsBelow p argument others from to positions.start past) → AreMarkedFrom begin first second (Demands p (argument ∷ others) from to)
+  pub all_marked : (begin : ℕ) (first second : CellMarks)
+      → AreMarkedFrom begin first second (DemandsBelow p argument others from to positions.start past)
+      → AreMarkedFrom begin first second (Demands p (argument ∷ others) from to)
   all_marked begin first second marked =
       marked_like begin first second (DemandsBelow p argument others from to positions.start past) (Demands p (argument ∷ others) from to)
       (λ cell (end, l, m, fits, some). (end, fits, some))
@@ -279,7 +318,9 @@ DemandsByFirst p cell count child =
     (alternative : ℕ) × (alternative < count) × DemandsBy p cell alternative child
 
 module _ (p : PosedProblem) (cell : Cell) where
-  pub one_more_alternative : (begin count : ℕ) (first second third : CellMarks) → AreMarkedFrom begin first second (DemandsByFirst p cell count) → AreMarkedFrom begin second third (DemandsBy p cell count)
+  pub one_more_alternative : (begin count : ℕ) (first second third : CellMarks)
+      → AreMarkedFrom begin first second (DemandsByFirst p cell count)
+      → AreMarkedFrom begin second third (DemandsBy p cell count)
       → AreMarkedFrom begin first third (DemandsByFirst p cell (count + 1))
   one_more_alternative begin count first second third before here =
       marked_like begin first third (λ child. DemandsByFirst p cell count child ⊎ DemandsBy p cell count child) (DemandsByFirst p cell (count + 1))
@@ -291,14 +332,19 @@ module _ (p : PosedProblem) (cell : Cell) where
       (marked_more begin first second third (DemandsByFirst p cell count) (DemandsBy p cell count) before here)
 
   -- an alternative by which the cell has no split demands nothing
-  pub closed_demands : (kept : KeptAlternative) (alternative : ℕ) → alternative < length (alternatives_of p.grammar cell.rule) → length (arguments_of p.grammar cell.rule alternative) ≤ 4 → IsAlternative p cell.rule alternative kept → IsClosed p kept cell
+  pub closed_demands : (kept : KeptAlternative) (alternative : ℕ)
+      → alternative < length (alternatives_of p.grammar cell.rule)
+      → length (arguments_of p.grammar cell.rule alternative) ≤ 4 → IsAlternative p cell.rule alternative kept
+      → IsClosed p kept cell
       → (child : Cell) → DemandsBy p cell alternative child → ⊥
   closed_demands kept alternative in_range few is closed child demands =
       let split = split_of_demands p cell alternative child in_range few demands in
       closed alternative split.0 is split.1
 
   -- alternatives that demand nothing may be passed over
-  pub passed_over : (begin count next : ℕ) (first second : CellMarks) → count ≤ next → ((alternative : ℕ) → count ≤ alternative → alternative < next → (child : Cell) → DemandsBy p cell alternative child → ⊥)
+  pub passed_over : (begin count next : ℕ) (first second : CellMarks) → count ≤ next
+      → ((alternative : ℕ) → count ≤ alternative → alternative < next → (child : Cell)
+      → DemandsBy p cell alternative child → ⊥)
       → AreMarkedFrom begin first second (DemandsByFirst p cell count) → AreMarkedFrom begin first second (DemandsByFirst p cell next)
   passed_over begin count next first second ahead none marked =
       marked_like begin first second (DemandsByFirst p cell count) (DemandsByFirst p cell next)
@@ -309,12 +355,23 @@ module _ (p : PosedProblem) (cell : Cell) where
       (cases_lt alternative count))
       marked
 
-  pub all_alternatives : (few : (alternative : ℕ) → length (arguments_of p.grammar cell.rule alternative) ≤ 4) (begin : ℕ) (first second : CellMarks) → AreMarkedFrom begin first second (DemandsByFirst p cell (length (alternatives_of p.grammar cell.rule)))
+  pub all_alternatives : (few : (alternative : ℕ) → length (arguments_of p.grammar cell.rule alternative) ≤ 4)
+      (begin : ℕ) (first second : CellMarks)
+      → AreMarkedFrom begin first second (DemandsByFirst p cell (length (alternatives_of p.grammar cell.rule)))
       → AreMarkedFrom begin first second (IsDemandedChild p cell)
   all_alternatives few begin first second marked =
       marked_like begin first second (DemandsByFirst p cell (length (alternatives_of p.grammar cell.rule))) (IsDemandedChild p cell)
       (λ child (alternative, l, demands). child_of_demands p cell alternative child l (few alternative) demands)
-      (λ child (alternative, cuts, viable, stands). (alternative, viable.in_range, (viable.allowed, demands_of_child p cell alternative cuts child (some_arguments (arguments_of p.grammar cell.rule alternative) cell.from (ends_by cell cuts) stands) (few alternative) viable stands)))
+      (λ child (alternative, cuts, viable, stands). (
+        alternative,
+        viable.in_range,
+        (
+          viable.allowed,
+          demands_of_child p cell alternative cuts child
+              (some_arguments (arguments_of p.grammar cell.rule alternative) cell.from (ends_by cell cuts) stands)
+              (few alternative) viable stands,
+        ),
+      ))
       marked
     where
       some_arguments : {it : Placed} (arguments : List Arg) (from : ℕ) (ends : List ℕ) → Contains (place arguments from ends) it → 1 ≤ length arguments

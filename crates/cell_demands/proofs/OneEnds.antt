@@ -15,27 +15,35 @@ use Rattle.split_lines.specs.Ends.{IsEndTold}
 
 -- ---- no end
 
-module _ (p : PosedProblem) (argument : Arg) (others : List Arg) (from to : ℕ) (none : (end : ℕ) → FitsSpan p (on_span argument from end) → Cover p others end to → ⊥) where
+module _ (p : PosedProblem) (argument : Arg) (others : List Arg) (from to : ℕ)
+    (none : (end : ℕ) → FitsSpan p (on_span argument from end) → Cover p others end to → ⊥) where
   pub cover_nowhere : Cover p (argument ∷ others) from to → ⊥
   cover_nowhere (end, fits, cover) = none end fits cover
 
   pub marked_nowhere : (begin : ℕ) (marks : CellMarks) → AreMarkedFrom begin marks marks (Demands p (argument ∷ others) from to)
-  marked_nowhere begin marks = none_marked begin marks (Demands p (argument ∷ others) from to) (λ cell demands. cover_nowhere (cover_of_demands p (argument ∷ others) from to cell demands))
+  marked_nowhere begin marks =
+      none_marked begin marks (Demands p (argument ∷ others) from to)
+      (λ cell demands. cover_nowhere (cover_of_demands p (argument ∷ others) from to cell demands))
 
 -- ---- one end
 
-module _ (p : PosedProblem) (argument : Arg) (others : List Arg) (from to end : ℕ) (fits : FitsSpan p (on_span argument from end)) (only : (other : ℕ) → FitsSpan p (on_span argument from other) → Cover p others other to → other ≡ end) where
+module _ (p : PosedProblem) (argument : Arg) (others : List Arg) (from to end : ℕ)
+    (fits : FitsSpan p (on_span argument from end)) (only : (other : ℕ) → FitsSpan p (on_span argument from other)
+    → Cover p others other to → other ≡ end) where
   pub cover_from : (test : Bool) → IsTrue test ↔ Cover p others end to → IsTrue test ↔ Cover p (argument ∷ others) from to
   cover_from test told =
       (λ is. (end, fits, told.0 is), λ (other, fits', cover). told.1 (subst (λ at. Cover p others at to) (only other fits' cover) cover))
 
   -- what the first argument demands there, and what the others do
-  pub demands_from : (cell : Cell) → Demands p (argument ∷ others) from to cell → (IsCellOf argument from end cell × Cover p others end to) ⊎ Demands p others end to cell
+  pub demands_from : (cell : Cell) → Demands p (argument ∷ others) from to cell
+      → (IsCellOf argument from end cell × Cover p others end to) ⊎ Demands p others end to cell
   demands_from cell (other, fits', some) =
       let cover = ⊎_elim (λ (is, cover). cover) (λ later. cover_of_demands p others other to cell later) some in
       subst (λ at. (IsCellOf argument from at cell × Cover p others at to) ⊎ Demands p others at to cell) (only other fits' cover) some
 
-  pub marked_behind : IsFixed argument → (begin : ℕ) (old new : CellMarks) → AreMarkedFrom begin old new (Demands p others end to) → AreMarkedFrom begin old new (Demands p (argument ∷ others) from to)
+  pub marked_behind : IsFixed argument → (begin : ℕ) (old new : CellMarks)
+      → AreMarkedFrom begin old new (Demands p others end to)
+      → AreMarkedFrom begin old new (Demands p (argument ∷ others) from to)
   marked_behind fixed begin old new marked =
       marked_like begin old new (Demands p others end to) (Demands p (argument ∷ others) from to)
       (λ cell later. (end, fits, inr later))
@@ -66,7 +74,9 @@ module _ (p : PosedProblem) (argument : Arg) (from to : ℕ) where
   pub last_misses : (FitsSpan p (on_span argument from to) → ⊥) → (end : ℕ) → FitsSpan p (on_span argument from end) → Cover p [] end to → ⊥
   last_misses none end fits cover = none (subst (λ at. FitsSpan p (on_span argument from at)) cover fits)
 
-  pub last_marked : FitsSpan p (on_span argument from to) → (begin : ℕ) (old new : CellMarks) → AreMarkedFrom begin old new (IsCellOf argument from to) → AreMarkedFrom begin old new (Demands p (argument ∷ []) from to)
+  pub last_marked : FitsSpan p (on_span argument from to) → (begin : ℕ) (old new : CellMarks)
+      → AreMarkedFrom begin old new (IsCellOf argument from to)
+      → AreMarkedFrom begin old new (Demands p (argument ∷ []) from to)
   last_marked fits begin old new marked =
       marked_like begin old new (IsCellOf argument from to) (Demands p (argument ∷ []) from to)
       (λ cell is. (to, fits, inl (is, refl)))

@@ -3,11 +3,31 @@ use Rattle.std.proofs.Common.{◌≡◌, ◌↔◌, ◌⊎◌, ℕ, ◌+◌, ◌
 use Rattle.std.specs.Prelude.{bit_and, bit_or}
 use Rattle.std.specs.Int.{bit_at, bit_not, w64, leading_zeros, trailing_zeros}
 use Rattle.std.proofs.lemmas.Bool.{cases_lt, cases_eq}
-use Rattle.std.proofs.lemmas.Nat.Bits.{bit_at-lt, bit_at-zero, bit_at_not, ones_shl, ones_shr, bit_at_ones, bit_at_ones_above, bit_at_mask_inside, bit_at_mask_below}
+use Rattle.std.proofs.lemmas.Nat.Bits.{bit_at-lt, bit_at-zero, bit_at_not, ones_shl, ones_shr, bit_at_ones}
+use Rattle.std.proofs.lemmas.Nat.Bits.{bit_at_ones_above, bit_at_mask_inside, bit_at_mask_below}
 use Rattle.cell_tables.specs.Bits.{IsBitIn, IsBitOf}
 use Rattle.cell_tables.proofs.NumberBits.{one_word_set, shifted_bit}
 use Rattle.cell_tables.proofs.SetBits.{both_bits, first_place, last_place}
 use Rattle.cell_demands.specs.PlaceBits.{HasBit, IsAhead, IsBehind, IsFirstAhead, IsLastBehind, IsLastBit}
+
+-- ---- the bits of a number that a mask leaves
+
+-- the mask has the bits of these places
+module _ (word mask place : ℕ) (IsLeft : ℕ → Type 0)
+    (exact : (other : ℕ) → IsBitIn mask (place / 64) other ↔ ((other / 64 ≡ place / 64) × IsLeft other)) where
+  masked_bit : (other : ℕ) → IsBitIn (bit_and word mask) (place / 64) other
+      ↔ (IsLeft other × IsBitIn word (place / 64) other)
+  masked_bit other =
+      let both = both_bits word mask (place / 64) other in (
+        λ bit. let parts = both.0 bit in (((exact other).0 parts.1).1, parts.0),
+        λ (left, bit). both.1 (bit, (exact other).1 (bit.number_is, left)),
+      )
+
+  none_left : bit_and word mask ≡ 0 → (other : ℕ) → IsLeft other × IsBitIn word (place / 64) other → ⊥
+  none_left none other is =
+      let bit = (masked_bit other).1 is in
+      let same = ap (λ n. bit_at n (other % 64)) none in
+      omega (arith, bit.bit, same, bit_at-zero (other % 64))
 
 -- ---- the bits of a number from a place on
 
@@ -31,18 +51,11 @@ module _ (word place : ℕ) where
             record { number_is = same; bit = subst B (sym mask) inside },
       )
 
-  pub ahead_bit : (other : ℕ) → IsBitIn ahead (place / 64) other ↔ IsAhead word place other
-  ahead_bit other =
-      let both = both_bits word ((2 ^ 64 - 1) * 2 ^ (place % 64) % 2 ^ 64) (place / 64) other in (
-        λ bit. let parts = both.0 bit in (((from_place other).0 parts.1).1, parts.0),
-        λ (behind, bit). both.1 (bit, (from_place other).1 (bit.number_is, behind)),
-      )
+  ahead_bit : (other : ℕ) → IsBitIn ahead (place / 64) other ↔ IsAhead word place other
+  ahead_bit = masked_bit word ((2 ^ 64 - 1) * 2 ^ (place % 64) % 2 ^ 64) place (λ other. place ≤ other) from_place
 
   pub none_ahead : ahead ≡ 0 → (other : ℕ) → IsAhead word place other → ⊥
-  none_ahead none other is =
-      let bit = (ahead_bit other).1 is in
-      let same = ap (λ n. bit_at n (other % 64)) none in
-      omega (arith, bit.bit, same, bit_at-zero (other % 64))
+  none_ahead = none_left word ((2 ^ 64 - 1) * 2 ^ (place % 64) % 2 ^ 64) place (λ other. place ≤ other) from_place
 
   -- the first of them
   pub ahead_first : (found : ℕ) → ahead < 2 ^ 64 → (ahead ≡ 0 → ⊥)
@@ -75,18 +88,11 @@ module _ (word place : ℕ) where
         λ (same, low). record { number_is = same; bit = subst B (sym mask) (bit_at_ones count i (omega arith)) },
       )
 
-  pub behind_bit : (other : ℕ) → IsBitIn behind (place / 64) other ↔ IsBehind word place other
-  behind_bit other =
-      let both = both_bits word ((2 ^ 64 - 1) / 2 ^ (63 - place % 64)) (place / 64) other in (
-        λ bit. let parts = both.0 bit in (((up_to_place other).0 parts.1).1, parts.0),
-        λ (before, bit). both.1 (bit, (up_to_place other).1 (bit.number_is, before)),
-      )
+  behind_bit : (other : ℕ) → IsBitIn behind (place / 64) other ↔ IsBehind word place other
+  behind_bit = masked_bit word ((2 ^ 64 - 1) / 2 ^ (63 - place % 64)) place (λ other. other ≤ place) up_to_place
 
   pub none_behind : behind ≡ 0 → (other : ℕ) → IsBehind word place other → ⊥
-  none_behind none other is =
-      let bit = (behind_bit other).1 is in
-      let same = ap (λ n. bit_at n (other % 64)) none in
-      omega (arith, bit.bit, same, bit_at-zero (other % 64))
+  none_behind = none_left word ((2 ^ 64 - 1) / 2 ^ (63 - place % 64)) place (λ other. other ≤ place) up_to_place
 
   -- the last of them
   pub behind_last : (found : ℕ) → behind < 2 ^ 64 → (behind ≡ 0 → ⊥)

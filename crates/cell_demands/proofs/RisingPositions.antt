@@ -6,7 +6,9 @@ use Rattle.std.proofs.lemmas.List.Elements.{Contains-get_or}
 use Rattle.std.proofs.lemmas.List.Sorted.{IsNonDecreasingBy-from_all_adjacent}
 
 -- in positions that rise each lies between the first one and the last one
-pub between_ends : (positions : List ℕ) (position : ℕ) → AllAdjacentBelow (λ (a b : ℕ). a < b) positions (length positions) → Contains positions position → (get_or positions 0 0 ≤ position) × (position ≤ get_or positions (length positions - 1) 0)
+pub between_ends : (positions : List ℕ) (position : ℕ)
+    → AllAdjacentBelow (λ (a b : ℕ). a < b) positions (length positions) → Contains positions position
+    → (get_or positions 0 0 ≤ position) × (position ≤ get_or positions (length positions - 1) 0)
 between_ends positions position rising stands =
     let sorted = IsNonDecreasingBy-from_all_adjacent (λ (n : ℕ). n) positions (λ k d l. let rise = rising k d l in omega arith) in
     let at : get_or positions stands.0 0 ≡ position = get_or_default positions stands.0 0 position stands.1 ∙ stands.2 in

@@ -48,7 +48,7 @@ module _ (p : PosedProblem) (marks : CellMarks) (argument : Arg) (others : List 
           absurd (told.missed end here (λ one. clear (subst (λ bits. HasBit bits end) (sym same) one)) cover)
     ]
 
-    pub covers_run : (some : Bool) → IsTrue some ↔ ((end : ℕ) × IsLaid end)
+    covers_run : (some : Bool) → IsTrue some ↔ ((end : ℕ) × IsLaid end)
         → IsTrue some ↔ CoversBelow p argument others from to first past
     covers_run some is = (
       λ yes. let found = is.0 yes in
@@ -57,7 +57,7 @@ module _ (p : PosedProblem) (marks : CellMarks) (argument : Arg) (others : List 
       λ (end, l, m, fits, cover). is.1 (end, laid_end end l m cover),
     )
 
-    pub marked_run : (begin : ℕ) (new : CellMarks) → begin < first → AreMarkedToo marks new IsLaidCell
+    marked_run : (begin : ℕ) (new : CellMarks) → begin < first → AreMarkedToo marks new IsLaidCell
         → AreInRows new IsLaidCell → AreMarkedFrom begin marks new IsDemanded
     marked_run begin new behind marked rows = record {
       marked = record {
@@ -77,3 +77,9 @@ module _ (p : PosedProblem) (marks : CellMarks) (argument : Arg) (others : List 
           (λ (is, cover). rows cell (end, laid_end end l m cover, is))
           (λ later. let after = begins_behind p others end to cell later in absurd (omega (arith, after, here, l, behind))) some;
     }
+
+    -- once the ends of the run are gone through
+    pub after_run : (some : Bool) → IsTrue some ↔ ((end : ℕ) × IsLaid end) → (begin : ℕ) (new : CellMarks) → begin < first
+        → AreMarkedToo marks new IsLaidCell → AreInRows new IsLaidCell
+        → (IsTrue some ↔ CoversBelow p argument others from to first past) × AreMarkedFrom begin marks new IsDemanded
+    after_run some is begin new behind marked rows = (covers_run some is, marked_run begin new behind marked rows)

@@ -1,5 +1,7 @@
 -- Tails of alternatives, and what is noted of them while more cells are marked.
-use Rattle.std.proofs.Common.{◌≡◌, ◌↔◌, ◌≤◌, ℕ, Bool, true, false, IsTrue, Option, Some, None, List, [], ◌∷◌, ◌++◌, length, option_map, refl, sym, ap, subst, inl, inr, ◌∙◌, arith, append_assoc, length-append}
+use Rattle.std.proofs.Common.{◌≡◌, ◌↔◌, ◌≤◌, ℕ, Bool, true, false, IsTrue, Option, Some, None, List, [], ◌∷◌, ◌++◌}
+use Rattle.std.proofs.Common.{length, option_map, refl, sym, ap, subst, inl, inr, ◌∙◌, arith, append_assoc}
+use Rattle.std.proofs.Common.{length-append}
 use Rattle.std.specs.Prelude.{IfSome}
 use Rattle.std.proofs.lemmas.Bool.{false≢true}
 use Rattle.adp_model.specs.declared.grammar.Arg.{Arg}
@@ -27,18 +29,23 @@ same_arguments : (p : PosedProblem) (tail : Tail) (arguments others : List Arg) 
 same_arguments p tail arguments others is other =
     same_ends is.before arguments other.before others (sym is.arguments_are ∙ other.arguments_are) (is.count ∙ sym other.count)
 
-shorter_tail : (p : PosedProblem) (rule alt : ℕ) (argument : Arg) (others : List Arg) → IsTail p (record { rule = rule; alt = alt; count = length (argument ∷ others) }) (argument ∷ others) → IsTail p (record { rule = rule; alt = alt; count = length others }) others
+shorter_tail : (p : PosedProblem) (rule alt : ℕ) (argument : Arg) (others : List Arg)
+    → IsTail p (record { rule = rule; alt = alt; count = length (argument ∷ others) }) (argument ∷ others)
+    → IsTail p (record { rule = rule; alt = alt; count = length others }) others
 shorter_tail p rule alt argument others is = record {
   before = is.before ++ argument ∷ [];
   arguments_are = is.arguments_are ∙ sym (append_assoc is.before (argument ∷ []) others);
   count = refl;
 }
 
-pub shorter_owner : (p : PosedProblem) (owner : Option Owner) (argument : Arg) (others : List Arg) → IsOwner p owner (argument ∷ others) → IsOwner p owner others
+pub shorter_owner : (p : PosedProblem) (owner : Option Owner) (argument : Arg) (others : List Arg)
+    → IsOwner p owner (argument ∷ others) → IsOwner p owner others
 shorter_owner p None argument others is = tt
 shorter_owner p (Some it) argument others is = shorter_tail p it.rule it.alt argument others is
 
-pub owner_tail : (p : PosedProblem) (owner : Option Owner) (arguments : List Arg) (tail : Tail) → Some tail ≡ option_map (λ it. tail_with it (length arguments)) owner → IsOwner p owner arguments → IsTail p tail arguments
+pub owner_tail : (p : PosedProblem) (owner : Option Owner) (arguments : List Arg) (tail : Tail)
+    → Some tail ≡ option_map (λ it. tail_with it (length arguments)) owner → IsOwner p owner arguments
+    → IsTail p tail arguments
 owner_tail p None arguments tail same is = absurd cc
 owner_tail p (Some it) arguments tail same is =
     let e : tail_with it (length arguments) ≡ tail = cc in
@@ -61,10 +68,12 @@ module _ (p : PosedProblem) (old new : CellMarks) (stay : (cell : Cell) → IsMa
   pub notes_stay : (tails : Tails) → AreTrue p old tails → AreTrue p new tails
   notes_stay tails is = kept_stays tails.kept is
 
-pub true_later : (p : PosedProblem) (old new : CellMarks) (Holds : Cell → Type 0) → AreMarkedToo old new Holds → (tails : Tails) → AreTrue p old tails → AreTrue p new tails
+pub true_later : (p : PosedProblem) (old new : CellMarks) (Holds : Cell → Type 0) → AreMarkedToo old new Holds
+    → (tails : Tails) → AreTrue p old tails → AreTrue p new tails
 true_later p old new Holds marked tails is = notes_stay p old new (λ cell was. (marked.exact cell).1 (inl was)) tails is
 
-pub true_from : (p : PosedProblem) (begin : ℕ) (old new : CellMarks) (Holds : Cell → Type 0) → AreMarkedFrom begin old new Holds → (tails : Tails) → AreTrue p old tails → AreTrue p new tails
+pub true_from : (p : PosedProblem) (begin : ℕ) (old new : CellMarks) (Holds : Cell → Type 0)
+    → AreMarkedFrom begin old new Holds → (tails : Tails) → AreTrue p old tails → AreTrue p new tails
 true_from p begin old new Holds marked tails is = true_later p old new Holds marked.marked tails is
 
 -- ---- what is found
@@ -84,7 +93,8 @@ module _ (p : PosedProblem) (begin : ℕ) (marks : CellMarks) (tail : Tail) (arg
       → AreMarkedFrom begin old marks (Demands p arguments from to) → IsTrueNote p marks tail from to is_laid
   found_true old true laid marked = λ others other.
       let same = same_arguments p tail arguments others is other in
-      subst (λ others. AreMarkedOn p marks others from to) same (record { laid = laid.0 refl; marked = λ cell demands. (marked.marked.exact cell).1 (inr demands) })
+      subst (λ others. AreMarkedOn p marks others from to) same
+      (record { laid = laid.0 refl; marked = λ cell demands. (marked.marked.exact cell).1 (inr demands) })
   found_true old false laid marked = λ others other cover.
       let same = same_arguments p tail arguments others is other in
       false≢true (laid.1 (subst (λ others. Cover p others from to) (sym same) cover))

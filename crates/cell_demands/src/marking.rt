@@ -9,7 +9,7 @@ ghost use Rattle.adp_model.specs.Parts.{alternatives_of};
 ghost use Rattle.adp_model.specs.Cells.{IsCounted};
 ghost use Rattle.adp_model.specs.Demand.{IsDemandedChild};
 ghost use Rattle.adp_model.specs.WellFormed.{IsKnown};
-ghost use Rattle.viable_splits.specs.Placing.{Cover};
+ghost use Rattle.viable_splits.specs.Placing.{ArePositions, Cover};
 ghost use Rattle.split_lines.specs.Flags.{AreBitsAmong};
 ghost use Rattle.split_lines.specs.Kept.{IsAlternative};
 ghost use Rattle.split_lines.specs.Laid.{Demands, DemandsBy, IsCellOf};
@@ -27,6 +27,7 @@ use split_lines::{
     Boundary, KeptAlternative, Line, Lines, Way, is_fixed, line_begins_here, line_begins_later,
     line_here,
 };
+use std::ops::Range;
 
 /// Marks the cell of the argument on a span, where the argument is a rule.
 fn mark_argument(argument: &Arg, from: u16, to: u16, marks: &mut Marks<'_>)
@@ -204,6 +205,71 @@ fn mark_tail(
     is_laid
 }
 
+/// The same as `mark_arguments`, of an argument with others behind it, which may end at no other positions than these:
+/// end by end, and at once over those for which it is noted whether the others may have the letters behind them.
+#[cycle(arguments)]
+#[inline(always)]
+fn mark_by_ends(
+    lines: &Lines<'_>,
+    owner: Option<Owner>,
+    line: Option<&Line<'_>>,
+    ahead: u8,
+    argument: &Arg,
+    others: &[Arg],
+    begin: u16,
+    from: u16,
+    ends: Range<u16>,
+    to: u16,
+    tails: &mut Tails,
+    marks: &mut Marks<'_>,
+) -> bool
+    requires owner { IsOwner lines.now owner others.now }
+    requires line { IfSome (option_copied line) (λ line. IsLine lines.now (drop ahead others.now) line) }
+    requires known { AllByRecursion (IsKnown lines.now.grammar) others.now }
+    requires few { length others.now ≤ 4 }
+    requires begin { begin ≤ from }
+    requires span { IsSpan lines.now.word from to }
+    requires ends { ArePositions lines.now argument.now others.now from to ends }
+    requires same_problem { marks.old.problem ≡ lines.now }
+    requires noted { AreTrue lines.now marks.old tails.old }
+    requires counted { (cell : Cell) → Demands lines.now (argument.now ∷ others.now) from to cell
+        → IsCounted lines.now.grammar (length lines.now.word) cell }
+    ensures laid { IsTrue result ↔ Cover lines.now (argument.now ∷ others.now) from to }
+    ensures marked { AreMarkedFrom begin marks.old marks.new
+        (Demands lines.now (argument.now ∷ others.now) from to) }
+    ensures noted { AreTrue lines.now marks.new tails.new }
+{
+    let noted = mark_run(
+        lines, owner, argument, others, begin, from, ends.start, ends.end, to, tails, marks,
+    );
+    let mut is_laid = noted.is_laid;
+    let mut end = noted.past;
+    while end < ends.end {
+        if mark_tail(
+            lines, owner, line, ahead, others, begin, end, to, tails, marks,
+        ) {
+            mark_argument(argument, from, end, marks);
+            is_laid = true;
+        }
+        let run = mark_run(
+            lines,
+            owner,
+            argument,
+            others,
+            begin,
+            from,
+            end + 1,
+            ends.end,
+            to,
+            tails,
+            marks,
+        );
+        is_laid |= run.is_laid;
+        end = run.past;
+    }
+    is_laid
+}
+
 /// Whether the arguments may have the letters from `from` to `to`. Where they may, the cells that they demand there are
 /// marked, and else nothing is; those that begin at `begin`, which is no later, are marked in their rows. If they have
 /// a line, `ahead` of them come before it.
@@ -255,35 +321,9 @@ fn mark_arguments(
         return mark_last(lines, argument, begin, from, to, marks);
     }
     let ends = lines.ends_of_first(arguments, from, to);
-    let noted = mark_run(
-        lines, owner, argument, others, begin, from, ends.start, ends.end, to, tails, marks,
-    );
-    let mut is_laid = noted.is_laid;
-    let mut end = noted.past;
-    while end < ends.end {
-        if mark_tail(
-            lines, owner, line, ahead, others, begin, end, to, tails, marks,
-        ) {
-            mark_argument(argument, from, end, marks);
-            is_laid = true;
-        }
-        let run = mark_run(
-            lines,
-            owner,
-            argument,
-            others,
-            begin,
-            from,
-            end + 1,
-            ends.end,
-            to,
-            tails,
-            marks,
-        );
-        is_laid |= run.is_laid;
-        end = run.past;
-    }
-    is_laid
+    mark_by_ends(
+        lines, owner, line, ahead, argument, others, begin, from, ends, to, tails, marks,
+    )
 }
 
 /// Marks what several arguments demand that are laid from `from` to `to`, along their line if they have one; those that

@@ -23,7 +23,8 @@ record Tokens (t : ℕ) (c : After-fixed_length t) : Type 0 where
   weighted : AreWeighted c.args.lines.now (c.in-Some-Some.token.now ∷ c.in-Some-Some.tokens.now) (c.in-Some-Some.factor.now ∷ c.in-Some-Some.factors.now)
   fixed : AllByRecursion IsFixed (c.in-Some-Some.token.now ∷ c.in-Some-Some.tokens.now)
   covers : Cover c.args.lines.now (c.in-Some-Some.token.now ∷ c.in-Some-Some.tokens.now) c.args.from c.args.to
-  low : AreLow c.args.lines.now (c.in-Some-Some.token.now ∷ c.in-Some-Some.tokens.now) (c.in-Some-Some.factor.now ∷ c.in-Some-Some.factors.now) c.args.from c.args.to
+  low : AreLow c.args.lines.now (c.in-Some-Some.token.now ∷ c.in-Some-Some.tokens.now)
+      (c.in-Some-Some.factor.now ∷ c.in-Some-Some.factors.now) c.args.from c.args.to
 
 tokens : (t : ℕ) (c : After-fixed_length t) → Tokens t c
 tokens t c =
@@ -31,16 +32,19 @@ tokens t c =
     let ts = c.in-Some-Some.ensures.cases.0 in
     let fs = c.in-Some-Some.ensures'.cases.0 in
     record {
-      weighted = subst (λ xs. AreWeighted p xs (c.in-Some-Some.factor.now ∷ c.in-Some-Some.factors.now)) ts (subst (λ ys. AreWeighted p c.args.tokens.now ys) fs c.requires.weighted);
+      weighted = subst (λ xs. AreWeighted p xs (c.in-Some-Some.factor.now ∷ c.in-Some-Some.factors.now)) ts
+          (subst (λ ys. AreWeighted p c.args.tokens.now ys) fs c.requires.weighted);
       fixed = subst (AllByRecursion IsFixed) ts c.requires.fixed;
       covers = subst (λ xs. Cover p xs c.args.from c.args.to) ts c.requires.covers;
-      low = subst (λ xs. AreLow p xs (c.in-Some-Some.factor.now ∷ c.in-Some-Some.factors.now) c.args.from c.args.to) ts (subst (λ ys. AreLow p c.args.tokens.now ys c.args.from c.args.to) fs c.requires.low);
+      low = subst (λ xs. AreLow p xs (c.in-Some-Some.factor.now ∷ c.in-Some-Some.factors.now) c.args.from c.args.to) ts
+          (subst (λ ys. AreLow p c.args.tokens.now ys c.args.from c.args.to) fs c.requires.low);
     }
 
 within : (t : ℕ) (c : After-fixed_length t) → c.args.from + fixed_length c.in-Some-Some.token.now ≤ c.args.to
 within t c =
     let it = tokens t c in
-    end_within c.args.lines.now c.in-Some-Some.token.now c.in-Some-Some.tokens.now c.in-Some-Some.factor.now c.in-Some-Some.factors.now c.args.from c.args.to it.weighted it.fixed it.covers it.low
+    end_within c.args.lines.now c.in-Some-Some.token.now c.in-Some-Some.tokens.now c.in-Some-Some.factor.now
+    c.in-Some-Some.factors.now c.args.from c.args.to it.weighted it.fixed it.covers it.low
 
 pub overflow_cast-end : goal.overflow_cast-end
 overflow_cast-end t c =
@@ -53,24 +57,33 @@ overflow_add-end t c =
     omega (arith, l, c.fixed_length.ensures, c.ranges.to)
 
 -- the product and the sum are no greater than the greatest score
-parts : (t : ℕ) (c : After-fixed_length t) (value rest : ℤ) → value ≡ token_value c.args.lines.now.grammar c.in-Some-Some.token.now (letters_between c.args.lines.now.word c.args.from (c.args.from + c.fixed_length.result))
-    → HasTotal c.args.lines.now (HasBestScore c.args.lines.now) c.in-Some-Some.tokens.now c.in-Some-Some.factors.now (c.args.from + c.fixed_length.result) c.args.to rest
-    → (nat_abs (c.in-Some-Some.factor.now *ℤ value) ≤ greatest_score) × (nat_abs rest ≤ greatest_score) × (nat_abs ((c.in-Some-Some.factor.now *ℤ value) +ℤ rest) ≤ greatest_score)
+parts : (t : ℕ) (c : After-fixed_length t) (value rest : ℤ)
+    → value ≡ token_value c.args.lines.now.grammar c.in-Some-Some.token.now
+    (letters_between c.args.lines.now.word c.args.from (c.args.from + c.fixed_length.result))
+    → HasTotal c.args.lines.now (HasBestScore c.args.lines.now) c.in-Some-Some.tokens.now c.in-Some-Some.factors.now
+    (c.args.from + c.fixed_length.result) c.args.to rest
+    → (nat_abs (c.in-Some-Some.factor.now *ℤ value) ≤ greatest_score) × (nat_abs rest ≤ greatest_score)
+    × (nat_abs ((c.in-Some-Some.factor.now *ℤ value) +ℤ rest) ≤ greatest_score)
 parts t c value rest is has =
     let it = tokens t c in
     let p = c.args.lines.now in
     let V : ℕ → Type 0 = λ n. value ≡ token_value p.grammar c.in-Some-Some.token.now (letters_between p.word c.args.from (c.args.from + n)) in
     let H : ℕ → Type 0 = λ n. HasTotal p (HasBestScore p) c.in-Some-Some.tokens.now c.in-Some-Some.factors.now (c.args.from + n) c.args.to rest in
-    token_parts_low p c.in-Some-Some.token.now c.in-Some-Some.tokens.now c.in-Some-Some.factor.now c.in-Some-Some.factors.now c.args.from c.args.to it.weighted it.fixed it.covers it.low (HasBestScore p) value rest
+    token_parts_low p c.in-Some-Some.token.now c.in-Some-Some.tokens.now c.in-Some-Some.factor.now
+    c.in-Some-Some.factors.now c.args.from c.args.to it.weighted it.fixed it.covers it.low
+    (HasBestScore p) value rest
     (subst V c.fixed_length.ensures is) (subst H c.fixed_length.ensures has)
 
 -- some total of the others
-rest_total : (t : ℕ) (c : After-fixed_length t) → (rest : ℤ) × HasTotal c.args.lines.now (HasBestScore c.args.lines.now) c.in-Some-Some.tokens.now c.in-Some-Some.factors.now (c.args.from + c.fixed_length.result) c.args.to rest
+rest_total : (t : ℕ) (c : After-fixed_length t) → (rest : ℤ) × HasTotal c.args.lines.now (HasBestScore c.args.lines.now)
+    c.in-Some-Some.tokens.now c.in-Some-Some.factors.now (c.args.from + c.fixed_length.result) c.args.to rest
 rest_total t c =
     let it = tokens t c in
     let p = c.args.lines.now in
     let C : ℕ → Type 0 = λ n. Cover p c.in-Some-Some.tokens.now (c.args.from + n) c.args.to in
-    let covers = subst C (sym c.fixed_length.ensures) (rest_covers p c.in-Some-Some.token.now c.in-Some-Some.tokens.now c.in-Some-Some.factor.now c.in-Some-Some.factors.now c.args.from c.args.to it.weighted it.fixed it.covers it.low) in
+    let covers = subst C (sym c.fixed_length.ensures) (rest_covers p c.in-Some-Some.token.now c.in-Some-Some.tokens.now
+    c.in-Some-Some.factor.now c.in-Some-Some.factors.now c.args.from c.args.to it.weighted it.fixed
+    it.covers it.low) in
     let found = fixed_values p (HasBestScore p) c.in-Some-Some.tokens.now (c.args.from + c.fixed_length.result) c.args.to it.fixed.1 covers in
     (weighted_sum c.in-Some-Some.factors.now found.0, (found.0, found.1, refl))
 
@@ -104,7 +117,8 @@ overflow_add-result t c =
     let fits_factor : FitsSigned w64 c.in-Some-Some.factor.now = search rules in
     let fits_value : FitsSigned w64 c.token_value.result = search rules in
     let low = parts t at c.token_value.result c.fixed_total.result c.token_value.ensures c.fixed_total.ensures in
-    let fits_product : FitsSigned w64 (c.in-Some-Some.factor.now *ℤ c.token_value.result) = fits_below (c.in-Some-Some.factor.now *ℤ c.token_value.result) low.0 in
+    let fits_product : FitsSigned w64 (c.in-Some-Some.factor.now *ℤ c.token_value.result) =
+    fits_below (c.in-Some-Some.factor.now *ℤ c.token_value.result) low.0 in
     let fits_rest : FitsSigned w64 c.fixed_total.result = search rules in
     simp to_z-of_z (fits_below ((c.in-Some-Some.factor.now *ℤ c.token_value.result) +ℤ c.fixed_total.result) low.2)
 
@@ -122,10 +136,13 @@ returns t c =
     let low = parts t at c.token_value.result c.fixed_total.result c.token_value.ensures c.fixed_total.ensures in
     let fits_product : FitsSigned w64 (factor *ℤ c.token_value.result) = fits_below (factor *ℤ c.token_value.result) low.0 in
     let fits_rest : FitsSigned w64 c.fixed_total.result = search rules in
-    let fits_sum : FitsSigned w64 ((factor *ℤ c.token_value.result) +ℤ c.fixed_total.result) = fits_below ((factor *ℤ c.token_value.result) +ℤ c.fixed_total.result) low.2 in
+    let fits_sum : FitsSigned w64 ((factor *ℤ c.token_value.result) +ℤ c.fixed_total.result) =
+    fits_below ((factor *ℤ c.token_value.result) +ℤ c.fixed_total.result) low.2 in
     let V : ℕ → Type 0 = λ n. c.token_value.result ≡ token_value p.grammar token (letters_between p.word c.args.from (c.args.from + n)) in
     let H : ℕ → Type 0 = λ n. HasTotal p (HasBestScore p) others factors (c.args.from + n) c.args.to c.fixed_total.result in
-    let all = token_total p token others factor factors c.args.from c.args.to it.weighted it.fixed it.covers it.low (HasBestScore p) c.token_value.result c.fixed_total.result (subst V c.fixed_length.ensures c.token_value.ensures) (subst H c.fixed_length.ensures c.fixed_total.ensures) in
+    let all = token_total p token others factor factors c.args.from c.args.to it.weighted it.fixed it.covers it.low
+    (HasBestScore p) c.token_value.result c.fixed_total.result
+    (subst V c.fixed_length.ensures c.token_value.ensures) (subst H c.fixed_length.ensures c.fixed_total.ensures) in
     let total = (factor *ℤ c.token_value.result) +ℤ c.fixed_total.result in
     let here : HasTotal p (HasBestScore p) c.args.tokens.now c.args.factors.now c.args.from c.args.to total =
     subst (λ xs. HasTotal p (HasBestScore p) xs c.args.factors.now c.args.from c.args.to total) (sym c.in-Some-Some.ensures.cases.0)
@@ -138,7 +155,9 @@ no_more : {X : Type 0} (xs : List X) → length xs ≡ 0 → xs ≡ []
 no_more [] none = refl
 no_more (x ∷ xs) none = absurd (omega arith)
 
-module _ (tokens : List Arg) (factors : List ℤ) (token : Arg) (others : List Arg) (factor : ℤ) (behind : List ℤ) (tokens_is : tokens ≡ token ∷ others) (factors_is : factors ≡ factor ∷ behind) (each : length factors ≡ length tokens) (none : length others ≡ 0) where
+module _ (tokens : List Arg) (factors : List ℤ) (token : Arg) (others : List Arg) (factor : ℤ) (behind : List ℤ)
+    (tokens_is : tokens ≡ token ∷ others) (factors_is : factors ≡ factor ∷ behind)
+    (each : length factors ≡ length tokens) (none : length others ≡ 0) where
   one_token : tokens ≡ token ∷ []
   one_token = tokens_is ∙ ap (λ xs. token ∷ xs) (no_more others none)
 
@@ -157,7 +176,8 @@ one_total-requires-clause-weighted t c =
     let none = eqb-true (length it.tokens.now) 0 (sym c.is_empty.ensures ∙ c.if-is_empty.true) in
     let fits_factor : FitsSigned w64 it.factor.now = search rules in
     subst (λ f. AreWeighted c.args.lines.now (it.token.now ∷ []) (f ∷ [])) (sym (to_z-of_z w64 it.factor.now fits_factor))
-    (to_one c.args.tokens.now c.args.factors.now it.token.now it.tokens.now it.factor.now it.factors.now it.ensures.cases.0 it.ensures'.cases.0 c.requires.weighted.factors_each none
+    (to_one c.args.tokens.now c.args.factors.now it.token.now it.tokens.now it.factor.now it.factors.now
+    it.ensures.cases.0 it.ensures'.cases.0 c.requires.weighted.factors_each none
     (AreWeighted c.args.lines.now) c.requires.weighted)
 
 pub returns-then-is_empty : goal.returns-then-is_empty
@@ -168,7 +188,9 @@ returns-then-is_empty t c =
     let none = eqb-true (length it.tokens.now) 0 (sym c.is_empty.ensures ∙ c.if-is_empty.true) in
     let fits_factor : FitsSigned w64 it.factor.now = search rules in
     let fits_total : FitsSigned w64 c.one_total.result = search rules in
-    let has = subst (λ f. HasTotal p (HasBestScore p) (it.token.now ∷ []) (f ∷ []) c.args.from c.args.to total) (to_z-of_z w64 it.factor.now fits_factor) c.one_total.ensures in
-    let here = from_one c.args.tokens.now c.args.factors.now it.token.now it.tokens.now it.factor.now it.factors.now it.ensures.cases.0 it.ensures'.cases.0 c.requires.weighted.factors_each none
+    let has = subst (λ f. HasTotal p (HasBestScore p) (it.token.now ∷ []) (f ∷ []) c.args.from c.args.to total)
+    (to_z-of_z w64 it.factor.now fits_factor) c.one_total.ensures in
+    let here = from_one c.args.tokens.now c.args.factors.now it.token.now it.tokens.now it.factor.now it.factors.now
+    it.ensures.cases.0 it.ensures'.cases.0 c.requires.weighted.factors_each none
     (λ tokens factors. HasTotal p (HasBestScore p) tokens factors c.args.from c.args.to total) has in
     simp to_z-of_z here

@@ -13,11 +13,16 @@ use Rattle.cell_answers.proofs.along.greatest_along.Goals.{After-greatest_front}
 laid : (c : After-greatest_front) → AreLaid c.args.lines.now c.args.scores.now c.args.arguments.now c.args.factors.now c.args.from c.args.to
 laid c = record { weighted = c.requires.weighted; span = c.requires.span; scored = c.requires.scored; low = c.requires.low }
 
-whole : (c : After-greatest_front) → IsWhole c.args.lines.now c.args.scores.now c.in_ok-opened.opened.arguments c.in_ok-opened.opened.from c.args.to c.in_ok-opened.opened.boundary
-whole c = opened_whole c.args.lines.now c.args.scores.now c.args.arguments.now c.args.factors.now c.args.from c.args.to (laid c) c.in_ok-opened.opened c.in_ok-opened.ensures
+whole : (c : After-greatest_front) → IsWhole c.args.lines.now c.args.scores.now c.in_ok-opened.opened.arguments
+    c.in_ok-opened.opened.from c.args.to c.in_ok-opened.opened.boundary
+whole c =
+    opened_whole c.args.lines.now c.args.scores.now c.args.arguments.now c.args.factors.now c.args.from c.args.to
+    (laid c) c.in_ok-opened.opened c.in_ok-opened.ensures
 
 tail : (c : After-greatest_front) → IsTail c.args.lines.now c.in_ok-opened.opened c.args.to
-tail c = opened_tail c.args.lines.now c.args.scores.now c.args.arguments.now c.args.factors.now c.args.from c.args.to (laid c) c.in_ok-opened.opened c.in_ok-opened.ensures
+tail c =
+    opened_tail c.args.lines.now c.args.scores.now c.args.arguments.now c.args.factors.now c.args.from c.args.to
+    (laid c) c.in_ok-opened.opened c.in_ok-opened.ensures
 
 pub between_total-behind-requires-clause-weighted : goal.between_total-behind-requires-clause-weighted
 between_total-behind-requires-clause-weighted c = (tail (goal.at.between_total-behind-requires-clause-weighted c).After-greatest_front).weighted
@@ -40,13 +45,16 @@ returns-in_err-front c =
 
 sound : (c : After-greatest_front) → AreSound c.args.lines.now
 sound c =
-    sound_by c.problem.result.now c.args.lines.now c.problem.ensures c.admissible.ensures (c.bounds_are_sound.ensures.score c.args.lines.now) (c.answer_is_unique.ensures c.args.lines.now)
+    sound_by c.problem.result.now c.args.lines.now c.problem.ensures c.admissible.ensures
+    (c.bounds_are_sound.ensures.score c.args.lines.now) (c.answer_is_unique.ensures c.args.lines.now)
 
 pub overflow_add-result : goal.overflow_add-result
 overflow_add-result c =
     let at = (goal.at.overflow_add-result c).After-greatest_front in
     let line = c.in_ok-opened.opened in
-    let low = whole_low c.args.lines.now c.args.scores.now line.arguments line.from c.args.to line.boundary (whole at) (sound at) c.in_ok-front.front c.between_total-behind.result c.in_ok-front.ensures.0 c.between_total-behind.ensures in
+    let low = whole_low c.args.lines.now c.args.scores.now line.arguments line.from c.args.to line.boundary (whole at)
+    (sound at) c.in_ok-front.front c.between_total-behind.result c.in_ok-front.ensures.0
+    c.between_total-behind.ensures in
     let fits_front : FitsSigned w64 c.in_ok-front.front = search rules in
     let fits_tail : FitsSigned w64 c.between_total-behind.result = search rules in
     simp to_z-of_z (fits_below (c.in_ok-front.front +ℤ c.between_total-behind.result) low)
@@ -56,12 +64,17 @@ returns c =
     let at = (goal.at.returns c).After-greatest_front in
     let p = c.args.lines.now in
     let line = c.in_ok-opened.opened in
-    let low = whole_low p c.args.scores.now line.arguments line.from c.args.to line.boundary (whole at) (sound at) c.in_ok-front.front c.between_total-behind.result c.in_ok-front.ensures.0 c.between_total-behind.ensures in
+    let low = whole_low p c.args.scores.now line.arguments line.from c.args.to line.boundary (whole at) (sound at)
+    c.in_ok-front.front c.between_total-behind.result c.in_ok-front.ensures.0 c.between_total-behind.ensures in
     let fits_front : FitsSigned w64 c.in_ok-front.front = search rules in
     let fits_tail : FitsSigned w64 c.between_total-behind.result = search rules in
-    let fits_sum : FitsSigned w64 (c.in_ok-front.front +ℤ c.between_total-behind.result) = fits_below (c.in_ok-front.front +ℤ c.between_total-behind.result) low in
-    let found : IsGreatestOf (HasTotal p (HasBestScore p) c.args.arguments.now c.args.factors.now c.args.from c.args.to) (Some (c.in_ok-front.front +ℤ c.between_total-behind.result)) =
+    let fits_sum : FitsSigned w64 (c.in_ok-front.front +ℤ c.between_total-behind.result) =
+    fits_below (c.in_ok-front.front +ℤ c.between_total-behind.result) low in
+    let found : IsGreatestOf (HasTotal p (HasBestScore p) c.args.arguments.now c.args.factors.now c.args.from c.args.to)
+    (Some (c.in_ok-front.front +ℤ c.between_total-behind.result)) =
     opened_holds p c.args.scores.now c.args.arguments.now c.args.factors.now c.args.from c.args.to (laid at) line c.in_ok-opened.ensures
-    (λ arguments factors from. IsGreatestOf (HasTotal p (HasBestScore p) arguments factors from c.args.to) (Some (c.in_ok-front.front +ℤ c.between_total-behind.result)))
-    (greatest_whole p c.args.scores.now line.arguments line.from c.args.to line.boundary (whole at) c.in_ok-front.front c.between_total-behind.result c.in_ok-front.ensures c.between_total-behind.ensures) in
+    (λ arguments factors from. IsGreatestOf (HasTotal p (HasBestScore p) arguments factors from c.args.to)
+    (Some (c.in_ok-front.front +ℤ c.between_total-behind.result)))
+    (greatest_whole p c.args.scores.now line.arguments line.from c.args.to line.boundary (whole at) c.in_ok-front.front
+    c.between_total-behind.result c.in_ok-front.ensures c.between_total-behind.ensures) in
     simp to_z-of_z found

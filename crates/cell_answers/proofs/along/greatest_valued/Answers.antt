@@ -9,8 +9,12 @@ total_through-total-requires-clause-stands c = Contains-get_or c.args.line.now.b
 
 pub loop-position-preserved : goal.loop-position-preserved
 loop-position-preserved c =
-    before_more (Through c.args.lines.now c.args.line.now c.requires.opened) c.loop-position.position-index c.loop-position.greatest c.loop-position.invariant c.total_through-total.result c.greater-greatest.result c.total_through-total.ensures.greatest c.greater-greatest.ensures
+    before_more (Through c.args.lines.now c.args.line.now c.requires.opened) c.loop-position.position-index
+    c.loop-position.greatest c.loop-position.invariant c.total_through-total.result c.greater-greatest.result
+    c.total_through-total.ensures.greatest c.greater-greatest.ensures
 
 pub returns : goal.returns
 returns c =
-    all_through c.args.lines.now c.args.line.now c.requires.opened c.loop-position.position-index c.loop-position.greatest (omega (arith, c.loop-position-test.false)) (omega (arith, c.loop-position.auto.position-index-end)) c.loop-position.invariant
+    all_through c.args.lines.now c.args.line.now c.requires.opened c.loop-position.position-index
+    c.loop-position.greatest (omega (arith, c.loop-position-test.false))
+    (omega (arith, c.loop-position.auto.position-index-end)) c.loop-position.invariant

@@ -11,19 +11,26 @@ use Rattle.cell_answers.proofs.along.one_total.Goals as goal
 use Rattle.cell_answers.proofs.along.one_total.Goals.{After-token_value}
 
 -- the value is that of the letters up to the token's end
-value_is : (c : After-token_value) → c.token_value.result ≡ token_value c.args.lines.now.grammar c.args.token.now (letters_between c.args.lines.now.word c.args.from (c.args.from + fixed_length c.args.token.now))
+value_is : (c : After-token_value) → c.token_value.result ≡ token_value c.args.lines.now.grammar c.args.token.now
+    (letters_between c.args.lines.now.word c.args.from (c.args.from + fixed_length c.args.token.now))
 value_is c =
     let p = c.args.lines.now in
     let ends = rest_covers p c.args.token.now [] c.args.factor [] c.args.from c.args.to c.requires.weighted c.requires.fixed c.requires.covers c.requires.low in
     c.token_value.ensures ∙ ap (λ end. token_value p.grammar c.args.token.now (letters_between p.word c.args.from end)) (sym ends)
 
-rest_has : (c : After-token_value) → HasTotal c.args.lines.now (HasBestScore c.args.lines.now) [] [] (c.args.from + fixed_length c.args.token.now) c.args.to (pos 0)
-rest_has c =
-    ([], rest_covers c.args.lines.now c.args.token.now [] c.args.factor [] c.args.from c.args.to c.requires.weighted c.requires.fixed c.requires.covers c.requires.low, refl)
+rest_has : (c : After-token_value) → HasTotal c.args.lines.now (HasBestScore c.args.lines.now) [] []
+    (c.args.from + fixed_length c.args.token.now) c.args.to (pos 0)
+rest_has c = (
+  [],
+  rest_covers c.args.lines.now c.args.token.now [] c.args.factor [] c.args.from c.args.to c.requires.weighted
+      c.requires.fixed c.requires.covers c.requires.low,
+  refl,
+)
 
 product_low : (c : After-token_value) → nat_abs (c.args.factor *ℤ c.token_value.result) ≤ greatest_score
 product_low c =
-    (token_parts_low c.args.lines.now c.args.token.now [] c.args.factor [] c.args.from c.args.to c.requires.weighted c.requires.fixed c.requires.covers c.requires.low
+    (token_parts_low c.args.lines.now c.args.token.now [] c.args.factor [] c.args.from c.args.to c.requires.weighted
+    c.requires.fixed c.requires.covers c.requires.low
     (HasBestScore c.args.lines.now) c.token_value.result (pos 0) (value_is c) (rest_has c)).0
 
 pub overflow_mul-result : goal.overflow_mul-result

@@ -11,6 +11,8 @@ returns c =
     let fits_scale : FitsSigned w64 c.in-Some-Some.before = search rules in
     let fits_scale_behind : FitsSigned w64 c.in-Some-Some.behind = search rules in
     simp to_z-of_z (record {
-      before = subst (λ factor. IsScaled x.first.now factor c.args.line.now.row.goal c.in-Some-Some.before) (to_z-of_z w64 x.first_factor fits) c.in-Some-Some.ensures;
-      behind = subst (λ factor. IsScaled x.second.now factor c.args.line.now.column.goal c.in-Some-Some.behind) (to_z-of_z w64 x.second_factor fits_behind) c.in-Some-Some.ensures';
+      before = subst (λ factor. IsScaled x.first.now factor c.args.line.now.row.goal c.in-Some-Some.before)
+          (to_z-of_z w64 x.first_factor fits) c.in-Some-Some.ensures;
+      behind = subst (λ factor. IsScaled x.second.now factor c.args.line.now.column.goal c.in-Some-Some.behind)
+          (to_z-of_z w64 x.second_factor fits_behind) c.in-Some-Some.ensures';
     })

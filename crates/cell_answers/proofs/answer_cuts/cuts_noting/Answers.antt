@@ -14,7 +14,9 @@ in_range c =
     let A : PosedProblem → Type 0 = IsAdmissible in
     let admissible = subst A c.problem.ensures c.admissible.ensures in
     let best = c.requires.best in
-    ((c.bellman.ensures.admissible c.args.lines.now admissible).only c.args.cell (Best c.args.best.score (record { alt = c.args.best.alt; cuts = best.0 })) c.requires.in_word best.1).1.viable.in_range
+    ((c.bellman.ensures.admissible c.args.lines.now admissible).only c.args.cell
+    (Best c.args.best.score (record { alt = c.args.best.alt; cuts = best.0 })) c.requires.in_word
+    best.1).1.viable.in_range
 
 -- it is kept
 kept_is : (c : After-index-alternatives-best) → IsAlternative c.args.lines.now c.args.cell.rule c.args.best.alt c.index-alternatives-best.result

@@ -17,10 +17,12 @@ laid : (c : In-Some) → AreLaid c.args.lines.now c.args.scores.now c.args.argum
 laid c = record { weighted = c.requires.weighted; span = c.requires.span; scored = c.requires.scored; low = c.requires.low }
 
 whole : (c : In-Some) → IsWhole c.args.lines.now c.args.scores.now c.in-Some.opened.arguments c.in-Some.opened.from c.args.to c.in-Some.opened.boundary
-whole c = opened_whole c.args.lines.now c.args.scores.now c.args.arguments.now c.args.factors.now c.args.from c.args.to (laid c) c.in-Some.opened c.in-Some.ensures
+whole c =
+    opened_whole c.args.lines.now c.args.scores.now c.args.arguments.now c.args.factors.now c.args.from c.args.to (laid c) c.in-Some.opened c.in-Some.ensures
 
 tail : (c : In-Some) → IsTail c.args.lines.now c.in-Some.opened c.args.to
-tail c = opened_tail c.args.lines.now c.args.scores.now c.args.arguments.now c.args.factors.now c.args.from c.args.to (laid c) c.in-Some.opened c.in-Some.ensures
+tail c =
+    opened_tail c.args.lines.now c.args.scores.now c.args.arguments.now c.args.factors.now c.args.from c.args.to (laid c) c.in-Some.opened c.in-Some.ensures
 
 pub fixed_total-requires-clause-weighted : goal.fixed_total-requires-clause-weighted
 fixed_total-requires-clause-weighted c = (tail (goal.at.fixed_total-requires-clause-weighted c).In-Some).weighted
@@ -33,10 +35,13 @@ fixed_total-requires-clause-low c = (tail (goal.at.fixed_total-requires-clause-l
 
 sound : (c : In-Some) → AreSound c.args.lines.now
 sound c =
-    sound_by c.problem.result.now c.args.lines.now c.problem.ensures c.admissible.ensures (c.bounds_are_sound.ensures.score c.args.lines.now) (c.answer_is_unique.ensures c.args.lines.now)
+    sound_by c.problem.result.now c.args.lines.now c.problem.ensures c.admissible.ensures
+    (c.bounds_are_sound.ensures.score c.args.lines.now) (c.answer_is_unique.ensures c.args.lines.now)
 
 -- what the tokens leave fits
-left_fits : (c : In-Some) (behind : ℤ) → HasTotal c.args.lines.now (HasBestScore c.args.lines.now) c.in-Some.opened.arguments.tail.now c.in-Some.opened.arguments.tail_factors.now c.in-Some.opened.boundary.last c.args.to behind → FitsSigned w64 (c.args.total -ℤ behind)
+left_fits : (c : In-Some) (behind : ℤ) → HasTotal c.args.lines.now (HasBestScore c.args.lines.now)
+    c.in-Some.opened.arguments.tail.now c.in-Some.opened.arguments.tail_factors.now c.in-Some.opened.boundary.last
+    c.args.to behind → FitsSigned w64 (c.args.total -ℤ behind)
 left_fits c behind has =
     let p = c.args.lines.now in
     let line = c.in-Some.opened in
@@ -60,10 +65,13 @@ unreachable-requires-in-None c =
     let fits_total : FitsSigned w64 c.args.total = search rules in
     let fits_behind : FitsSigned w64 behind = search rules in
     let fits_left : FitsSigned w64 (c.args.total -ℤ behind) = left_fits at behind c.fixed_total.ensures in
-    let none : (position : ℕ) → Contains line.boundary.positions.now position → Through p c.args.scores.now line.arguments line.from c.args.to line.boundary (whole at) (c.args.total -ℤ behind) position → ⊥ = simp to_z-of_z at c.in-None.ensures in
+    let none : (position : ℕ) → Contains line.boundary.positions.now position
+    → Through p c.args.scores.now line.arguments line.from c.args.to line.boundary (whole at)
+    (c.args.total -ℤ behind) position → ⊥ = simp to_z-of_z at c.in-None.ensures in
     opened_holds p c.args.scores.now c.args.arguments.now c.args.factors.now c.args.from c.args.to (laid at) line c.in-Some.ensures
     (λ arguments factors from. HasTotal p (HasBestScore p) arguments factors from c.args.to c.args.total → ⊥)
-    (λ has. not_nowhere p c.args.scores.now line.arguments line.from c.args.to line.boundary (whole at) c.args.total behind c.fixed_total.ensures has none) c.requires.has
+    (λ has. not_nowhere p c.args.scores.now line.arguments line.from c.args.to line.boundary (whole at) c.args.total
+    behind c.fixed_total.ensures has none) c.requires.has
 
 pub returns : goal.returns
 returns c =
@@ -75,7 +83,9 @@ returns c =
     let fits_total : FitsSigned w64 c.args.total = search rules in
     let fits_behind : FitsSigned w64 behind = search rules in
     let fits_left : FitsSigned w64 (c.args.total -ℤ behind) = left_fits at behind c.fixed_total.ensures in
-    let first : IsFirstAmong line.boundary.positions.now (Through p c.args.scores.now line.arguments line.from c.args.to line.boundary (whole at) (c.args.total -ℤ behind)) position = simp to_z-of_z at c.in-Some-first_through.ensures in
+    let first : IsFirstAmong line.boundary.positions.now (Through p c.args.scores.now line.arguments line.from c.args.to
+    line.boundary (whole at) (c.args.total -ℤ behind)) position = simp to_z-of_z
+    at c.in-Some-first_through.ensures in
     opened_holds p c.args.scores.now c.args.arguments.now c.args.factors.now c.args.from c.args.to (laid at) line c.in-Some.ensures
     (λ arguments factors from. IsFirstEnd p arguments factors from c.args.to c.args.total position)
     (first_left p c.args.scores.now line.arguments line.from c.args.to line.boundary (whole at) c.args.total behind c.fixed_total.ensures position first)

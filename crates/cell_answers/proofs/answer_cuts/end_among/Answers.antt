@@ -19,7 +19,9 @@ use Rattle.cell_answers.proofs.answer_cuts.end_among.Goals as goal
 use Rattle.cell_answers.proofs.answer_cuts.end_among.Goals.{After-answer_is_unique, After-ends_of_first-positions}
 
 -- the arguments, from the first one on
-laid : (c : After-answer_is_unique) → AreLaid c.args.behind.now.lines.now c.args.behind.now.scores.now (c.in-Some-Some.argument.now ∷ c.in-Some-Some.others.now) (c.in-Some-Some.factor.now ∷ c.in-Some-Some.more.now) c.args.from c.args.to
+laid : (c : After-answer_is_unique) → AreLaid c.args.behind.now.lines.now c.args.behind.now.scores.now
+    (c.in-Some-Some.argument.now ∷ c.in-Some-Some.others.now) (c.in-Some-Some.factor.now ∷ c.in-Some-Some.more.now)
+    c.args.from c.args.to
 laid c =
     let p = c.args.behind.now.lines.now in
     let table = c.args.behind.now.scores.now in
@@ -28,21 +30,30 @@ laid c =
     subst A c.in-Some-Some.ensures.cases.0 (subst F c.in-Some-Some.ensures'.cases.0
     (record { weighted = c.requires.weighted; span = c.requires.span; scored = c.requires.scored; low = c.requires.low }))
 
-greatest : (c : After-answer_is_unique) → IsGreatestOf (HasTotal c.args.behind.now.lines.now (HasBestScore c.args.behind.now.lines.now) (c.in-Some-Some.argument.now ∷ c.in-Some-Some.others.now) (c.in-Some-Some.factor.now ∷ c.in-Some-Some.more.now) c.args.from c.args.to) (Some c.args.total)
+greatest : (c : After-answer_is_unique)
+    → IsGreatestOf (HasTotal c.args.behind.now.lines.now (HasBestScore c.args.behind.now.lines.now)
+    (c.in-Some-Some.argument.now ∷ c.in-Some-Some.others.now) (c.in-Some-Some.factor.now ∷ c.in-Some-Some.more.now)
+    c.args.from c.args.to) (Some c.args.total)
 greatest c =
     let p = c.args.behind.now.lines.now in
-    let A : List Arg → Type 0 = λ arguments. IsGreatestOf (HasTotal p (HasBestScore p) arguments (c.in-Some-Some.factor.now ∷ c.in-Some-Some.more.now) c.args.from c.args.to) (Some c.args.total) in
+    let A : List Arg → Type 0 = λ arguments. IsGreatestOf (HasTotal p (HasBestScore p) arguments
+    (c.in-Some-Some.factor.now ∷ c.in-Some-Some.more.now) c.args.from c.args.to) (Some c.args.total) in
     let F : List ℤ → Type 0 = λ factors. IsGreatestOf (HasTotal p (HasBestScore p) c.args.arguments.now factors c.args.from c.args.to) (Some c.args.total) in
     subst A c.in-Some-Some.ensures.cases.0 (subst F c.in-Some-Some.ensures'.cases.0 c.requires.greatest)
 
 sound : (c : After-answer_is_unique) → AreSound c.args.behind.now.lines.now
 sound c =
-    sound_by c.problem.result.now c.args.behind.now.lines.now c.problem.ensures c.admissible.ensures (c.bounds_are_sound.ensures.score c.args.behind.now.lines.now) (c.answer_is_unique.ensures c.args.behind.now.lines.now)
+    sound_by c.problem.result.now c.args.behind.now.lines.now c.problem.ensures c.admissible.ensures
+    (c.bounds_are_sound.ensures.score c.args.behind.now.lines.now)
+    (c.answer_is_unique.ensures c.args.behind.now.lines.now)
 
-positions : (c : After-ends_of_first-positions) → ArePositions c.args.behind.now.lines.now c.in-Some-Some.argument.now c.in-Some-Some.others.now c.args.from c.args.to c.ends_of_first-positions.result
+positions : (c : After-ends_of_first-positions) → ArePositions c.args.behind.now.lines.now c.in-Some-Some.argument.now
+    c.in-Some-Some.others.now c.args.from c.args.to c.ends_of_first-positions.result
 positions c = c.ends_of_first-positions.ensures c.in-Some-Some.argument.now c.in-Some-Some.others.now c.in-Some-Some.ensures.cases.0
 
-fits : (c : After-ends_of_first-positions) (end : ℕ) → c.ends_of_first-positions.result.start ≤ end → end < c.ends_of_first-positions.result.end → FitsSpan c.args.behind.now.lines.now (on_span c.in-Some-Some.argument.now c.args.from end)
+fits : (c : After-ends_of_first-positions) (end : ℕ) → c.ends_of_first-positions.result.start ≤ end
+    → end < c.ends_of_first-positions.result.end
+    → FitsSpan c.args.behind.now.lines.now (on_span c.in-Some-Some.argument.now c.args.from end)
 fits c end l m = (positions c).fit end l m
 
 -- what a goal has of the total: its bits, read back
@@ -50,7 +61,9 @@ total_is : (c : After-answer_is_unique) → to_z w64 (of_z w64 c.args.total) ≡
 total_is c = let fits : FitsSigned w64 c.args.total = search rules in to_z-of_z w64 c.args.total fits
 
 abbrev Nowhere : (c : After-answer_is_unique) → ℕ → ℤ → Type 0
-Nowhere c bound total = HasTotalNowhere c.args.behind.now.lines.now c.in-Some-Some.argument.now c.in-Some-Some.others.now c.in-Some-Some.factor.now c.in-Some-Some.more.now c.args.from c.args.to total bound
+Nowhere c bound total =
+    HasTotalNowhere c.args.behind.now.lines.now c.in-Some-Some.argument.now c.in-Some-Some.others.now
+    c.in-Some-Some.factor.now c.in-Some-Some.more.now c.args.from c.args.to total bound
 
 pub loop-end-init : goal.loop-end-init
 loop-end-init c =
@@ -59,17 +72,23 @@ loop-end-init c =
     record {
       same = c.requires.same_tails;
       none = subst (Nowhere begun c.ends_of_first-positions.result.start) (sym (total_is begun))
-          (none_at_first c.args.behind.now.lines.now c.args.behind.now.scores.now (sound begun) c.in-Some-Some.argument.now c.in-Some-Some.others.now c.in-Some-Some.factor.now c.in-Some-Some.more.now c.args.from c.args.to c.args.total (laid begun) (greatest begun) c.ends_of_first-positions.result (positions at));
+          (none_at_first c.args.behind.now.lines.now c.args.behind.now.scores.now (sound begun)
+          c.in-Some-Some.argument.now c.in-Some-Some.others.now c.in-Some-Some.factor.now c.in-Some-Some.more.now
+          c.args.from c.args.to c.args.total (laid begun) (greatest begun) c.ends_of_first-positions.result
+          (positions at));
     }
 
 pub argument_value-requires-clause-fits : goal.argument_value-requires-clause-fits
-argument_value-requires-clause-fits c = fits (goal.at.argument_value-requires-clause-fits c).After-ends_of_first-positions c.loop-end.end c.loop-end.auto.end c.loop-end-test.true
+argument_value-requires-clause-fits c =
+    fits (goal.at.argument_value-requires-clause-fits c).After-ends_of_first-positions c.loop-end.end c.loop-end.auto.end c.loop-end-test.true
 
 pub argument_value-requires-clause-low : goal.argument_value-requires-clause-low
 argument_value-requires-clause-low c =
     let at = (goal.at.argument_value-requires-clause-low c).After-ends_of_first-positions in
     let begun = (goal.at.argument_value-requires-clause-low c).After-answer_is_unique in
-    first_low c.args.behind.now.lines.now c.args.behind.now.scores.now c.in-Some-Some.argument.now c.in-Some-Some.others.now c.in-Some-Some.factor.now c.in-Some-Some.more.now c.args.from c.args.to (laid begun) c.loop-end.end (fits at c.loop-end.end c.loop-end.auto.end c.loop-end-test.true)
+    first_low c.args.behind.now.lines.now c.args.behind.now.scores.now c.in-Some-Some.argument.now
+    c.in-Some-Some.others.now c.in-Some-Some.factor.now c.in-Some-Some.more.now c.args.from c.args.to (laid begun)
+    c.loop-end.end (fits at c.loop-end.end c.loop-end.auto.end c.loop-end-test.true)
 
 -- the invariant, with the total itself
 before : (c : After-answer_is_unique) (bound : ℕ) → Nowhere c bound (to_z w64 (of_z w64 c.args.total)) → Nowhere c bound c.args.total
@@ -86,7 +105,10 @@ loop-end-preserved-in_default-argument_value c =
     record {
       same = c.loop-end.invariant.same;
       none = after begun (end + 1)
-          (none_valued c.args.behind.now.lines.now c.args.behind.now.scores.now (sound begun) c.in-Some-Some.argument.now c.in-Some-Some.others.now c.in-Some-Some.factor.now c.in-Some-Some.more.now c.args.from c.args.to c.args.total (laid begun) (greatest begun) end (before begun end c.loop-end.invariant.none)
+          (none_valued c.args.behind.now.lines.now c.args.behind.now.scores.now (sound begun)
+          c.in-Some-Some.argument.now c.in-Some-Some.others.now c.in-Some-Some.factor.now c.in-Some-Some.more.now
+          c.args.from c.args.to c.args.total (laid begun) (greatest begun) end
+          (before begun end c.loop-end.invariant.none)
           (fits at end c.loop-end.auto.end c.loop-end-test.true) (λ entry. c.in_default-argument_value.ensures entry));
     }
 
@@ -98,13 +120,23 @@ loop-end-preserved-in_default-tail_total c =
     record {
       same = c.in_default-tail_total.ensures.same ∙ c.loop-end.invariant.same;
       none = after begun (end + 1)
-          (none_totalled c.args.behind.now.lines.now c.args.behind.now.scores.now (sound begun) c.in-Some-Some.argument.now c.in-Some-Some.others.now c.in-Some-Some.factor.now c.in-Some-Some.more.now c.args.from c.args.to c.args.total (laid begun) (greatest begun) end (before begun end c.loop-end.invariant.none)
+          (none_totalled c.args.behind.now.lines.now c.args.behind.now.scores.now (sound begun)
+          c.in-Some-Some.argument.now c.in-Some-Some.others.now c.in-Some-Some.factor.now c.in-Some-Some.more.now
+          c.args.from c.args.to c.args.total (laid begun) (greatest begun) end
+          (before begun end c.loop-end.invariant.none)
           (fits at end c.loop-end.auto.end c.loop-end-test.true) c.in_default-tail_total.ensures.greatest);
     }
 
 -- the arguments behind an end
-rest : (c : After-answer_is_unique) (range : Range ℕ) → ArePositions c.args.behind.now.lines.now c.in-Some-Some.argument.now c.in-Some-Some.others.now c.args.from c.args.to range → (end : ℕ) → range.start ≤ end → end < range.end → AreLaid c.args.behind.now.lines.now c.args.behind.now.scores.now c.in-Some-Some.others.now c.in-Some-Some.more.now end c.args.to
-rest c range are end l m = rest_laid c.args.behind.now.lines.now c.args.behind.now.scores.now c.in-Some-Some.argument.now c.in-Some-Some.others.now c.in-Some-Some.factor.now c.in-Some-Some.more.now c.args.from c.args.to (laid c) end (are.fit end l m) (omega (arith, are.up_to_last, m))
+rest : (c : After-answer_is_unique) (range : Range ℕ)
+    → ArePositions c.args.behind.now.lines.now c.in-Some-Some.argument.now c.in-Some-Some.others.now c.args.from
+    c.args.to range → (end : ℕ) → range.start ≤ end → end < range.end
+    → AreLaid c.args.behind.now.lines.now c.args.behind.now.scores.now c.in-Some-Some.others.now c.in-Some-Some.more.now
+    end c.args.to
+rest c range are end l m =
+    rest_laid c.args.behind.now.lines.now c.args.behind.now.scores.now c.in-Some-Some.argument.now
+    c.in-Some-Some.others.now c.in-Some-Some.factor.now c.in-Some-Some.more.now c.args.from c.args.to (laid c) end
+    (are.fit end l m) (omega (arith, are.up_to_last, m))
 
 pub tail_total-requires-clause-owner : goal.tail_total-requires-clause-owner
 tail_total-requires-clause-owner c =
@@ -121,22 +153,35 @@ tail_total-requires-clause-same_tails c = c.loop-end.invariant.same
 pub tail_total-requires-clause-weighted : goal.tail_total-requires-clause-weighted
 tail_total-requires-clause-weighted c =
     let it = goal.at.tail_total-requires-clause-weighted c in
-    (rest it.After-answer_is_unique c.ends_of_first-positions.result (positions it.After-ends_of_first-positions) c.loop-end.end c.loop-end.auto.end c.loop-end-test.true).weighted
+    (rest it.After-answer_is_unique c.ends_of_first-positions.result (positions it.After-ends_of_first-positions)
+    c.loop-end.end c.loop-end.auto.end c.loop-end-test.true).weighted
 
 pub tail_total-requires-clause-scored : goal.tail_total-requires-clause-scored
 tail_total-requires-clause-scored c =
     let it = goal.at.tail_total-requires-clause-scored c in
-    (rest it.After-answer_is_unique c.ends_of_first-positions.result (positions it.After-ends_of_first-positions) c.loop-end.end c.loop-end.auto.end c.loop-end-test.true).scored
+    (rest it.After-answer_is_unique c.ends_of_first-positions.result (positions it.After-ends_of_first-positions)
+    c.loop-end.end c.loop-end.auto.end c.loop-end-test.true).scored
 
 pub tail_total-requires-clause-low : goal.tail_total-requires-clause-low
 tail_total-requires-clause-low c =
     let it = goal.at.tail_total-requires-clause-low c in
-    (rest it.After-answer_is_unique c.ends_of_first-positions.result (positions it.After-ends_of_first-positions) c.loop-end.end c.loop-end.auto.end c.loop-end-test.true).low
+    (rest it.After-answer_is_unique c.ends_of_first-positions.result (positions it.After-ends_of_first-positions)
+    c.loop-end.end c.loop-end.auto.end c.loop-end-test.true).low
 
 -- the product of the first argument and the total from an end on fit
-fitting : (c : After-answer_is_unique) (end : ℕ) → FitsSpan c.args.behind.now.lines.now (on_span c.in-Some-Some.argument.now c.args.from end) → (value : ℤ) → (AtRule (HasEntry c.args.behind.now.scores.now) (on_span c.in-Some-Some.argument.now c.args.from end) → IsValue c.args.behind.now.lines.now (HasBestScore c.args.behind.now.lines.now) (on_span c.in-Some-Some.argument.now c.args.from end) value)
-    → (rest : ℤ) → HasTotal c.args.behind.now.lines.now (HasBestScore c.args.behind.now.lines.now) c.in-Some-Some.others.now c.in-Some-Some.more.now end c.args.to rest → FitsSigned w64 (c.in-Some-Some.factor.now *ℤ value) × FitsSigned w64 rest × FitsSigned w64 ((c.in-Some-Some.factor.now *ℤ value) +ℤ rest)
-fitting c end end_fits value told rest total = parts_fit c.args.behind.now.lines.now c.args.behind.now.scores.now c.in-Some-Some.argument.now c.in-Some-Some.others.now c.in-Some-Some.factor.now c.in-Some-Some.more.now c.args.from c.args.to (laid c) end end_fits (sound c) value told rest total
+fitting : (c : After-answer_is_unique) (end : ℕ)
+    → FitsSpan c.args.behind.now.lines.now (on_span c.in-Some-Some.argument.now c.args.from end) → (value : ℤ)
+    → (AtRule (HasEntry c.args.behind.now.scores.now) (on_span c.in-Some-Some.argument.now c.args.from end)
+    → IsValue c.args.behind.now.lines.now (HasBestScore c.args.behind.now.lines.now)
+    (on_span c.in-Some-Some.argument.now c.args.from end) value)
+    → (rest : ℤ) → HasTotal c.args.behind.now.lines.now (HasBestScore c.args.behind.now.lines.now)
+    c.in-Some-Some.others.now c.in-Some-Some.more.now end c.args.to rest
+    → FitsSigned w64 (c.in-Some-Some.factor.now *ℤ value) × FitsSigned w64 rest
+    × FitsSigned w64 ((c.in-Some-Some.factor.now *ℤ value) +ℤ rest)
+fitting c end end_fits value told rest total =
+    parts_fit c.args.behind.now.lines.now c.args.behind.now.scores.now c.in-Some-Some.argument.now
+    c.in-Some-Some.others.now c.in-Some-Some.factor.now c.in-Some-Some.more.now c.args.from c.args.to (laid c) end
+    end_fits (sound c) value told rest total
 
 pub overflow_mul-factor : goal.overflow_mul-factor
 overflow_mul-factor c =
@@ -188,7 +233,10 @@ returns-then-factor-value-clause-first c =
     let fits_total : FitsSigned w64 c.args.total = search rules in
     let told : of_z w64 ((factor *ℤ value) +ℤ rest) ≡ of_z w64 c.args.total = simp to_z-of_z at c.if-factor-value.true in
     let same = same_bits ((factor *ℤ value) +ℤ rest) c.args.total fits_sum fits_total told in
-    let found = found_here p c.args.behind.now.scores.now (sound begun) c.in-Some-Some.argument.now c.in-Some-Some.others.now factor more c.args.from c.args.to c.args.total (laid begun) (greatest begun) end (before begun end c.loop-end.invariant.none) end_fits value rest (λ entry. c.in-Some.ensures entry) c.in-Some-tail_total.ensures.greatest same in
+    let found = found_here p c.args.behind.now.scores.now (sound begun) c.in-Some-Some.argument.now
+    c.in-Some-Some.others.now factor more c.args.from c.args.to c.args.total (laid begun) (greatest begun) end
+    (before begun end c.loop-end.invariant.none) end_fits value rest (λ entry. c.in-Some.ensures entry)
+    c.in-Some-tail_total.ensures.greatest same in
     let A : List Arg → Type 0 = λ arguments. IsFirstEnd p arguments (factor ∷ more) c.args.from c.args.to c.args.total end in
     let F : List ℤ → Type 0 = λ factors. IsFirstEnd p c.args.arguments.now factors c.args.from c.args.to c.args.total end in
     subst F (sym c.in-Some-Some.ensures'.cases.0) (subst A (sym c.in-Some-Some.ensures.cases.0) found)
@@ -213,11 +261,17 @@ loop-end-preserved c =
     record {
       same = c.in-Some-tail_total.ensures.same ∙ c.loop-end.invariant.same;
       none = after begun (end + 1)
-          (none_so_great c.args.behind.now.lines.now c.args.behind.now.scores.now (sound begun) c.in-Some-Some.argument.now c.in-Some-Some.others.now factor c.in-Some-Some.more.now c.args.from c.args.to c.args.total (laid begun) (greatest begun) end (before begun end c.loop-end.invariant.none) end_fits value rest (λ entry. c.in-Some.ensures entry) c.in-Some-tail_total.ensures.greatest differs);
+          (none_so_great c.args.behind.now.lines.now c.args.behind.now.scores.now (sound begun)
+          c.in-Some-Some.argument.now c.in-Some-Some.others.now factor c.in-Some-Some.more.now c.args.from c.args.to
+          c.args.total (laid begun) (greatest begun) end (before begun end c.loop-end.invariant.none) end_fits value
+          rest (λ entry. c.in-Some.ensures entry) c.in-Some-tail_total.ensures.greatest differs);
     }
 
 pub unreachable-requires-2 : goal.unreachable-requires-2
 unreachable-requires-2 c =
     let at = (goal.at.unreachable-requires-2 c).After-ends_of_first-positions in
     let begun = (goal.at.unreachable-requires-2 c).After-answer_is_unique in
-    not_all_tried c.args.behind.now.lines.now c.args.behind.now.scores.now (sound begun) c.in-Some-Some.argument.now c.in-Some-Some.others.now c.in-Some-Some.factor.now c.in-Some-Some.more.now c.args.from c.args.to c.args.total (laid begun) (greatest begun) c.ends_of_first-positions.result (positions at) c.loop-end.end c.loop-end-test.false (before begun c.loop-end.end c.loop-end.invariant.none)
+    not_all_tried c.args.behind.now.lines.now c.args.behind.now.scores.now (sound begun) c.in-Some-Some.argument.now
+    c.in-Some-Some.others.now c.in-Some-Some.factor.now c.in-Some-Some.more.now c.args.from c.args.to c.args.total
+    (laid begun) (greatest begun) c.ends_of_first-positions.result (positions at) c.loop-end.end
+    c.loop-end-test.false (before begun c.loop-end.end c.loop-end.invariant.none)

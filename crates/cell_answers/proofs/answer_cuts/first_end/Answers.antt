@@ -10,13 +10,17 @@ use Rattle.cell_answers.proofs.answer_cuts.first_end.Goals as goal
 pub only_end-requires : goal.only_end-requires
 only_end-requires c =
     let p = c.args.known.now.lines.now in
-    let (end, fits, cover) = laid_of_total p c.args.arguments.now c.args.factors.now c.in-Some.argument.now c.in-Some.others.now c.args.from c.args.to c.args.total c.in-Some.ensures.cases.0 c.requires.weighted.factors_each c.requires.greatest.0 in
+    let (end, fits, cover) = laid_of_total p c.args.arguments.now c.args.factors.now c.in-Some.argument.now
+    c.in-Some.others.now c.args.from c.args.to c.args.total c.in-Some.ensures.cases.0
+    c.requires.weighted.factors_each c.requires.greatest.0 in
     record { laid = (p, end, fits, cover) }
 
 pub returns-in-Some-only_end-clause-first : goal.returns-in-Some-only_end-clause-first
 returns-in-Some-only_end-clause-first c =
     let p = c.args.known.now.lines.now in
-    only_first p c.args.arguments.now c.args.factors.now c.in-Some.argument.now c.in-Some.others.now c.args.from c.args.to c.args.total c.in-Some-only_end.end c.in-Some.ensures.cases.0 c.requires.weighted.factors_each c.requires.greatest.0 (c.in-Some-only_end.ensures p)
+    only_first p c.args.arguments.now c.args.factors.now c.in-Some.argument.now c.in-Some.others.now c.args.from
+    c.args.to c.args.total c.in-Some-only_end.end c.in-Some.ensures.cases.0 c.requires.weighted.factors_each
+    c.requires.greatest.0 (c.in-Some-only_end.ensures p)
 
 pub end_along-requires-clause-same_problem : goal.end_along-requires-clause-same_problem
 end_along-requires-clause-same_problem c = c.requires.same_problem
@@ -61,17 +65,20 @@ pub end_among-requires-clause-greatest : goal.end_among-requires-clause-greatest
 end_among-requires-clause-greatest c =
     let p = c.args.known.now.lines.now in
     let read : to_z w64 (of_z w64 c.args.total) ≡ c.args.total = to_z-of_z w64 c.args.total (search rules) in
-    subst (λ total. IsGreatestOf (HasTotal p (HasBestScore p) c.args.arguments.now c.args.factors.now c.args.from c.args.to) (Some total)) (sym read) c.requires.greatest
+    subst (λ total. IsGreatestOf (HasTotal p (HasBestScore p) c.args.arguments.now c.args.factors.now c.args.from
+    c.args.to) (Some total)) (sym read) c.requires.greatest
 
 pub returns-in-Some-line_here-clause-first : goal.returns-in-Some-line_here-clause-first
 returns-in-Some-line_here-clause-first c =
     let read : to_z w64 (of_z w64 c.args.total) ≡ c.args.total = to_z-of_z w64 c.args.total (search rules) in
-    subst (λ total. IsFirstEnd c.args.known.now.lines.now c.args.arguments.now c.args.factors.now c.args.from c.args.to total c.end_along.result) read c.end_along.ensures
+    subst (λ total. IsFirstEnd c.args.known.now.lines.now c.args.arguments.now c.args.factors.now c.args.from c.args.to
+    total c.end_along.result) read c.end_along.ensures
 
 pub returns-clause-first : goal.returns-clause-first
 returns-clause-first c =
     let read : to_z w64 (of_z w64 c.args.total) ≡ c.args.total = to_z-of_z w64 c.args.total (search rules) in
-    subst (λ total. IsFirstEnd c.args.known.now.lines.now c.args.arguments.now c.args.factors.now c.args.from c.args.to total c.end_among.result) read c.end_among.ensures.first
+    subst (λ total. IsFirstEnd c.args.known.now.lines.now c.args.arguments.now c.args.factors.now c.args.from c.args.to
+    total c.end_among.result) read c.end_among.ensures.first
 
 pub end_among-requires-clause-same_tails : goal.end_among-requires-clause-same_tails
 end_among-requires-clause-same_tails c = c.requires.same_tails

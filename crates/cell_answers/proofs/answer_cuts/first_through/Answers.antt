@@ -12,83 +12,118 @@ use Rattle.cell_answers.proofs.answer_cuts.first_through.Goals.{After-answer_is_
 
 sound : (c : After-answer_is_unique) → AreSound c.args.lines.now
 sound c =
-    sound_by c.problem.result.now c.args.lines.now c.problem.ensures c.admissible.ensures (c.bounds_are_sound.ensures.score c.args.lines.now) (c.answer_is_unique.ensures c.args.lines.now)
+    sound_by c.problem.result.now c.args.lines.now c.problem.ensures c.admissible.ensures
+    (c.bounds_are_sound.ensures.score c.args.lines.now) (c.answer_is_unique.ensures c.args.lines.now)
 
 pub first_short-requires-clause-have : goal.first_short-requires-clause-have
 first_short-requires-clause-have c =
     let at = (goal.at.first_short-requires-clause-have c).After-answer_is_unique in
-    have_numbers c.args.lines.now (sound at).one short short_spaced (omega arith) c.args.line.now c.requires.opened c.in-Some.scales c.in-Short-Short.first.now c.in-Short-Short.second.now
-    (short_numbers c.args.lines.now c.args.line.now c.requires.opened c.in-Some.scales c.in-Some.ensures c.in-Short-Short.first c.in-Short-Short.second c.in-Short-Short.is-0 c.in-Short-Short.is-1)
+    have_numbers c.args.lines.now (sound at).one short short_spaced (omega arith) c.args.line.now c.requires.opened
+    c.in-Some.scales c.in-Short-Short.first.now c.in-Short-Short.second.now
+    (short_numbers c.args.lines.now c.args.line.now c.requires.opened c.in-Some.scales c.in-Some.ensures
+    c.in-Short-Short.first c.in-Short-Short.second c.in-Short-Short.is-0 c.in-Short-Short.is-1)
 
 pub first_short-requires-clause-low : goal.first_short-requires-clause-low
 first_short-requires-clause-low c =
     let at = (goal.at.first_short-requires-clause-low c).After-answer_is_unique in
-    are_low c.args.lines.now (sound at).one short short_spaced (omega arith) c.args.line.now c.requires.opened c.in-Some.scales c.in-Short-Short.first.now c.in-Short-Short.second.now
-    (short_numbers c.args.lines.now c.args.line.now c.requires.opened c.in-Some.scales c.in-Some.ensures c.in-Short-Short.first c.in-Short-Short.second c.in-Short-Short.is-0 c.in-Short-Short.is-1) (sound at)
+    are_low c.args.lines.now (sound at).one short short_spaced (omega arith) c.args.line.now c.requires.opened
+    c.in-Some.scales c.in-Short-Short.first.now c.in-Short-Short.second.now
+    (short_numbers c.args.lines.now c.args.line.now c.requires.opened c.in-Some.scales c.in-Some.ensures
+    c.in-Short-Short.first c.in-Short-Short.second c.in-Short-Short.is-0 c.in-Short-Short.is-1) (sound at)
 
 pub returns-in-Short-Short : goal.returns-in-Short-Short
 returns-in-Short-Short c =
     let at = (goal.at.returns-in-Short-Short c).After-answer_is_unique in
     let fits_total : FitsSigned w64 c.args.total = search rules in
-    scaled_first c.args.lines.now (sound at).one short short_spaced (omega arith) c.args.line.now c.requires.opened c.in-Some.scales c.in-Short-Short.first.now c.in-Short-Short.second.now
-    (short_numbers c.args.lines.now c.args.line.now c.requires.opened c.in-Some.scales c.in-Some.ensures c.in-Short-Short.first c.in-Short-Short.second c.in-Short-Short.is-0 c.in-Short-Short.is-1)
+    scaled_first c.args.lines.now (sound at).one short short_spaced (omega arith) c.args.line.now c.requires.opened
+    c.in-Some.scales c.in-Short-Short.first.now c.in-Short-Short.second.now
+    (short_numbers c.args.lines.now c.args.line.now c.requires.opened c.in-Some.scales c.in-Some.ensures
+    c.in-Short-Short.first c.in-Short-Short.second c.in-Short-Short.is-0 c.in-Short-Short.is-1)
     c.args.total c.first_short.result (simp to_z-of_z at c.first_short.ensures)
 
 pub first_medium-requires-clause-have : goal.first_medium-requires-clause-have
 first_medium-requires-clause-have c =
     let at = (goal.at.first_medium-requires-clause-have c).After-answer_is_unique in
-    have_numbers c.args.lines.now (sound at).one medium medium_spaced (omega arith) c.args.line.now c.requires.opened c.in-Some.scales c.in-Medium-Medium.first.now c.in-Medium-Medium.second.now
-    (medium_numbers c.args.lines.now c.args.line.now c.requires.opened c.in-Some.scales c.in-Some.ensures c.in-Medium-Medium.first c.in-Medium-Medium.second c.in-Medium-Medium.is-0 c.in-Medium-Medium.is-1)
+    have_numbers c.args.lines.now (sound at).one medium medium_spaced (omega arith) c.args.line.now c.requires.opened
+    c.in-Some.scales c.in-Medium-Medium.first.now c.in-Medium-Medium.second.now
+    (medium_numbers c.args.lines.now c.args.line.now c.requires.opened c.in-Some.scales c.in-Some.ensures
+    c.in-Medium-Medium.first c.in-Medium-Medium.second c.in-Medium-Medium.is-0 c.in-Medium-Medium.is-1)
 
 pub first_medium-requires-clause-low : goal.first_medium-requires-clause-low
 first_medium-requires-clause-low c =
     let at = (goal.at.first_medium-requires-clause-low c).After-answer_is_unique in
-    are_low c.args.lines.now (sound at).one medium medium_spaced (omega arith) c.args.line.now c.requires.opened c.in-Some.scales c.in-Medium-Medium.first.now c.in-Medium-Medium.second.now
-    (medium_numbers c.args.lines.now c.args.line.now c.requires.opened c.in-Some.scales c.in-Some.ensures c.in-Medium-Medium.first c.in-Medium-Medium.second c.in-Medium-Medium.is-0 c.in-Medium-Medium.is-1) (sound at)
+    are_low c.args.lines.now (sound at).one medium medium_spaced (omega arith) c.args.line.now c.requires.opened
+    c.in-Some.scales c.in-Medium-Medium.first.now c.in-Medium-Medium.second.now
+    (medium_numbers c.args.lines.now c.args.line.now c.requires.opened c.in-Some.scales c.in-Some.ensures
+    c.in-Medium-Medium.first c.in-Medium-Medium.second c.in-Medium-Medium.is-0 c.in-Medium-Medium.is-1) (sound at)
 
 pub returns-in-Medium-Medium : goal.returns-in-Medium-Medium
 returns-in-Medium-Medium c =
     let at = (goal.at.returns-in-Medium-Medium c).After-answer_is_unique in
     let fits_total : FitsSigned w64 c.args.total = search rules in
-    scaled_first c.args.lines.now (sound at).one medium medium_spaced (omega arith) c.args.line.now c.requires.opened c.in-Some.scales c.in-Medium-Medium.first.now c.in-Medium-Medium.second.now
-    (medium_numbers c.args.lines.now c.args.line.now c.requires.opened c.in-Some.scales c.in-Some.ensures c.in-Medium-Medium.first c.in-Medium-Medium.second c.in-Medium-Medium.is-0 c.in-Medium-Medium.is-1)
+    scaled_first c.args.lines.now (sound at).one medium medium_spaced (omega arith) c.args.line.now c.requires.opened
+    c.in-Some.scales c.in-Medium-Medium.first.now c.in-Medium-Medium.second.now
+    (medium_numbers c.args.lines.now c.args.line.now c.requires.opened c.in-Some.scales c.in-Some.ensures
+    c.in-Medium-Medium.first c.in-Medium-Medium.second c.in-Medium-Medium.is-0 c.in-Medium-Medium.is-1)
     c.args.total c.first_medium.result (simp to_z-of_z at c.first_medium.ensures)
 
 pub first_long-requires-clause-have : goal.first_long-requires-clause-have
 first_long-requires-clause-have c =
     let at = (goal.at.first_long-requires-clause-have c).After-answer_is_unique in
-    have_numbers c.args.lines.now (sound at).one long long_spaced (omega arith) c.args.line.now c.requires.opened c.in-Some.scales c.in-Long-Long.first.now c.in-Long-Long.second.now
-    (long_numbers c.args.lines.now c.args.line.now c.requires.opened c.in-Some.scales c.in-Some.ensures c.in-Long-Long.first c.in-Long-Long.second c.in-Long-Long.is-0 c.in-Long-Long.is-1)
+    have_numbers c.args.lines.now (sound at).one long long_spaced (omega arith) c.args.line.now c.requires.opened
+    c.in-Some.scales c.in-Long-Long.first.now c.in-Long-Long.second.now
+    (long_numbers c.args.lines.now c.args.line.now c.requires.opened c.in-Some.scales c.in-Some.ensures
+    c.in-Long-Long.first c.in-Long-Long.second c.in-Long-Long.is-0 c.in-Long-Long.is-1)
 
 pub first_long-requires-clause-low : goal.first_long-requires-clause-low
 first_long-requires-clause-low c =
     let at = (goal.at.first_long-requires-clause-low c).After-answer_is_unique in
-    are_low c.args.lines.now (sound at).one long long_spaced (omega arith) c.args.line.now c.requires.opened c.in-Some.scales c.in-Long-Long.first.now c.in-Long-Long.second.now
-    (long_numbers c.args.lines.now c.args.line.now c.requires.opened c.in-Some.scales c.in-Some.ensures c.in-Long-Long.first c.in-Long-Long.second c.in-Long-Long.is-0 c.in-Long-Long.is-1) (sound at)
+    are_low c.args.lines.now (sound at).one long long_spaced (omega arith) c.args.line.now c.requires.opened
+    c.in-Some.scales c.in-Long-Long.first.now c.in-Long-Long.second.now
+    (long_numbers c.args.lines.now c.args.line.now c.requires.opened c.in-Some.scales c.in-Some.ensures
+    c.in-Long-Long.first c.in-Long-Long.second c.in-Long-Long.is-0 c.in-Long-Long.is-1) (sound at)
 
 pub returns-in-Long-Long : goal.returns-in-Long-Long
 returns-in-Long-Long c =
     let at = (goal.at.returns-in-Long-Long c).After-answer_is_unique in
     let fits_total : FitsSigned w64 c.args.total = search rules in
-    scaled_first c.args.lines.now (sound at).one long long_spaced (omega arith) c.args.line.now c.requires.opened c.in-Some.scales c.in-Long-Long.first.now c.in-Long-Long.second.now
-    (long_numbers c.args.lines.now c.args.line.now c.requires.opened c.in-Some.scales c.in-Some.ensures c.in-Long-Long.first c.in-Long-Long.second c.in-Long-Long.is-0 c.in-Long-Long.is-1)
+    scaled_first c.args.lines.now (sound at).one long long_spaced (omega arith) c.args.line.now c.requires.opened
+    c.in-Some.scales c.in-Long-Long.first.now c.in-Long-Long.second.now
+    (long_numbers c.args.lines.now c.args.line.now c.requires.opened c.in-Some.scales c.in-Some.ensures
+    c.in-Long-Long.first c.in-Long-Long.second c.in-Long-Long.is-0 c.in-Long-Long.is-1)
     c.args.total c.first_long.result (simp to_z-of_z at c.first_long.ensures)
 
 pub first_whole-requires-clause-have : goal.first_whole-requires-clause-have
 first_whole-requires-clause-have c =
     let at = (goal.at.first_whole-requires-clause-have c).After-answer_is_unique in
-    numbers_there c.args.lines.now c.args.line.now c.requires.opened no_candidate c.factors_of.result c.in-Whole-Whole.first.now c.in-Whole-Whole.second.now (whole_tell c.args.lines.now (sound at).one c.args.line.now c.requires.opened c.in-Some.scales (record { before = c.in-Some.ensures.before; behind = c.in-Some.ensures.behind }) c.factors_of.result c.factors_of.ensures.before c.factors_of.ensures.behind c.in-Whole-Whole.first c.in-Whole-Whole.second c.in-Whole-Whole.is-0 c.in-Whole-Whole.is-1)
+    numbers_there c.args.lines.now c.args.line.now c.requires.opened no_candidate c.factors_of.result
+    c.in-Whole-Whole.first.now c.in-Whole-Whole.second.now
+    (whole_tell c.args.lines.now (sound at).one c.args.line.now c.requires.opened c.in-Some.scales
+    (record { before = c.in-Some.ensures.before; behind = c.in-Some.ensures.behind }) c.factors_of.result
+    c.factors_of.ensures.before c.factors_of.ensures.behind c.in-Whole-Whole.first c.in-Whole-Whole.second
+    c.in-Whole-Whole.is-0 c.in-Whole-Whole.is-1)
 
 pub first_whole-requires-clause-low : goal.first_whole-requires-clause-low
 first_whole-requires-clause-low c =
     let at = (goal.at.first_whole-requires-clause-low c).After-answer_is_unique in
-    plain_low c.args.lines.now c.args.line.now c.requires.opened no_candidate c.factors_of.result c.in-Whole-Whole.first.now c.in-Whole-Whole.second.now (whole_tell c.args.lines.now (sound at).one c.args.line.now c.requires.opened c.in-Some.scales (record { before = c.in-Some.ensures.before; behind = c.in-Some.ensures.behind }) c.factors_of.result c.factors_of.ensures.before c.factors_of.ensures.behind c.in-Whole-Whole.first c.in-Whole-Whole.second c.in-Whole-Whole.is-0 c.in-Whole-Whole.is-1) c.in-Some.ensures.worthless (sound at)
+    plain_low c.args.lines.now c.args.line.now c.requires.opened no_candidate c.factors_of.result
+    c.in-Whole-Whole.first.now c.in-Whole-Whole.second.now
+    (whole_tell c.args.lines.now (sound at).one c.args.line.now c.requires.opened c.in-Some.scales
+    (record { before = c.in-Some.ensures.before; behind = c.in-Some.ensures.behind }) c.factors_of.result
+    c.factors_of.ensures.before c.factors_of.ensures.behind c.in-Whole-Whole.first c.in-Whole-Whole.second
+    c.in-Whole-Whole.is-0 c.in-Whole-Whole.is-1) c.in-Some.ensures.worthless (sound at)
 
 pub returns-in-Whole-Whole : goal.returns-in-Whole-Whole
 returns-in-Whole-Whole c =
     let at = (goal.at.returns-in-Whole-Whole c).After-answer_is_unique in
     let fits_total : FitsSigned w64 c.args.total = search rules in
-    plain_first c.args.lines.now c.args.line.now c.requires.opened no_candidate c.factors_of.result c.in-Whole-Whole.first.now c.in-Whole-Whole.second.now (whole_tell c.args.lines.now (sound at).one c.args.line.now c.requires.opened c.in-Some.scales (record { before = c.in-Some.ensures.before; behind = c.in-Some.ensures.behind }) c.factors_of.result c.factors_of.ensures.before c.factors_of.ensures.behind c.in-Whole-Whole.first c.in-Whole-Whole.second c.in-Whole-Whole.is-0 c.in-Whole-Whole.is-1) c.in-Some.ensures.worthless c.args.total c.first_whole.result (simp to_z-of_z at c.first_whole.ensures)
+    plain_first c.args.lines.now c.args.line.now c.requires.opened no_candidate c.factors_of.result
+    c.in-Whole-Whole.first.now c.in-Whole-Whole.second.now
+    (whole_tell c.args.lines.now (sound at).one c.args.line.now c.requires.opened c.in-Some.scales
+    (record { before = c.in-Some.ensures.before; behind = c.in-Some.ensures.behind }) c.factors_of.result
+    c.factors_of.ensures.before c.factors_of.ensures.behind c.in-Whole-Whole.first c.in-Whole-Whole.second
+    c.in-Whole-Whole.is-0 c.in-Whole-Whole.is-1) c.in-Some.ensures.worthless c.args.total c.first_whole.result
+    (simp to_z-of_z at c.first_whole.ensures)
 
 pub returns : goal.returns
 returns c =

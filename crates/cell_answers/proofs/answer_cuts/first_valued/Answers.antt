@@ -16,7 +16,8 @@ abbrev IsNoneBefore : After-are_worthless-weigh → ℤ → ℕ → Type 0
 IsNoneBefore c total count = (number : ℕ) → number < count → Through c total (get_or c.args.line.now.boundary.positions.now number 0) → ⊥
 
 pub total_through-through-requires-clause-stands : goal.total_through-through-requires-clause-stands
-total_through-through-requires-clause-stands c = Contains-get_or c.args.line.now.boundary.positions.now c.loop-position.position-index 0 c.loop-position-test.true
+total_through-through-requires-clause-stands c =
+    Contains-get_or c.args.line.now.boundary.positions.now c.loop-position.position-index 0 c.loop-position-test.true
 
 pub returns-then-found-total : goal.returns-then-found-total
 returns-then-found-total c =
@@ -60,4 +61,5 @@ returns c = λ position stands through.
     let fits_total : FitsSigned w64 c.args.total = search rules in
     let none : IsNoneBefore at (to_z w64 (of_z w64 c.args.total)) c.loop-position.position-index = c.loop-position.invariant in
     let there = sym (get_or_default positions stands.0 0 position stands.1 ∙ stands.2) in
-    subst (λ total. IsNoneBefore at total c.loop-position.position-index) (to_z-of_z w64 c.args.total fits_total) none stands.0 (omega (arith, stands.1, c.loop-position-test.false)) (subst (Through at c.args.total) there through)
+    subst (λ total. IsNoneBefore at total c.loop-position.position-index) (to_z-of_z w64 c.args.total fits_total) none
+    stands.0 (omega (arith, stands.1, c.loop-position-test.false)) (subst (Through at c.args.total) there through)

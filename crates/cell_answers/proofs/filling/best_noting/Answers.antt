@@ -18,7 +18,8 @@ use Rattle.cell_answers.proofs.filling.best_noting.Goals.{After-goal-goal, After
 admissible : (c : After-goal-goal) → IsAdmissible c.args.lines.now
 admissible c = let A : PosedProblem → Type 0 = IsAdmissible in subst A c.problem-problem.ensures c.admissible.ensures
 
-count_is : (c : After-candidates-candidates) → length c.candidates-candidates.result.alternatives.now ≡ length (alternatives_of c.args.lines.now.grammar c.args.cell.rule)
+count_is : (c : After-candidates-candidates) → length c.candidates-candidates.result.alternatives.now
+    ≡ length (alternatives_of c.args.lines.now.grammar c.args.cell.rule)
 count_is c = c.candidates-candidates.ensures.each
 
 goal_is : (c : After-goal-goal) → c.goal-goal.result ≡ (algebra_of c.args.lines.now).goal
@@ -29,10 +30,13 @@ few c = c.alternatives_fit.ensures.few c.args.lines.now.grammar (admissible c).c
 
 -- what laws tell of the cell's alternatives
 abbrev AreSome : (c : After-goal-goal) → Type 0
-AreSome c = (alternative : ℕ) → alternative < length (alternatives_of c.args.lines.now.grammar c.args.cell.rule) → 1 ≤ length (arguments_of c.args.lines.now.grammar c.args.cell.rule alternative)
+AreSome c =
+    (alternative : ℕ) → alternative < length (alternatives_of c.args.lines.now.grammar c.args.cell.rule)
+    → 1 ≤ length (arguments_of c.args.lines.now.grammar c.args.cell.rule alternative)
 
 some : (c : After-goal-goal) → AreSome c
-some c alternative in_range = c.alternatives_fit.ensures.arguments c.args.lines.now.grammar (admissible c).checked.well_formed c.args.cell.rule alternative in_range
+some c alternative in_range =
+    c.alternatives_fit.ensures.arguments c.args.lines.now.grammar (admissible c).checked.well_formed c.args.cell.rule alternative in_range
 
 four : (c : After-goal-goal) (alternative : ℕ) → length (arguments_of c.args.lines.now.grammar c.args.cell.rule alternative) ≤ 4
 four c alternative = c.arguments_are_few_and_known.ensures.few c.args.lines.now.grammar (admissible c).checked.well_formed c.args.cell.rule alternative
@@ -47,7 +51,9 @@ by_item : {X Y : Type 0} (xs : List X) (k : ℕ) → k < length xs → (X → Y)
 by_item [] k l told = absurd (omega arith)
 by_item (x ∷ xs) k l told = told x
 
-some_here : (c : After-candidates-candidates) (alternative : ℕ) → alternative < length (alternatives_of c.args.lines.now.grammar c.args.cell.rule) → 1 ≤ length (arguments_of c.args.lines.now.grammar c.args.cell.rule alternative)
+some_here : (c : After-candidates-candidates) (alternative : ℕ)
+    → alternative < length (alternatives_of c.args.lines.now.grammar c.args.cell.rule)
+    → 1 ≤ length (arguments_of c.args.lines.now.grammar c.args.cell.rule alternative)
 some_here c alternative in_range =
     let A : PosedProblem → Type 0 = IsAdmissible in
     let admissible : IsAdmissible c.args.lines.now = subst A c.problem-problem.ensures c.admissible.ensures in
@@ -63,7 +69,8 @@ none_between c first next within none alternative from before =
     let there : alternative < length alternatives = omega arith in
     let in_range : alternative < length (alternatives_of c.args.lines.now.grammar c.args.cell.rule) = omega (arith, count_is c) in
     by_item alternatives alternative there (λ d.
-    no_score_closed c.args.lines.now c.args.cell alternative (get_or alternatives alternative d) (told.are alternative d there) in_range (some_here c alternative in_range)
+    no_score_closed c.args.lines.now c.args.cell alternative (get_or alternatives alternative d)
+    (told.are alternative d there) in_range (some_here c alternative in_range)
     (told.others alternative d there (none alternative from before)))
 
 pub loop-number-init : goal.loop-number-init
@@ -73,7 +80,9 @@ loop-number-init c =
     record {
       within = c.next-number.ensures.within;
       same = c.requires.same_tails;
-      best = passed_over c.args.lines.now c.args.cell 0 first None (omega arith) (none_between at 0 first c.next-number.ensures.within c.next-number.ensures.none_before) (λ other number l has. absurd (omega arith));
+      best = passed_over c.args.lines.now c.args.cell 0 first None (omega arith)
+          (none_between at 0 first c.next-number.ensures.within c.next-number.ensures.none_before)
+          (λ other number l has. absurd (omega arith));
     }
 
 pub loop-number-preserved : goal.loop-number-preserved
@@ -84,7 +93,11 @@ loop-number-preserved c =
     record {
       within = c.next-number-in-loop-number.ensures.within;
       same = c.alternative_score-score.ensures.same ∙ c.loop-number.invariant.same;
-      best = passed_over c.args.lines.now c.args.cell (number + 1) next c.better-best.result c.next-number-in-loop-number.ensures.from_number (none_between at (number + 1) next c.next-number-in-loop-number.ensures.within c.next-number-in-loop-number.ensures.none_before)
+      best =
+          passed_over c.args.lines.now c.args.cell (number + 1) next c.better-best.result
+          c.next-number-in-loop-number.ensures.from_number
+          (none_between at (number + 1) next c.next-number-in-loop-number.ensures.within
+          c.next-number-in-loop-number.ensures.none_before)
           (c.better-best.ensures c.args.lines.now c.args.cell c.loop-number.invariant.best c.alternative_score-score.ensures.greatest);
     }
 
@@ -96,8 +109,10 @@ returns-in_default-clause-best c =
     let at = (goal.at.returns-in_default-clause-best c).After-goal-goal in
     let at' = (goal.at.returns-in_default-clause-best c).After-candidates-candidates in
     let p = c.args.lines.now in
-    let count : c.loop-number.number ≡ length (alternatives_of p.grammar c.args.cell.rule) = omega (arith, count_is at', c.loop-number-test.false, c.loop-number.invariant.within) in
-    let here : GiveNone p c.args.cell c.loop-number.number = subst (IsBestOfFirst p c.args.cell c.loop-number.number) c.in_default.is c.loop-number.invariant.best in
+    let count : c.loop-number.number ≡ length (alternatives_of p.grammar c.args.cell.rule) =
+    omega (arith, count_is at', c.loop-number-test.false, c.loop-number.invariant.within) in
+    let here : GiveNone p c.args.cell c.loop-number.number = subst (IsBestOfFirst p c.args.cell c.loop-number.number)
+    c.in_default.is c.loop-number.invariant.best in
     none_given p (c.bellman.ensures.admissible p (admissible at)) c.args.cell c.requires.in_word (some at) (four at) (subst (GiveNone p c.args.cell) count here)
 
 -- what the loop has found
@@ -109,10 +124,16 @@ turned-requires c =
     let at = (goal.at.turned-requires c).After-goal-goal in
     let at' = (goal.at.turned-requires c).After-candidates-candidates in
     let p = c.args.lines.now in
-    let count : c.loop-number.number ≤ length (alternatives_of p.grammar c.args.cell.rule) = omega (arith, count_is at', c.loop-number-test.false, c.loop-number.invariant.within) in
+    let count : c.loop-number.number ≤ length (alternatives_of p.grammar c.args.cell.rule) =
+    omega (arith, count_is at', c.loop-number-test.false, c.loop-number.invariant.within) in
     let it = found c in
     let fits_score : FitsSigned w64 c.in-Some.field-0.score = search rules in
-    simp to_z-of_z (score_low (record { rises = c.magnitudes_rise.ensures; within = c.values_are_within_magnitudes.ensures }) p (admissible at) (best_within p (admissible at) (c.bounds_are_sound.ensures.score p)) c.args.cell c.loop-number.number c.in-Some.field-0.score c.requires.in_word c.requires.rule count (c.in-Some.field-0.alt, it.before, it.gives))
+    simp to_z-of_z (score_low (record {
+      rises = c.magnitudes_rise.ensures;
+      within = c.values_are_within_magnitudes.ensures;
+    }) p (admissible at)
+    (best_within p (admissible at) (c.bounds_are_sound.ensures.score p)) c.args.cell c.loop-number.number
+    c.in-Some.field-0.score c.requires.in_word c.requires.rule count (c.in-Some.field-0.alt, it.before, it.gives))
 
 pub returns-clause-best : goal.returns-clause-best
 returns-clause-best c =
@@ -121,9 +142,11 @@ returns-clause-best c =
     let here = (goal.at.returns-clause-best c).In-Some in
     let p = c.args.lines.now in
     let score = c.in-Some.field-0.score in
-    let count : c.loop-number.number ≡ length (alternatives_of p.grammar c.args.cell.rule) = omega (arith, count_is at', c.loop-number-test.false, c.loop-number.invariant.within) in
+    let count : c.loop-number.number ≡ length (alternatives_of p.grammar c.args.cell.rule) =
+    omega (arith, count_is at', c.loop-number-test.false, c.loop-number.invariant.within) in
     let G : ℕ → Type 0 = λ n. IsFirstGiving p c.args.cell n score c.in-Some.field-0.alt in
-    let given = best_given p (c.bellman.ensures.admissible p (admissible at)) c.args.cell c.requires.in_word (some at) (four at) score c.in-Some.field-0.alt (subst G count (found here)) in
+    let given = best_given p (c.bellman.ensures.admissible p (admissible at)) c.args.cell c.requires.in_word (some at)
+    (four at) score c.in-Some.field-0.alt (subst G count (found here)) in
     let fits_score : FitsSigned w64 score = search rules in
     let fits_turned : FitsSigned w64 c.turned.result = search rules in
     let told : c.turned.result ≡ turned c.goal-goal.result score = simp to_z-of_z at c.turned.ensures in

@@ -27,7 +27,8 @@ bellman c = c.bellman.ensures.admissible c.args.lines.now (admissible c)
 
 some : (c : After-goal) (alternative : ℕ) → alternative < length (alternatives_of c.args.lines.now.grammar c.args.cell.rule)
     → 1 ≤ length (arguments_of c.args.lines.now.grammar c.args.cell.rule alternative)
-some c alternative in_range = c.alternatives_fit.ensures.arguments c.args.lines.now.grammar (admissible c).checked.well_formed c.args.cell.rule alternative in_range
+some c alternative in_range =
+    c.alternatives_fit.ensures.arguments c.args.lines.now.grammar (admissible c).checked.well_formed c.args.cell.rule alternative in_range
 
 few : (c : After-goal) (alternative : ℕ) → length (arguments_of c.args.lines.now.grammar c.args.cell.rule alternative) ≤ 4
 few c alternative = c.arguments_are_few_and_known.ensures.few c.args.lines.now.grammar (admissible c).checked.well_formed c.args.cell.rule alternative
@@ -49,7 +50,9 @@ score_is_low c =
     let first = ((bellman c).only c.args.cell (Best c.args.score choice) c.requires.in_word c.requires.best.1).1 in
     let gives = scored_in p (bellman c) c.args.cell c.requires.in_word (some c) (few c) c.args.score choice first in
     let within : choice.alt + 1 ≤ length (alternatives_of p.grammar c.args.cell.rule) = omega (arith, first.viable.in_range) in
-    let low = score_low (record { rises = c.magnitudes_rise.ensures; within = c.values_are_within_magnitudes.ensures }) p (admissible c) (best_within p (admissible c) (c.bounds_are_sound.ensures.score p)) c.args.cell (choice.alt + 1) (the_sought c) c.requires.in_word c.requires.rule within (choice.alt, omega arith, gives) in
+    let low = score_low (record { rises = c.magnitudes_rise.ensures; within = c.values_are_within_magnitudes.ensures })
+    p (admissible c) (best_within p (admissible c) (c.bounds_are_sound.ensures.score p)) c.args.cell
+    (choice.alt + 1) (the_sought c) c.requires.in_word c.requires.rule within (choice.alt, omega arith, gives) in
     let same_size = turned_low (algebra_of p).goal c.args.score in
     omega arith
 
@@ -68,7 +71,8 @@ sought_is c =
 sound : (c : After-goal) → AreSound c.args.lines.now
 sound c = sound_of c.args.lines.now (admissible c) (c.bounds_are_sound.ensures.score c.args.lines.now) (c.answer_is_unique.ensures c.args.lines.now)
 
-count_is : (c : After-candidates-candidates) → length c.candidates-candidates.result.alternatives.now ≡ length (alternatives_of c.args.lines.now.grammar c.args.cell.rule)
+count_is : (c : After-candidates-candidates) → length c.candidates-candidates.result.alternatives.now
+    ≡ length (alternatives_of c.args.lines.now.grammar c.args.cell.rule)
 count_is c = c.candidates-candidates.ensures.each
 
 pub overflow_sub-last : goal.overflow_sub-last
@@ -113,7 +117,8 @@ no_other : (c : After-goal) (count : ℕ) → NoneGive c count → (other : ℕ)
     → HasTurnedScore c.args.lines.now c.args.cell other (turned (algebra_of c.args.lines.now).goal best) → ⊥
 no_other c count none other best l is has =
     let p = c.args.lines.now in
-    none other l (subst (λ score. HasTurnedScore p c.args.cell other (turned (algebra_of p).goal score)) ((sound c).one c.args.cell best c.args.score is c.requires.best) has)
+    none other l (subst (λ score. HasTurnedScore p c.args.cell other (turned (algebra_of p).goal score))
+    ((sound c).one c.args.cell best c.args.score is c.requires.best) has)
 
 pub loop-number-preserved : goal.loop-number-preserved
 loop-number-preserved c =
@@ -125,12 +130,15 @@ loop-number-preserved c =
     let l : number < length (alternatives_of p.grammar c.args.cell.rule) = omega (arith, one_or_more at, count_is at', c.loop-number-test.true) in
     let fits : FitsSigned w64 c.turned-sought.result = search rules in
     let told : IsTrue c.is_score.result ↔ (c.candidate_score-given.result ≡ Some c.turned-sought.result) = simp to_z-of_z at c.is_score.ensures in
-    let differs : c.candidate_score-given.result ≡ Some (the_sought at) → ⊥ = λ is. false≢true (sym c.if-is_score.false ∙ told.1 (is ∙ ap Some (sym (sought_is found)))) in
-    let here = gives_other p (bellman at) c.args.cell c.requires.in_word (some at) (few at) c.args.score c.requires.best number c.candidate_score-given.result l c.candidate_score-given.ensures.greatest differs in
+    let differs : c.candidate_score-given.result ≡ Some (the_sought at)
+    → ⊥ = λ is. false≢true (sym c.if-is_score.false ∙ told.1 (is ∙ ap Some (sym (sought_is found)))) in
+    let here = gives_other p (bellman at) c.args.cell c.requires.in_word (some at) (few at) c.args.score c.requires.best
+    number c.candidate_score-given.result l c.candidate_score-given.ensures.greatest differs in
     let none : NoneGive at number = λ other before. c.loop-number.invariant.none other c.args.score before c.requires.best in
     record {
       same = c.candidate_score-given.ensures.same ∙ c.loop-number.invariant.same;
-      none = no_other at (number + 1) (none_further p (bellman at) c.args.cell c.requires.in_word (some at) (few at) c.args.score c.requires.best number none here);
+      none = no_other at (number + 1) (none_further p (bellman at) c.args.cell c.requires.in_word (some at) (few at)
+          c.args.score c.requires.best number none here);
     }
 
 pub returns-then-is_score : goal.returns-then-is_score
@@ -154,8 +162,10 @@ returns c =
     let at' = (goal.at.returns c).After-candidates-candidates in
     let p = c.args.lines.now in
     let number = c.loop-number.number in
-    let is_last : length (alternatives_of p.grammar c.args.cell.rule) ≡ number + 1 = omega (arith, one_or_more at, count_is at', c.loop-number-test.false, c.loop-number.auto.number-end) in
+    let is_last : length (alternatives_of p.grammar c.args.cell.rule) ≡ number
+    + 1 = omega (arith, one_or_more at, count_is at', c.loop-number-test.false, c.loop-number.auto.number-end) in
     let last_is : length c.candidates-candidates.result.alternatives.now - 1 ≡ number = omega (arith, is_last, count_is at') in
     let none : NoneGive at number = λ other before. c.loop-number.invariant.none other c.args.score before c.requires.best in
-    let found = first_is p (bellman at) c.args.cell c.requires.in_word (some at) (few at) c.args.score c.requires.best number (omega (arith, is_last)) none (inr is_last) in
+    let found = first_is p (bellman at) c.args.cell c.requires.in_word (some at) (few at) c.args.score c.requires.best
+    number (omega (arith, is_last)) none (inr is_last) in
     subst (IsCellBest p c.args.cell c.args.score) (sym last_is) found

@@ -9,5 +9,6 @@ use Rattle.cell_answers.proofs.filling.first_giving.Given as goal
 abbrev pub invariant-loop-number : goal.invariant-loop-number
 invariant-loop-number l = record {
   same : l.tails ≡ l.lines;
-  none : (other : ℕ) (best : ℤ) → other < l.number → HasBestScore l.lines l.cell best → HasTurnedScore l.lines l.cell other (turned (algebra_of l.lines).goal best) → ⊥;
+  none : (other : ℕ) (best : ℤ) → other < l.number → HasBestScore l.lines l.cell best
+      → HasTurnedScore l.lines l.cell other (turned (algebra_of l.lines).goal best) → ⊥;
 }

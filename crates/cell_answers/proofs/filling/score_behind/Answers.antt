@@ -16,8 +16,10 @@ score_by_term-requires-clause-allowed c = c.requires.opening.allowed c.args.alt 
 
 pub returns-in-Sum-clause-greatest : goal.returns-in-Sum-clause-greatest
 returns-in-Sum-clause-greatest c =
-    greatest_allowed c.args.lines.now c.args.cell c.args.alt c.score_by_sum.result (c.requires.opening.allowed c.args.alt c.requires.alternative) c.score_by_sum.ensures.greatest
+    greatest_allowed c.args.lines.now c.args.cell c.args.alt c.score_by_sum.result
+    (c.requires.opening.allowed c.args.alt c.requires.alternative) c.score_by_sum.ensures.greatest
 
 pub returns-in-Term-clause-greatest : goal.returns-in-Term-clause-greatest
 returns-in-Term-clause-greatest c =
-    greatest_allowed c.args.lines.now c.args.cell c.args.alt c.score_by_term.result (c.requires.opening.allowed c.args.alt c.requires.alternative) c.score_by_term.ensures
+    greatest_allowed c.args.lines.now c.args.cell c.args.alt c.score_by_term.result
+    (c.requires.opening.allowed c.args.alt c.requires.alternative) c.score_by_term.ensures

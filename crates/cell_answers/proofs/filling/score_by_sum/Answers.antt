@@ -1,4 +1,5 @@
-use Rattle.std.proofs.Common.{◌≡◌, ◌≤◌, ℕ, ℤ, pos, ◌+ℤ◌, Option, Some, List, [], ◌∷◌, ◌++◌, length, get_or, FitsSigned, to_z, of_z, w64, nat_abs, sym, ap, subst, ◌∙◌, arith, rules}
+use Rattle.std.proofs.Common.{◌≡◌, ◌≤◌, ℕ, ℤ, pos, ◌+ℤ◌, Option, Some, List, [], ◌∷◌, ◌++◌, length, get_or, FitsSigned}
+use Rattle.std.proofs.Common.{to_z, of_z, w64, nat_abs, sym, ap, subst, ◌∙◌, arith, rules}
 use Rattle.std.proofs.lemmas.List.{get_or_default}
 use Rattle.adp_model.specs.declared.grammar.Arg.{Arg}
 use Rattle.std.proofs.lemmas.Int.{to_z-of_z}
@@ -43,7 +44,9 @@ in_front c = front_factors c.args.lines.now c.args.cell c.args.alt c.args.altern
 abbrev behind : After-arguments_are_few_and_known → List ℤ
 behind c = other_factors c.args.lines.now c.args.cell c.args.alt c.args.alternative.now c.requires.alternative c.args.sum.now c.requires.sum
 
-laid : (c : After-arguments_are_few_and_known) → AreLaid c.args.lines.now c.args.scores.now (both c.args.lines.now c.args.cell c.args.alt c.args.alternative.now c.requires.alternative) (in_front c ++ behind c) c.args.cell.from c.args.cell.to
+laid : (c : After-arguments_are_few_and_known)
+    → AreLaid c.args.lines.now c.args.scores.now (both c.args.lines.now c.args.cell c.args.alt c.args.alternative.now
+    c.requires.alternative) (in_front c ++ behind c) c.args.cell.from c.args.cell.to
 laid c =
     let p = c.args.lines.now in
     let cell = c.args.cell in
@@ -52,12 +55,16 @@ laid c =
     let laws = c.arguments_are_few_and_known.ensures in
     let formed = (admissible c).checked.well_formed in
     to_kept p cell c.args.alt kept is (λ arguments. AreLaid p c.args.scores.now arguments (in_front c ++ behind c) cell.from cell.to)
-    (alternative_laid (term_laws c) p (admissible c) cell c.args.alt c.args.sum.now.constant (in_front c ++ behind c) c.requires.sum.scored c.requires.in_word c.requires.rule c.requires.in_range
-    (bounded c) c.args.scores.now (laws.known p.grammar formed cell.rule c.args.alt) (laws.few p.grammar formed cell.rule c.args.alt) (c.requires.opening.allowed c.args.alt is) c.requires.scored)
+    (alternative_laid (term_laws c) p (admissible c) cell c.args.alt c.args.sum.now.constant (in_front c ++ behind c)
+    c.requires.sum.scored c.requires.in_word c.requires.rule c.requires.in_range
+    (bounded c) c.args.scores.now (laws.known p.grammar formed cell.rule c.args.alt)
+    (laws.few p.grammar formed cell.rule c.args.alt) (c.requires.opening.allowed c.args.alt is) c.requires.scored)
 
-others : (c : After-arguments_are_few_and_known) → AreLaid c.args.lines.now c.args.scores.now c.args.alternative.now.others.now (behind c) c.args.from c.args.cell.to
+others : (c : After-arguments_are_few_and_known)
+    → AreLaid c.args.lines.now c.args.scores.now c.args.alternative.now.others.now (behind c) c.args.from c.args.cell.to
 others c =
-    others_laid c.args.lines.now c.args.scores.now c.args.alternative.now.front.now c.args.alternative.now.others.now (in_front c) (behind c) c.args.cell.from c.args.from c.args.cell.to
+    others_laid c.args.lines.now c.args.scores.now c.args.alternative.now.front.now c.args.alternative.now.others.now
+    (in_front c) (behind c) c.args.cell.from c.args.from c.args.cell.to
     c.requires.alternative.in_front.fixed c.requires.sum.front_each (laid c) c.requires.opening.within c.requires.opening.covers c.requires.opening.only
 
 -- ---- the arguments behind the tokens in front
@@ -70,15 +77,20 @@ each_behind : (c : After-arguments_are_few_and_known) → length (behind c) ≡ 
 each_behind c = (others c).weighted.factors_each
 
 -- there are none
-found_without : (p : PosedProblem) (cell : Cell) (alt : ℕ) (kept : KeptAlternative) (is : IsAlternative p cell.rule alt kept) (sum : WeightedSum) (summed : IsSummed p cell.rule alt kept sum) (from to : ℕ) → kept.others.now ≡ []
+found_without : (p : PosedProblem) (cell : Cell) (alt : ℕ) (kept : KeptAlternative)
+    (is : IsAlternative p cell.rule alt kept) (sum : WeightedSum) (summed : IsSummed p cell.rule alt kept sum)
+    (from to : ℕ) → kept.others.now ≡ []
     → (length kept.others.now ≡ 0 → from ≡ to) → IsFoundBehind p kept sum from to (Some (pos 0))
 found_without p cell alt kept is sum summed from to none whole =
     let long : length kept.others.now ≡ 0 = ap length none in
     let T : List Arg → ℕ → Type 0 = λ arguments to. IsGreatestOf (HasTotal p (HasBestScore p) arguments (factors_behind kept sum) from to) (Some (pos 0)) in
-    subst (λ arguments. T arguments to) (sym none) (subst (T []) (whole long) (total_of_none p (HasBestScore p) (factors_behind kept sum) from (others_each p cell alt kept is sum summed ∙ long)))
+    subst (λ arguments. T arguments to) (sym none)
+    (subst (T []) (whole long) (total_of_none p (HasBestScore p) (factors_behind kept sum) from
+    (others_each p cell alt kept is sum summed ∙ long)))
 
 -- the only argument, and its factor as it is read
-module _ (others : List Arg) (factors behind : List ℤ) (argument : Arg) (read : ℤ) (one : others ≡ argument ∷ []) (are : factors ≡ behind) (each : length behind ≡ length others)
+module _ (others : List Arg) (factors behind : List ℤ) (argument : Arg) (read : ℤ) (one : others ≡ argument ∷ [])
+    (are : factors ≡ behind) (each : length behind ≡ length others)
     (read_is : read ≡ get_or factors 0 (pos 0)) where
   factor_is : behind ≡ read ∷ []
   factor_is =
@@ -92,7 +104,8 @@ module _ (others : List Arg) (factors behind : List ℤ) (argument : Arg) (read 
   from_alone : (R : List Arg → List ℤ → Type 0) → R (argument ∷ []) (read ∷ []) → R others behind
   from_alone R it = subst (λ arguments. R arguments behind) (sym one) (subst (R (argument ∷ [])) (sym factor_is) it)
 
-last_laid : (c : After-arguments_are_few_and_known) (argument : Arg) (factors : List ℤ) (read : ℤ) → c.args.alternative.now.others.now ≡ argument ∷ [] → factors ≡ behind c
+last_laid : (c : After-arguments_are_few_and_known) (argument : Arg) (factors : List ℤ) (read : ℤ)
+    → c.args.alternative.now.others.now ≡ argument ∷ [] → factors ≡ behind c
     → read ≡ get_or factors 0 (pos 0)
     → AreLaid c.args.lines.now c.args.scores.now (argument ∷ []) (read ∷ []) c.args.from c.args.cell.to
 last_laid c argument factors read one are read_is =
@@ -110,47 +123,58 @@ pub last_total-rest-requires-clause-scored : goal.last_total-rest-requires-claus
 last_total-rest-requires-clause-scored c =
     let at = (goal.at.last_total-rest-requires-clause-scored c).After-arguments_are_few_and_known in
     let factor = get_or c.other_factors-factors.result.now 0 (pos 0) in
-    (last_laid at c.in-Last.argument.now c.other_factors-factors.result.now (to_z w64 (of_z w64 factor)) c.in-Last.ensures c.other_factors-factors.ensures (to_z-of_z w64 factor (search rules))).scored
+    (last_laid at c.in-Last.argument.now c.other_factors-factors.result.now (to_z w64 (of_z w64 factor))
+    c.in-Last.ensures c.other_factors-factors.ensures (to_z-of_z w64 factor (search rules))).scored
 
 pub last_total-rest-requires-clause-low : goal.last_total-rest-requires-clause-low
 last_total-rest-requires-clause-low c =
     let at = (goal.at.last_total-rest-requires-clause-low c).After-arguments_are_few_and_known in
     let factor = get_or c.other_factors-factors.result.now 0 (pos 0) in
-    (last_laid at c.in-Last.argument.now c.other_factors-factors.result.now (to_z w64 (of_z w64 factor)) c.in-Last.ensures c.other_factors-factors.ensures (to_z-of_z w64 factor (search rules))).low
+    (last_laid at c.in-Last.argument.now c.other_factors-factors.result.now (to_z w64 (of_z w64 factor))
+    c.in-Last.ensures c.other_factors-factors.ensures (to_z-of_z w64 factor (search rules))).low
 
 -- several arguments, with the factors as they are read
 several_laid : (c : After-arguments_are_few_and_known) (factors : List ℤ) → factors ≡ behind c
     → AreLaid c.args.lines.now c.args.scores.now c.args.alternative.now.others.now factors c.args.from c.args.cell.to
-several_laid c factors are = subst (λ factors. AreLaid c.args.lines.now c.args.scores.now c.args.alternative.now.others.now factors c.args.from c.args.cell.to) (sym are) (others c)
+several_laid c factors are =
+    subst (λ factors. AreLaid c.args.lines.now c.args.scores.now c.args.alternative.now.others.now factors c.args.from c.args.cell.to) (sym are) (others c)
 
 pub total_of_several-rest-requires-clause-weighted : goal.total_of_several-rest-requires-clause-weighted
 total_of_several-rest-requires-clause-weighted c =
-    (several_laid (goal.at.total_of_several-rest-requires-clause-weighted c).After-arguments_are_few_and_known c.other_factors-factors.result.now c.other_factors-factors.ensures).weighted
+    (several_laid (goal.at.total_of_several-rest-requires-clause-weighted c).After-arguments_are_few_and_known
+    c.other_factors-factors.result.now c.other_factors-factors.ensures).weighted
 
 pub total_of_several-rest-requires-clause-scored : goal.total_of_several-rest-requires-clause-scored
 total_of_several-rest-requires-clause-scored c =
-    (several_laid (goal.at.total_of_several-rest-requires-clause-scored c).After-arguments_are_few_and_known c.other_factors-factors.result.now c.other_factors-factors.ensures).scored
+    (several_laid (goal.at.total_of_several-rest-requires-clause-scored c).After-arguments_are_few_and_known
+    c.other_factors-factors.result.now c.other_factors-factors.ensures).scored
 
 pub total_of_several-rest-requires-clause-low : goal.total_of_several-rest-requires-clause-low
 total_of_several-rest-requires-clause-low c =
-    (several_laid (goal.at.total_of_several-rest-requires-clause-low c).After-arguments_are_few_and_known c.other_factors-factors.result.now c.other_factors-factors.ensures).low
+    (several_laid (goal.at.total_of_several-rest-requires-clause-low c).After-arguments_are_few_and_known
+    c.other_factors-factors.result.now c.other_factors-factors.ensures).low
 
 -- in each way it is found
-module _ (p : PosedProblem) (cell : Cell) (alt : ℕ) (kept : KeptAlternative) (is : IsAlternative p cell.rule alt kept) (sum : WeightedSum) (summed : IsSummed p cell.rule alt kept sum) (from to : ℕ) (rest : Option ℤ) where
+module _ (p : PosedProblem) (cell : Cell) (alt : ℕ) (kept : KeptAlternative) (is : IsAlternative p cell.rule alt kept)
+    (sum : WeightedSum) (summed : IsSummed p cell.rule alt kept sum) (from to : ℕ) (rest : Option ℤ) where
   by_front : kept.others.now ≡ [] → (length kept.others.now ≡ 0 → from ≡ to) → rest ≡ Some (pos 0) → IsFoundBehind p kept sum from to rest
   by_front none whole rest_is = subst (IsFoundBehind p kept sum from to) (sym rest_is) (found_without p cell alt kept is sum summed from to none whole)
 
-  by_last : (argument : Arg) (factors : List ℤ) (read : ℤ) (found : Option ℤ) → kept.others.now ≡ argument ∷ [] → factors ≡ factors_behind kept sum → read ≡ get_or factors 0 (pos 0)
+  by_last : (argument : Arg) (factors : List ℤ) (read : ℤ) (found : Option ℤ) → kept.others.now ≡ argument ∷ []
+      → factors ≡ factors_behind kept sum → read ≡ get_or factors 0 (pos 0)
       → IsGreatestOf (HasTotal p (HasBestScore p) (argument ∷ []) (read ∷ []) from to) found → rest ≡ found → IsFoundBehind p kept sum from to rest
   by_last argument factors read found one are read_is greatest rest_is =
       subst (IsFoundBehind p kept sum from to) (sym rest_is)
       (from_alone kept.others.now factors (factors_behind kept sum) argument read one are (others_each p cell alt kept is sum summed) read_is
       (λ arguments factors. IsGreatestOf (HasTotal p (HasBestScore p) arguments factors from to) found) greatest)
 
-  by_several : (factors : List ℤ) (found : Option ℤ) → factors ≡ factors_behind kept sum → IsGreatestOf (HasTotal p (HasBestScore p) kept.others.now factors from to) found → rest ≡ found
+  by_several : (factors : List ℤ) (found : Option ℤ) → factors ≡ factors_behind kept sum
+      → IsGreatestOf (HasTotal p (HasBestScore p) kept.others.now factors from to) found → rest ≡ found
       → IsFoundBehind p kept sum from to rest
   by_several factors found are greatest rest_is =
-      subst (IsFoundBehind p kept sum from to) (sym rest_is) (subst (λ factors. IsGreatestOf (HasTotal p (HasBestScore p) kept.others.now factors from to) found) are greatest)
+      subst (IsFoundBehind p kept sum from to) (sym rest_is)
+      (subst (λ factors. IsGreatestOf (HasTotal p (HasBestScore p) kept.others.now factors from to) found)
+      are greatest)
 
 rest_is : (c : After-front_factors) → IsFoundBehind c.args.lines.now c.args.alternative.now c.args.sum.now c.args.from c.args.cell.to c.match-way.rest
 rest_is c =
@@ -159,13 +183,16 @@ rest_is c =
     let is = c.requires.alternative in
     let factor = get_or c.other_factors-factors.result.now 0 (pos 0) in
     elim c.match-way.branch [
-      | in-Front w ↦ by_front p c.args.cell c.args.alt kept is c.args.sum.now c.requires.sum c.args.from c.args.cell.to c.match-way.rest w.in-Front.ensures c.requires.opening.whole w.rest-is
+      | in-Front w ↦ by_front p c.args.cell c.args.alt kept is c.args.sum.now c.requires.sum c.args.from c.args.cell.to
+          c.match-way.rest w.in-Front.ensures c.requires.opening.whole w.rest-is
       | in-Last w ↦
-          by_last p c.args.cell c.args.alt kept is c.args.sum.now c.requires.sum c.args.from c.args.cell.to c.match-way.rest w.in-Last.argument.now c.other_factors-factors.result.now (to_z w64 (of_z w64 factor))
+          by_last p c.args.cell c.args.alt kept is c.args.sum.now c.requires.sum c.args.from c.args.cell.to
+          c.match-way.rest w.in-Last.argument.now c.other_factors-factors.result.now (to_z w64 (of_z w64 factor))
           w.last_total-rest.result
           w.in-Last.ensures c.other_factors-factors.ensures (to_z-of_z w64 factor (search rules)) w.last_total-rest.ensures w.rest-is
       | in-Several w ↦
-          by_several p c.args.cell c.args.alt kept is c.args.sum.now c.requires.sum c.args.from c.args.cell.to c.match-way.rest c.other_factors-factors.result.now
+          by_several p c.args.cell c.args.alt kept is c.args.sum.now c.requires.sum c.args.from c.args.cell.to
+          c.match-way.rest c.other_factors-factors.result.now
           w.total_of_several-rest.result c.other_factors-factors.ensures w.total_of_several-rest.ensures.greatest w.rest-is
     ]
 
@@ -178,16 +205,20 @@ returns-in_default-clause-greatest c =
     let is = c.requires.alternative in
     let factor = get_or c.other_factors-factors.result.now 0 (pos 0) in
     let rest : IsFoundBehind p kept c.args.sum.now c.args.from cell.to c.match-way.rest = elim c.match-way.branch [
-      | in-Front w ↦ by_front p cell c.args.alt kept is c.args.sum.now c.requires.sum c.args.from cell.to c.match-way.rest w.in-Front.ensures c.requires.opening.whole w.rest-is
+      | in-Front w ↦ by_front p cell c.args.alt kept is c.args.sum.now c.requires.sum c.args.from cell.to
+          c.match-way.rest w.in-Front.ensures c.requires.opening.whole w.rest-is
       | in-Last w ↦
-          by_last p cell c.args.alt kept is c.args.sum.now c.requires.sum c.args.from cell.to c.match-way.rest w.in-Last.argument.now c.other_factors-factors.result.now (to_z w64 (of_z w64 factor)) w.last_total-rest.result
+          by_last p cell c.args.alt kept is c.args.sum.now c.requires.sum c.args.from cell.to c.match-way.rest
+          w.in-Last.argument.now c.other_factors-factors.result.now (to_z w64 (of_z w64 factor))
+          w.last_total-rest.result
           w.in-Last.ensures c.other_factors-factors.ensures (to_z-of_z w64 factor (search rules)) w.last_total-rest.ensures w.rest-is
       | in-Several w ↦
           by_several p cell c.args.alt kept is c.args.sum.now c.requires.sum c.args.from cell.to c.match-way.rest c.other_factors-factors.result.now
           w.total_of_several-rest.result c.other_factors-factors.ensures w.total_of_several-rest.ensures.greatest w.rest-is
     ] in
     no_score p cell c.args.alt kept is c.args.sum.now c.requires.sum
-    (total_without_others p c.args.scores.now kept.front.now kept.others.now (in_front at) (behind at) cell.from c.args.from cell.to is.in_front.fixed c.requires.sum.front_each (laid at)
+    (total_without_others p c.args.scores.now kept.front.now kept.others.now (in_front at) (behind at) cell.from
+    c.args.from cell.to is.in_front.fixed c.requires.sum.front_each (laid at)
     c.requires.opening.within c.requires.opening.covers c.requires.opening.only
     (subst (IsFoundBehind p kept c.args.sum.now c.args.from cell.to) c.in_default.is rest))
 
@@ -198,7 +229,8 @@ between_total-front-requires-clause-weighted c =
     let is = c.requires.alternative in
     let W : List ℤ → Type 0 = AreWeighted c.args.lines.now kept.front.now in
     subst W (sym c.front_factors.ensures)
-    (front_weighted c.args.lines.now c.args.scores.now kept.front.now kept.others.now (in_front at) (behind at) c.args.cell.from c.args.from c.args.cell.to is.in_front.fixed c.requires.sum.front_each (laid at)
+    (front_weighted c.args.lines.now c.args.scores.now kept.front.now kept.others.now (in_front at) (behind at)
+    c.args.cell.from c.args.from c.args.cell.to is.in_front.fixed c.requires.sum.front_each (laid at)
     c.requires.opening.within c.requires.opening.covers c.requires.opening.only)
 
 pub between_total-front-requires-clause-low : goal.between_total-front-requires-clause-low
@@ -211,17 +243,23 @@ between_total-front-requires-clause-low c =
     (rest_is (goal.at.between_total-front-requires-clause-low c).After-front_factors)).0 in
     let L : List ℤ → Type 0 = λ factors. AreLow p kept.front.now factors c.args.cell.from c.args.from in
     subst L (sym c.front_factors.ensures)
-    (front_low p c.args.scores.now kept.front.now kept.others.now (in_front at) (behind at) c.args.cell.from c.args.from c.args.cell.to is.in_front.fixed c.requires.sum.front_each (laid at)
+    (front_low p c.args.scores.now kept.front.now kept.others.now (in_front at) (behind at) c.args.cell.from c.args.from
+    c.args.cell.to is.in_front.fixed c.requires.sum.front_each (laid at)
     c.requires.opening.within c.requires.opening.covers c.requires.opening.only c.in-Some.rest has)
 
 -- the total of all arguments
 record AreFound (c : After-arguments_are_few_and_known) (front rest : ℤ) : Type 0 where
-  greatest : IsGreatestOf (HasTotal c.args.lines.now (HasBestScore c.args.lines.now) (both c.args.lines.now c.args.cell c.args.alt c.args.alternative.now c.requires.alternative) (in_front c ++ behind c) c.args.cell.from c.args.cell.to) (Some (front +ℤ rest))
+  greatest : IsGreatestOf (HasTotal c.args.lines.now (HasBestScore c.args.lines.now)
+      (both c.args.lines.now c.args.cell c.args.alt c.args.alternative.now c.requires.alternative)
+      (in_front c ++ behind c) c.args.cell.from c.args.cell.to) (Some (front +ℤ rest))
   total_low : nat_abs (front +ℤ rest) ≤ greatest_score
   score_low : nat_abs (c.args.sum.now.constant +ℤ (front +ℤ rest)) ≤ greatest_score
 
-found : (c : After-arguments_are_few_and_known) (front_slice : List ℤ) (front rest : ℤ) → front_slice ≡ in_front c → HasTotal c.args.lines.now (HasBestScore c.args.lines.now) c.args.alternative.now.front.now front_slice c.args.cell.from c.args.from front
-    → IsGreatestOf (HasTotal c.args.lines.now (HasBestScore c.args.lines.now) c.args.alternative.now.others.now (behind c) c.args.from c.args.cell.to) (Some rest) → AreFound c front rest
+found : (c : After-arguments_are_few_and_known) (front_slice : List ℤ) (front rest : ℤ) → front_slice ≡ in_front c
+    → HasTotal c.args.lines.now (HasBestScore c.args.lines.now) c.args.alternative.now.front.now front_slice
+    c.args.cell.from c.args.from front
+    → IsGreatestOf (HasTotal c.args.lines.now (HasBestScore c.args.lines.now) c.args.alternative.now.others.now
+    (behind c) c.args.from c.args.cell.to) (Some rest) → AreFound c front rest
 found c front_slice front rest same has greatest =
     let p = c.args.lines.now in
     let kept = c.args.alternative.now in
@@ -230,20 +268,25 @@ found c front_slice front rest same has greatest =
     let behind_greatest = greatest in
     let F : List ℤ → Type 0 = λ factors. HasTotal p (HasBestScore p) kept.front.now factors cell.from c.args.from front in
     let front_has : F (in_front c) = subst F same has in
-    let all = greatest_with_front p c.args.scores.now kept.front.now kept.others.now (in_front c) (behind c) cell.from c.args.from cell.to is.in_front.fixed c.requires.sum.front_each (laid c)
+    let all = greatest_with_front p c.args.scores.now kept.front.now kept.others.now (in_front c) (behind c) cell.from
+    c.args.from cell.to is.in_front.fixed c.requires.sum.front_each (laid c)
     c.requires.opening.within c.requires.opening.covers c.requires.opening.only front rest front_has behind_greatest in
     record {
       greatest = all;
-      total_low = both_low p c.args.scores.now kept.front.now kept.others.now (in_front c) (behind c) cell.from c.args.from cell.to is.in_front.fixed c.requires.sum.front_each (laid c)
+      total_low =
+          both_low p c.args.scores.now kept.front.now kept.others.now (in_front c) (behind c) cell.from c.args.from
+          cell.to is.in_front.fixed c.requires.sum.front_each (laid c)
           c.requires.opening.within c.requires.opening.covers c.requires.opening.only (sound c) front rest front_has behind_greatest.0;
-      score_low = all_low p cell c.args.alt kept is c.args.sum.now c.requires.sum (term_laws c) (admissible c) (sound c) (front +ℤ rest) c.requires.in_word c.requires.rule c.requires.in_range all.0;
+      score_low = all_low p cell c.args.alt kept is c.args.sum.now c.requires.sum (term_laws c) (admissible c) (sound c)
+          (front +ℤ rest) c.requires.in_word c.requires.rule c.requires.in_range all.0;
     }
 
 pub overflow_add-result : goal.overflow_add-result
 overflow_add-result c =
     let at = (goal.at.overflow_add-result c).After-arguments_are_few_and_known in
     let it = found at c.front_factors.result.now c.between_total-front.result c.in-Some.rest c.front_factors.ensures c.between_total-front.ensures
-    (subst (IsFoundBehind c.args.lines.now c.args.alternative.now c.args.sum.now c.args.from c.args.cell.to) c.in-Some.is (rest_is (goal.at.overflow_add-result c).After-front_factors)) in
+    (subst (IsFoundBehind c.args.lines.now c.args.alternative.now c.args.sum.now c.args.from c.args.cell.to)
+    c.in-Some.is (rest_is (goal.at.overflow_add-result c).After-front_factors)) in
     let fits_front : FitsSigned w64 c.between_total-front.result = search rules in
     let fits_rest : FitsSigned w64 c.in-Some.rest = search rules in
     simp to_z-of_z (fits_below (c.between_total-front.result +ℤ c.in-Some.rest) it.total_low)
@@ -252,25 +295,32 @@ pub overflow_add-result-2 : goal.overflow_add-result-2
 overflow_add-result-2 c =
     let at = (goal.at.overflow_add-result-2 c).After-arguments_are_few_and_known in
     let it = found at c.front_factors.result.now c.between_total-front.result c.in-Some.rest c.front_factors.ensures c.between_total-front.ensures
-    (subst (IsFoundBehind c.args.lines.now c.args.alternative.now c.args.sum.now c.args.from c.args.cell.to) c.in-Some.is (rest_is (goal.at.overflow_add-result-2 c).After-front_factors)) in
+    (subst (IsFoundBehind c.args.lines.now c.args.alternative.now c.args.sum.now c.args.from c.args.cell.to)
+    c.in-Some.is (rest_is (goal.at.overflow_add-result-2 c).After-front_factors)) in
     let fits_front : FitsSigned w64 c.between_total-front.result = search rules in
     let fits_rest : FitsSigned w64 c.in-Some.rest = search rules in
     let fits_constant : FitsSigned w64 c.args.sum.now.constant = search rules in
-    let fits_total : FitsSigned w64 (c.between_total-front.result +ℤ c.in-Some.rest) = fits_below (c.between_total-front.result +ℤ c.in-Some.rest) it.total_low in
+    let fits_total : FitsSigned w64 (c.between_total-front.result +ℤ c.in-Some.rest) =
+    fits_below (c.between_total-front.result +ℤ c.in-Some.rest) it.total_low in
     simp to_z-of_z (fits_below (c.args.sum.now.constant +ℤ (c.between_total-front.result +ℤ c.in-Some.rest)) it.score_low)
 
 pub returns-clause-greatest : goal.returns-clause-greatest
 returns-clause-greatest c =
     let at = (goal.at.returns-clause-greatest c).After-arguments_are_few_and_known in
     let it = found at c.front_factors.result.now c.between_total-front.result c.in-Some.rest c.front_factors.ensures c.between_total-front.ensures
-    (subst (IsFoundBehind c.args.lines.now c.args.alternative.now c.args.sum.now c.args.from c.args.cell.to) c.in-Some.is (rest_is (goal.at.returns-clause-greatest c).After-front_factors)) in
+    (subst (IsFoundBehind c.args.lines.now c.args.alternative.now c.args.sum.now c.args.from c.args.cell.to)
+    c.in-Some.is (rest_is (goal.at.returns-clause-greatest c).After-front_factors)) in
     let fits_front : FitsSigned w64 c.between_total-front.result = search rules in
     let fits_rest : FitsSigned w64 c.in-Some.rest = search rules in
     let fits_constant : FitsSigned w64 c.args.sum.now.constant = search rules in
-    let fits_total : FitsSigned w64 (c.between_total-front.result +ℤ c.in-Some.rest) = fits_below (c.between_total-front.result +ℤ c.in-Some.rest) it.total_low in
-    let fits_score : FitsSigned w64 (c.args.sum.now.constant +ℤ (c.between_total-front.result +ℤ c.in-Some.rest)) = fits_below (c.args.sum.now.constant +ℤ (c.between_total-front.result +ℤ c.in-Some.rest)) it.score_low in
-    let score : IsGreatestOf (HasLaidScore c.args.lines.now c.args.cell c.args.alt) (Some (c.args.sum.now.constant +ℤ (c.between_total-front.result +ℤ c.in-Some.rest))) =
-    score_is c.args.lines.now c.args.cell c.args.alt c.args.alternative.now c.requires.alternative c.args.sum.now c.requires.sum (c.between_total-front.result +ℤ c.in-Some.rest) it.greatest in
+    let fits_total : FitsSigned w64 (c.between_total-front.result +ℤ c.in-Some.rest) =
+    fits_below (c.between_total-front.result +ℤ c.in-Some.rest) it.total_low in
+    let fits_score : FitsSigned w64 (c.args.sum.now.constant +ℤ (c.between_total-front.result +ℤ c.in-Some.rest)) =
+    fits_below (c.args.sum.now.constant +ℤ (c.between_total-front.result +ℤ c.in-Some.rest)) it.score_low in
+    let score : IsGreatestOf (HasLaidScore c.args.lines.now c.args.cell c.args.alt)
+    (Some (c.args.sum.now.constant +ℤ (c.between_total-front.result +ℤ c.in-Some.rest))) =
+    score_is c.args.lines.now c.args.cell c.args.alt c.args.alternative.now c.requires.alternative c.args.sum.now
+    c.requires.sum (c.between_total-front.result +ℤ c.in-Some.rest) it.greatest in
     simp to_z-of_z score
 
 -- what is noted is of the same problem

@@ -32,8 +32,10 @@ returns c =
       have = λ position stands. record {
         within = weight_within p line c.requires class token scales.before scaled.before sums are short begin begin_is numbers numbers_are position stands;
         small = weight_small p line c.requires class token scales.before scaled.before sums are short begin begin_is numbers numbers_are position stands;
-        small_behind = weight_small_behind p line c.requires class token scales.before scaled.before sums are short begin begin_is numbers numbers_are position stands;
+        small_behind = weight_small_behind p line c.requires class token scales.before scaled.before sums are short
+            begin begin_is numbers numbers_are position stands;
         low = weight_low p line c.requires class token scales.before scaled.before sums are short begin begin_is numbers numbers_are position stands;
       };
-      are = λ position stands. weight_is p line c.requires class token scales.before scaled.before sums are short begin begin_is numbers numbers_are position stands;
+      are = λ position stands. weight_is p line c.requires class token scales.before scaled.before sums are short begin
+          begin_is numbers numbers_are position stands;
     })

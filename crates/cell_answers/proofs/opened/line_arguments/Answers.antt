@@ -1,4 +1,5 @@
-use Rattle.std.proofs.Common.{◌≡◌, ℕ, suc, ℤ, pos, ◌+◌, ◌-◌, ◌<◌, ◌≤◌, List, [], ◌∷◌, ◌++◌, length, take, drop, get_or, FitsSigned, w64, sym, ap, ◌∙◌, arith, rules, add-one}
+use Rattle.std.proofs.Common.{◌≡◌, ℕ, suc, ℤ, pos, ◌+◌, ◌-◌, ◌<◌, ◌≤◌, List, [], ◌∷◌, ◌++◌, length, take, drop, get_or}
+use Rattle.std.proofs.Common.{FitsSigned, w64, sym, ap, ◌∙◌, arith, rules, add-one}
 use Rattle.std.proofs.lemmas.Int.{to_z-of_z}
 use Rattle.std.proofs.lemmas.List.{take-append-drop, drop_more, take_all, length-drop}
 use Rattle.cell_answers.proofs.opened.line_arguments.Goals as goal
@@ -12,7 +13,9 @@ parted (x ∷ ys) n d l =
     ap (λ zs. x ∷ zs) (rest ∙ ap (λ zs. take n ys ++ get_or ys n d ∷ zs) next)
 
 -- as the code cuts it
-cut : (xs : List ℤ) (n : ℕ) → n + 1 < length xs → xs ≡ get_or xs 0 (pos 0) ∷ (take (n + 1 - 1) (drop 1 xs) ++ get_or xs (n + 1) (pos 0) ∷ take (length xs - (n + 1 + 1)) (drop (n + 1 + 1) xs))
+cut : (xs : List ℤ) (n : ℕ) → n + 1 < length xs
+    → xs ≡ get_or xs 0 (pos 0) ∷ (take (n + 1 - 1) (drop 1 xs) ++ get_or xs (n + 1) (pos 0)
+    ∷ take (length xs - (n + 1 + 1)) (drop (n + 1 + 1) xs))
 cut xs n l =
     let fewer : n ≡ n + 1 - 1 = omega arith in
     let more : suc n ≡ n + 1 = sym (add-one n) in
@@ -20,7 +23,8 @@ cut xs n l =
     let long : length (drop (n + 1 + 1) xs) ≤ length xs - (n + 1 + 1) = omega (arith, length-drop (n + 1 + 1) xs) in
     parted xs n (pos 0) l
     ∙ (λ i. get_or xs 0 (pos 0) ∷ (take (fewer i) (drop 1 xs) ++ get_or xs (more i) (pos 0) ∷ drop (most i) xs))
-    ∙ ap (λ zs. get_or xs 0 (pos 0) ∷ (take (n + 1 - 1) (drop 1 xs) ++ get_or xs (n + 1) (pos 0) ∷ zs)) (sym (take_all (length xs - (n + 1 + 1)) (drop (n + 1 + 1) xs) long))
+    ∙ ap (λ zs. get_or xs 0 (pos 0) ∷ (take (n + 1 - 1) (drop 1 xs) ++ get_or xs (n + 1) (pos 0) ∷ zs))
+    (sym (take_all (length xs - (n + 1 + 1)) (drop (n + 1 + 1) xs) long))
 
 pub returns-clause-factors : goal.returns-clause-factors
 returns-clause-factors c =

@@ -34,7 +34,8 @@ mark_others-requires-clause-counted c = λ child demands.
     c.requires.counted child (
       (opened at).allowed c.args.alt c.requires.alternative,
       subst D (sym c.requires.alternative.arguments)
-          (demanded_behind p kept.front.now kept.others.now cell.from cell.to c.requires.alternative.in_front.fixed c.in-Some.end (opened at).covers (opened at).only child demands),
+          (demanded_behind p kept.front.now kept.others.now cell.from cell.to c.requires.alternative.in_front.fixed
+          c.in-Some.end (opened at).covers (opened at).only child demands),
     )
 
 pub returns-in-Some-clause-marked : goal.returns-in-Some-clause-marked
@@ -45,7 +46,8 @@ returns-in-Some-clause-marked c =
     let cell = c.args.cell in
     let M : List Arg → Type 0 = λ arguments. AreMarkedFrom cell.from c.args.marks.now c.mark_others.new.marks (Demands p arguments cell.from cell.to) in
     let allowed = (opened at).allowed c.args.alt c.requires.alternative in
-    marked_like cell.from c.args.marks.now c.mark_others.new.marks (Demands p (arguments_of p.grammar cell.rule c.args.alt) cell.from cell.to) (DemandsBy p cell c.args.alt)
+    marked_like cell.from c.args.marks.now c.mark_others.new.marks
+    (Demands p (arguments_of p.grammar cell.rule c.args.alt) cell.from cell.to) (DemandsBy p cell c.args.alt)
     (λ child demands. (allowed, demands)) (λ child demands. demands.1)
     (subst M (sym c.requires.alternative.arguments)
     (marked_behind_front p kept.front.now kept.others.now cell.from cell.to c.requires.alternative.in_front.fixed c.in-Some.end (opened at).covers
@@ -57,6 +59,8 @@ returns-in_default-clause-marked c =
     let kept = c.args.alternative.now in
     let cell = c.args.cell in
     let is = c.requires.alternative in
-    let few : length (arguments_of p.grammar cell.rule c.args.alt) ≤ 4 = omega (arith, is.few, ap length is.arguments, length-append kept.front.now kept.others.now) in
+    let few : length (arguments_of p.grammar cell.rule c.args.alt)
+    ≤ 4 = omega (arith, is.few, ap length is.arguments, length-append kept.front.now kept.others.now) in
     none_marked cell.from c.args.marks.now (DemandsBy p cell c.args.alt)
-    (λ child demands. let split = split_of_demands p cell c.args.alt child c.requires.in_range few demands in c.in_default.ensures c.args.alt split.0 is split.1)
+    (λ child demands. let split = split_of_demands p cell c.args.alt child c.requires.in_range few demands in
+    c.in_default.ensures c.args.alt split.0 is split.1)

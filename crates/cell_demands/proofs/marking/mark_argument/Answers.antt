@@ -22,7 +22,9 @@ module _ (argument : Arg) (rule from to : ℕ) (is : argument ≡ Rule rule) (ot
   cell_of : other ≡ record { rule = rule; from = from; to = to } → IsCellOf argument from to other
   cell_of e = subst (IsCellOf argument from to) (sym e) (record { rule = is; begins = refl; ends = refl })
 
-marked_cell : (argument : Arg) (rule from to : ℕ) → argument ≡ Rule rule → (old new : CellMarks) → AreMarkedToo old new (λ other. other ≡ record { rule = rule; from = from; to = to }) → AreMarkedToo old new (IsCellOf argument from to)
+marked_cell : (argument : Arg) (rule from to : ℕ) → argument ≡ Rule rule → (old new : CellMarks)
+    → AreMarkedToo old new (λ other. other ≡ record { rule = rule; from = from; to = to })
+    → AreMarkedToo old new (IsCellOf argument from to)
 marked_cell argument rule from to is old new marked = record {
   problem = marked.problem;
   exact = λ cell. (

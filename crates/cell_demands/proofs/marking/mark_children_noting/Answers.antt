@@ -42,7 +42,9 @@ overflow_cast-number c =
 pub mark_alternative-requires-clause-counted : goal.mark_alternative-requires-clause-counted
 mark_alternative-requires-clause-counted c = λ child demands.
     let at = (goal.at.mark_alternative-requires-clause-counted c).After-candidates-candidates in
-    c.requires.counted child (child_of_demands c.args.lines.now c.args.cell c.loop-number.number child (omega (arith, at.candidates-candidates.ensures.each, c.loop-number-test.true)) (few at c.loop-number.number) demands)
+    c.requires.counted child (child_of_demands c.args.lines.now c.args.cell c.loop-number.number child
+    (omega (arith, at.candidates-candidates.ensures.each, c.loop-number-test.true))
+    (few at c.loop-number.number) demands)
 
 pub loop-number-init : goal.loop-number-init
 loop-number-init c =
@@ -53,7 +55,8 @@ loop-number-init c =
     let none = none_marked cell.from c.args.marks.now (DemandsByFirst p cell 0) (λ child (alternative, l, demands). absurd (omega arith)) in
     record {
       within = c.next-number.ensures.within;
-      marked = passed_over p cell cell.from 0 first c.args.marks.now c.args.marks.now (omega arith) (none_between at 0 first c.next-number.ensures.within c.next-number.ensures.none_before) none;
+      marked = passed_over p cell cell.from 0 first c.args.marks.now c.args.marks.now (omega arith)
+          (none_between at 0 first c.next-number.ensures.within c.next-number.ensures.none_before) none;
       noted = c.requires.noted;
     }
 
@@ -64,10 +67,14 @@ loop-number-preserved c =
     let cell = c.args.cell in
     let number = c.loop-number.number in
     let next = c.next-number-in-loop-number.result in
-    let more = one_more_alternative p cell cell.from number c.args.marks.now c.loop-number.marks c.mark_alternative.new.marks c.loop-number.invariant.marked c.mark_alternative.ensures.marked in
+    let more = one_more_alternative p cell cell.from number c.args.marks.now c.loop-number.marks
+    c.mark_alternative.new.marks c.loop-number.invariant.marked c.mark_alternative.ensures.marked in
     record {
       within = c.next-number-in-loop-number.ensures.within;
-      marked = passed_over p cell cell.from (number + 1) next c.args.marks.now c.mark_alternative.new.marks c.next-number-in-loop-number.ensures.from_number (none_between at (number + 1) next c.next-number-in-loop-number.ensures.within c.next-number-in-loop-number.ensures.none_before) more;
+      marked = passed_over p cell cell.from (number + 1) next c.args.marks.now c.mark_alternative.new.marks
+          c.next-number-in-loop-number.ensures.from_number
+          (none_between at (number + 1) next c.next-number-in-loop-number.ensures.within
+          c.next-number-in-loop-number.ensures.none_before) more;
       noted = c.mark_alternative.ensures.noted;
     }
 
@@ -79,6 +86,12 @@ returns-clause-marked c =
     let at = (goal.at.returns-clause-marked c).After-candidates-candidates in
     let p = c.args.lines.now in
     let cell = c.args.cell in
-    let whole : c.loop-number.number ≡ length (alternatives_of p.grammar cell.rule) = omega (arith, at.candidates-candidates.ensures.each, c.loop-number.invariant.within, c.loop-number-test.false) in
+    let whole : c.loop-number.number ≡ length (alternatives_of p.grammar cell.rule) =
+    omega (
+      arith,
+      at.candidates-candidates.ensures.each,
+      c.loop-number.invariant.within,
+      c.loop-number-test.false,
+    ) in
     let M : ℕ → Type 0 = λ count. AreMarkedFrom cell.from c.args.marks.now c.loop-number.marks (DemandsByFirst p cell count) in
     all_alternatives p cell (few at) cell.from c.args.marks.now c.loop-number.marks (subst M whole c.loop-number.invariant.marked)

@@ -32,5 +32,7 @@ returns c =
     let fits = c.fits.ensures.0 c.if-not-fits.false in
     record {
       laid = (λ is. (c.args.to, fits, refl), λ cover. refl);
-      marked = last_marked p argument c.args.from c.args.to fits c.args.begin c.args.marks.now c.mark_argument.new.marks (marked_in_rows c.args.begin c.args.marks.now c.mark_argument.new.marks (IsCellOf argument c.args.from c.args.to) c.mark_argument.ensures.marked c.mark_argument.ensures.in_row);
+      marked = last_marked p argument c.args.from c.args.to fits c.args.begin c.args.marks.now c.mark_argument.new.marks
+          (marked_in_rows c.args.begin c.args.marks.now c.mark_argument.new.marks
+          (IsCellOf argument c.args.from c.args.to) c.mark_argument.ensures.marked c.mark_argument.ensures.in_row);
     }

@@ -10,7 +10,8 @@ use Rattle.cell_demands.proofs.MarkSteps.{marked_like, marked_more, marked_in_ro
 use Rattle.cell_demands.proofs.marking.mark_line.Goals as goal
 use Rattle.cell_demands.proofs.marking.mark_line.Goals.{After-is_empty}
 
-short : (c : After-is_empty) → (position : ℕ) → Contains c.boundary-boundary.result.positions.now position → position + c.boundary-boundary.result.letters ≤ 4000
+short : (c : After-is_empty) → (position : ℕ) → Contains c.boundary-boundary.result.positions.now position
+    → position + c.boundary-boundary.result.letters ≤ 4000
 short c position there =
     let P : PosedProblem → Type 0 = λ q. length q.word ≤ 4000 in
     let word = subst P c.problem.ensures c.admissible.ensures.limits.letters in
@@ -36,7 +37,9 @@ mark_first-requires-clause-counted c =
     let C : PosedProblem → Type 0 = λ q. IsCounted q.grammar (length q.word) cell in
     subst C (sym c.requires.same_problem)
     (c.requires.counted cell
-    (demands_first p c.args.arguments.now c.args.line.between c.args.from c.args.to b.letters b.last b.positions.now c.requires.line.has_line c.boundary-boundary.ensures.boundaries c.index-arguments-0.result c.index-arguments-0.is cell end there is))
+    (demands_first p c.args.arguments.now c.args.line.between c.args.from c.args.to b.letters b.last b.positions.now
+    c.requires.line.has_line c.boundary-boundary.ensures.boundaries c.index-arguments-0.result
+    c.index-arguments-0.is cell end there is))
 
 pub mark_second-requires-clause-counted : goal.mark_second-requires-clause-counted
 mark_second-requires-clause-counted c =
@@ -46,12 +49,16 @@ mark_second-requires-clause-counted c =
     let C : PosedProblem → Type 0 = λ q. IsCounted q.grammar (length q.word) cell in
     subst C (sym (c.mark_first.ensures.marked.problem ∙ c.requires.same_problem))
     (c.requires.counted cell
-    (demands_second p c.args.arguments.now c.args.line.between c.args.from c.args.to b.letters b.last b.positions.now c.requires.line.has_line c.boundary-boundary.ensures.boundaries c.index-arguments-line.result c.index-arguments-line.is cell start there is))
+    (demands_second p c.args.arguments.now c.args.line.between c.args.from c.args.to b.letters b.last b.positions.now
+    c.requires.line.has_line c.boundary-boundary.ensures.boundaries c.index-arguments-line.result
+    c.index-arguments-line.is cell start there is))
 
 told : (c : After-is_empty) → IsTrue (not c.is_empty.result) ↔ Cover c.args.lines.now c.args.arguments.now c.args.from c.args.to
 told c =
     let b = c.boundary-boundary.result in
-    cover_told c.args.lines.now c.args.arguments.now c.args.line.between c.args.from c.args.to b.letters b.last b.positions.now c.requires.line.has_line c.boundary-boundary.ensures.boundaries c.is_empty.result c.is_empty.ensures
+    cover_told c.args.lines.now c.args.arguments.now c.args.line.between c.args.from c.args.to b.letters b.last
+    b.positions.now c.requires.line.has_line c.boundary-boundary.ensures.boundaries c.is_empty.result
+    c.is_empty.ensures
 
 nothing : (c : After-is_empty) → c.is_empty.result ≡ true → Cover c.args.lines.now c.args.arguments.now c.args.from c.args.to → ⊥
 nothing c empty cover = let some = (told c).1 cover in absurd cc
@@ -88,8 +95,14 @@ returns-clause-marked c =
     let Second : Cell → Type 0 = λ cell. (position : ℕ) × Contains positions position × IsCellOf second (position + b.letters) b.last cell in
     marked_like begin c.args.marks.now c.mark_second.new.marks (λ cell. First cell ⊎ Second cell) (Demands p c.args.arguments.now from to)
     (λ cell some. ⊎_elim
-    (λ (position, there, is). demands_first p c.args.arguments.now c.args.line.between from to b.letters b.last positions c.requires.line.has_line c.boundary-boundary.ensures.boundaries first c.index-arguments-0.is cell position there is)
-    (λ (position, there, is). demands_second p c.args.arguments.now c.args.line.between from to b.letters b.last positions c.requires.line.has_line c.boundary-boundary.ensures.boundaries second c.index-arguments-line.is cell position there is) some)
-    (λ cell demands. demanded_by_line p c.args.arguments.now c.args.line.between from to b.letters b.last positions c.requires.line.has_line c.boundary-boundary.ensures.boundaries first second c.index-arguments-0.is c.index-arguments-line.is cell demands)
+    (λ (position, there, is). demands_first p c.args.arguments.now c.args.line.between from to b.letters b.last
+    positions c.requires.line.has_line c.boundary-boundary.ensures.boundaries first c.index-arguments-0.is cell
+    position there is)
+    (λ (position, there, is). demands_second p c.args.arguments.now c.args.line.between from to b.letters b.last
+    positions c.requires.line.has_line c.boundary-boundary.ensures.boundaries second c.index-arguments-line.is cell
+    position there is) some)
+    (λ cell demands. demanded_by_line p c.args.arguments.now c.args.line.between from to b.letters b.last positions
+    c.requires.line.has_line c.boundary-boundary.ensures.boundaries first second c.index-arguments-0.is
+    c.index-arguments-line.is cell demands)
     (marked_more begin c.args.marks.now c.mark_first.new.marks c.mark_second.new.marks First Second
     (marked_in_rows begin c.args.marks.now c.mark_first.new.marks First c.mark_first.ensures.marked c.mark_first.ensures.in_row) c.mark_second.ensures)

@@ -31,18 +31,22 @@ mark_last-requires-clause-counted c =
 pub returns-in-Last-clause-marked : goal.returns-in-Last-clause-marked
 returns-in-Last-clause-marked c =
     let at = (goal.at.returns-in-Last-clause-marked c).In-Last in
-    let M : List Arg → Type 0 = λ arguments. AreMarkedFrom c.args.cell.from c.args.marks.now c.mark_last.new.marks (Demands c.args.lines.now arguments c.args.from c.args.cell.to) in
+    let M : List Arg → Type 0 = λ arguments. AreMarkedFrom c.args.cell.from c.args.marks.now c.mark_last.new.marks
+    (Demands c.args.lines.now arguments c.args.from c.args.cell.to) in
     subst M (sym (one at)) c.mark_last.ensures.marked
 
 pub returns-in-Front-clause-marked : goal.returns-in-Front-clause-marked
 returns-in-Front-clause-marked c =
     let none : c.args.alternative.now.others.now ≡ [] = c.in-Front.ensures in
-    let M : List Arg → Type 0 = λ arguments. AreMarkedFrom c.args.cell.from c.args.marks.now c.args.marks.now (Demands c.args.lines.now arguments c.args.from c.args.cell.to) in
+    let M : List Arg → Type 0 = λ arguments. AreMarkedFrom c.args.cell.from c.args.marks.now c.args.marks.now
+    (Demands c.args.lines.now arguments c.args.from c.args.cell.to) in
     subst M (sym none) (none_marked c.args.cell.from c.args.marks.now (Demands c.args.lines.now [] c.args.from c.args.cell.to) (λ cell demands. demands))
 
 pub returns-in-Last-clause-noted : goal.returns-in-Last-clause-noted
 returns-in-Last-clause-noted c =
-    true_from c.args.lines.now c.args.cell.from c.args.marks.now c.mark_last.new.marks (Demands c.args.lines.now (c.in-Last.argument.now ∷ []) c.args.from c.args.cell.to) c.mark_last.ensures.marked c.args.tails.now c.requires.noted
+    true_from c.args.lines.now c.args.cell.from c.args.marks.now c.mark_last.new.marks
+    (Demands c.args.lines.now (c.in-Last.argument.now ∷ []) c.args.from c.args.cell.to) c.mark_last.ensures.marked
+    c.args.tails.now c.requires.noted
 
 pub mark_several-requires-clause-owner : goal.mark_several-requires-clause-owner
 mark_several-requires-clause-owner c = record {

@@ -18,16 +18,19 @@ overflow_add-first c =
 
 pub overflow_add-past : goal.overflow_add-past
 overflow_add-past c =
-    let low = c.requires.short (get_or c.args.boundary.positions.now (length c.args.boundary.positions.now - 1) 0) (last_stands c.args.boundary.positions.now c.requires.some) in
+    let low = c.requires.short (get_or c.args.boundary.positions.now (length c.args.boundary.positions.now - 1) 0)
+    (last_stands c.args.boundary.positions.now c.requires.some) in
     search rules
 
 pub overflow_add-past-in-Rule : goal.overflow_add-past-in-Rule
 overflow_add-past-in-Rule c =
-    let low = c.requires.short (get_or c.args.boundary.positions.now (length c.args.boundary.positions.now - 1) 0) (last_stands c.args.boundary.positions.now c.requires.some) in
+    let low = c.requires.short (get_or c.args.boundary.positions.now (length c.args.boundary.positions.now - 1) 0)
+    (last_stands c.args.boundary.positions.now c.requires.some) in
     search rules
 
 pub mark_starts_of-requires-clause-first : goal.mark_starts_of-requires-clause-first
-mark_starts_of-requires-clause-first c = λ _. first_set c.args.boundary.positions.now c.args.boundary.letters c.args.boundary.behind.now c.requires.bits c.requires.some
+mark_starts_of-requires-clause-first c =
+    λ _. first_set c.args.boundary.positions.now c.args.boundary.letters c.args.boundary.behind.now c.requires.bits c.requires.some
 
 pub mark_starts_of-requires-clause-last : goal.mark_starts_of-requires-clause-last
 mark_starts_of-requires-clause-last c = λ _.
@@ -44,7 +47,8 @@ mark_starts_of-requires-clause-counted c = λ from is.
     c.requires.counted _ found.0 found.1 (record { rule = c.in-Rule.is; begins = sym found.2; ends = refl })
 
 pub mark_starts_of-requires-clause-bits : goal.mark_starts_of-requires-clause-bits
-mark_starts_of-requires-clause-bits c = room_behind c.args.boundary.positions.now c.args.boundary.letters c.args.boundary.behind.now c.requires.bits c.requires.some
+mark_starts_of-requires-clause-bits c =
+    room_behind c.args.boundary.positions.now c.args.boundary.letters c.args.boundary.behind.now c.requires.bits c.requires.some
 
 pub mark-requires : goal.mark-requires
 mark-requires c =
@@ -52,7 +56,9 @@ mark-requires c =
     let first = get_or b.positions.now 0 0 in
     let cell : Cell = record { rule = c.in-Rule.rule; from = first + b.letters; to = b.last } in
     let C : PosedProblem → Type 0 = λ q. IsCounted q.grammar (length q.word) cell in
-    subst C (sym c.mark_starts_of.ensures.problem) (c.requires.counted cell first (first_stands b.positions.now c.requires.some) (record { rule = c.in-Rule.is; begins = refl; ends = refl }))
+    subst C (sym c.mark_starts_of.ensures.problem)
+    (c.requires.counted cell first (first_stands b.positions.now c.requires.some)
+    (record { rule = c.in-Rule.is; begins = refl; ends = refl }))
 
 pub returns-then-first-begin : goal.returns-then-first-begin
 returns-then-first-begin c =
@@ -73,7 +79,12 @@ returns-then-first-begin c =
           let found = position_of_bit positions b.letters b.behind.now c.requires.bits c.requires.some cell.from is in
           (found.0, found.1, record { rule = c.in-Rule.is ∙ ap Rule (sym e); begins = sym found.2; ends = sym e' }))
           (λ e. subst Wanted (sym e) (first, first_stands positions c.requires.some, record { rule = c.in-Rule.is; begins = refl; ends = refl })) either)
-          (λ cell (start, there, is). inl (same_rule argument rule cell.rule c.in-Rule.is is.rule, sym is.ends, subst Bit is.begins (bit_of_position positions b.letters b.behind.now c.requires.bits c.requires.some start there)))
+          (λ cell (start, there, is). inl (
+            same_rule argument rule cell.rule c.in-Rule.is is.rule,
+            sym is.ends,
+            subst Bit is.begins (bit_of_position positions b.letters b.behind.now c.requires.bits c.requires.some
+                start there),
+          ))
           (too_more c.args.marks.now c.mark_starts_of.new.self c.mark.new.self Early (λ cell. cell ≡ one) c.mark_starts_of.ensures c.mark.ensures.marked);
       begun = λ cell here (start, there, is).
           let at : cell.from ≡ first + b.letters = here ∙ sym begins in
@@ -97,7 +108,12 @@ returns-else-first-begin c =
           (λ cell (e, e', is).
           let found = position_of_bit positions b.letters b.behind.now c.requires.bits c.requires.some cell.from is in
           (found.0, found.1, record { rule = c.in-Rule.is ∙ ap Rule (sym e); begins = sym found.2; ends = sym e' }))
-          (λ cell (start, there, is). (same_rule argument rule cell.rule c.in-Rule.is is.rule, sym is.ends, subst Bit is.begins (bit_of_position positions b.letters b.behind.now c.requires.bits c.requires.some start there)))
+          (λ cell (start, there, is). (
+            same_rule argument rule cell.rule c.in-Rule.is is.rule,
+            sym is.ends,
+            subst Bit is.begins (bit_of_position positions b.letters b.behind.now c.requires.bits c.requires.some
+                start there),
+          ))
           c.mark_starts_of.ensures;
       begun = λ cell here (start, there, is).
           let low = between_ends positions start c.requires.rising there in

@@ -1,8 +1,6 @@
-use Rattle.std.proofs.Common.{◌≡◌, ℕ, ◌+◌, refl, sym, ap, subst, ◌∙◌}
-use Rattle.adp_model.specs.declared.grammar.Arg.TheVariants.{Rule}
+use Rattle.std.proofs.Common.{◌+◌, refl}
 use Rattle.cell_tables.specs.Bits.{IsBitOf}
-use Rattle.split_lines.specs.Laid.{IsCellOf}
-use Rattle.cell_demands.proofs.MarkSteps.{too_like, same_rule}
+use Rattle.cell_demands.proofs.MarkSteps.{ends_in_rows, ends_marked}
 use Rattle.cell_demands.proofs.PlaceBits.{within_all, cut_to_set}
 use Rattle.cell_demands.proofs.runs.mark_ends.Goals as goal
 
@@ -16,40 +14,24 @@ mark_ends_of-requires-clause-counted c = λ to is.
 pub returns-in-Rule-clause-marked : goal.returns-in-Rule-clause-marked
 returns-in-Rule-clause-marked c =
     let bits = c.args.bits.now in
-    let least = c.first_set-least.result in
+    let first = c.args.first in
+    let past = c.args.past in
+    let least = c.first_set-least.ensures in
+    let begin = c.first_set-least.result in
     let last = c.in-Some.last in
-    let from = c.args.from in
-    let rule = c.in-Rule.rule in
-    let Cut : ℕ → Type 0 = IsBitOf bits least (last + 1) in
-    let Bit : ℕ → Type 0 = IsBitOf bits c.args.first c.args.past in
-    too_like c.args.marks.now c.mark_ends_of.new.self
-    (λ cell. (cell.rule ≡ rule) × (cell.from ≡ from) × Cut cell.to)
-    (λ cell. (end : ℕ) × Bit end × IsCellOf c.args.argument.now from end cell)
-    (λ cell (e, e', is). (
-      cell.to,
-      within_all bits c.args.first c.args.past least last c.first_set-least.ensures.from_first
-          c.first_set-least.ensures.none_before c.in-Some.ensures cell.to is,
-      record { rule = c.in-Rule.is ∙ ap Rule (sym e); begins = sym e'; ends = refl },
-    ))
-    (λ cell (end, there, is). (
-      same_rule c.args.argument.now rule cell.rule c.in-Rule.is is.rule,
-      sym is.begins,
-      subst Cut is.ends
-          (cut_to_set bits c.args.first c.args.past least last c.first_set-least.ensures.from_first
-          c.first_set-least.ensures.none_before c.in-Some.ensures end there),
-    ))
-    c.mark_ends_of.ensures.marked
+    ends_marked c.args.argument.now c.in-Rule.rule c.args.from c.in-Rule.is (IsBitOf bits first past)
+    (IsBitOf bits begin (last + 1))
+    (cut_to_set bits first past begin last least.from_first least.none_before c.in-Some.ensures)
+    (within_all bits first past begin last least.from_first least.none_before c.in-Some.ensures)
+    c.args.marks.now c.mark_ends_of.new.self c.mark_ends_of.ensures.marked
 
 pub returns-in-Rule-clause-in_row : goal.returns-in-Rule-clause-in_row
-returns-in-Rule-clause-in_row c = λ cell (end, there, is).
+returns-in-Rule-clause-in_row c =
     let bits = c.args.bits.now in
-    let least = c.first_set-least.result in
+    let begin = c.first_set-least.result in
     let last = c.in-Some.last in
-    let Cut : ℕ → Type 0 = IsBitOf bits least (last + 1) in
-    c.mark_ends_of.ensures.in_row cell (
-      same_rule c.args.argument.now c.in-Rule.rule cell.rule c.in-Rule.is is.rule,
-      sym is.begins,
-      subst Cut is.ends
-          (cut_to_set bits c.args.first c.args.past least last c.first_set-least.ensures.from_first
-          c.first_set-least.ensures.none_before c.in-Some.ensures end there),
-    )
+    ends_in_rows c.args.argument.now c.in-Rule.rule c.args.from c.in-Rule.is (IsBitOf bits c.args.first c.args.past)
+    (IsBitOf bits begin (last + 1))
+    (cut_to_set bits c.args.first c.args.past begin last c.first_set-least.ensures.from_first
+    c.first_set-least.ensures.none_before c.in-Some.ensures)
+    c.mark_ends_of.new.self c.mark_ends_of.ensures.in_row

@@ -4,7 +4,7 @@ use Rattle.adp_model.specs.Cells.{IsCounted}
 use Rattle.adp_model.specs.Splits.{FitsSpan}
 use Rattle.viable_splits.specs.Placing.{on_span}
 use Rattle.cell_tables.specs.Bits.{IsBitOf}
-use Rattle.cell_demands.proofs.RunEnds.{covers_run, demanded_run, marked_run}
+use Rattle.cell_demands.proofs.RunEnds.{after_run, demanded_run}
 use Rattle.cell_demands.proofs.runs.mark_run.Goals as goal
 
 pub mark_ends-is_laid-requires-clause-counted : goal.mark_ends-is_laid-requires-clause-counted
@@ -25,25 +25,15 @@ mark_ends-is_laid-requires-clause-counted c = λ cell end bit is.
     (demanded_run p c.args.marks.now c.args.argument.now c.args.others.now c.args.from c.args.to c.args.first
     c.args.past c.in-Some.notes.now told fit laid c.deref-in-Some.ensures.value cell end within is))
 
-pub returns-in-Some-clause-laid : goal.returns-in-Some-clause-laid
-returns-in-Some-clause-laid c =
+pub returns-in-Some : goal.returns-in-Some
+returns-in-Some c =
     let p = c.args.lines.now in
-    let stop = c.first_clear-stop.result in
+    let stop = c.first_clear-stop.ensures in
     let told = c.in-Some.ensures p c.args.marks.now c.requires.owner c.requires.noted in
-    covers_run p c.args.marks.now c.args.argument.now c.args.others.now c.args.from c.args.to c.args.first stop
-    c.in-Some.notes.now told
-    (λ end l m. c.requires.fit end l (omega (arith, m, c.first_clear-stop.ensures.within)))
-    c.deref-in-Some.result.now c.deref-in-Some.ensures.value c.deref.result.now c.deref.ensures.value
-    c.first_clear-stop.ensures.set_before c.mark_ends-is_laid.result c.mark_ends-is_laid.ensures.some
-
-pub returns-in-Some-clause-marked : goal.returns-in-Some-clause-marked
-returns-in-Some-clause-marked c =
-    let p = c.args.lines.now in
-    let stop = c.first_clear-stop.result in
-    let told = c.in-Some.ensures p c.args.marks.now c.requires.owner c.requires.noted in
-    marked_run p c.args.marks.now c.args.argument.now c.args.others.now c.args.from c.args.to c.args.first stop
-    c.in-Some.notes.now told
-    (λ end l m. c.requires.fit end l (omega (arith, m, c.first_clear-stop.ensures.within)))
-    c.deref-in-Some.result.now c.deref-in-Some.ensures.value c.deref.result.now c.deref.ensures.value
-    c.first_clear-stop.ensures.set_before c.args.begin c.mark_ends-is_laid.new.marks c.if-begin-first.true
-    c.mark_ends-is_laid.ensures.marked c.mark_ends-is_laid.ensures.in_row
+    let run = after_run p c.args.marks.now c.args.argument.now c.args.others.now c.args.from c.args.to c.args.first
+    c.first_clear-stop.result c.in-Some.notes.now told
+    (λ end l m. c.requires.fit end l (omega (arith, m, stop.within)))
+    c.deref-in-Some.result.now c.deref-in-Some.ensures.value c.deref.result.now c.deref.ensures.value stop.set_before
+    c.mark_ends-is_laid.result c.mark_ends-is_laid.ensures.some c.args.begin c.mark_ends-is_laid.new.marks
+    c.if-begin-first.true c.mark_ends-is_laid.ensures.marked c.mark_ends-is_laid.ensures.in_row in
+    record { from_first = stop.from_first; laid = run.0; marked = run.1 }

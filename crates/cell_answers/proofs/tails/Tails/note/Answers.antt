@@ -23,7 +23,10 @@ invariant_of-self c =
           let R : TailRow → Type 0 = λ row. IsNoted row w.put.new.row w.note_of-note.result in
           let noted = subst R (read_row rows place it.row w.index_mut-row.result.now it.there w.index_mut-row.ensures.value) w.put.ensures in
           let holds : AreTrueRows p rows = subst K w.in-Some.is c.self.invariant in
-          subst I (sym w.self-inside-is) (put_true p c.args.tail c.args.from c.args.to c.args.total w.note_of-note.result w.note_of-note.ensures (subst (λ q. IsTailTotal q c.args.tail c.args.from c.args.to c.args.total) (sym c.self.view_is) c.requires) it.row w.put.new.row it.same noted rows place it.there holds)
+          subst I (sym w.self-inside-is)
+          (put_true p c.args.tail c.args.from c.args.to c.args.total w.note_of-note.result w.note_of-note.ensures
+          (subst (λ q. IsTailTotal q c.args.tail c.args.from c.args.to c.args.total) (sym c.self.view_is)
+          c.requires) it.row w.put.new.row it.same noted rows place it.there holds)
       | in-Some+in_default-place w ↦ subst I (sym w.self-inside-is) (subst K w.in-Some.is c.self.invariant)
       | in_default w ↦ subst I (sym w.self-inside-is) c.self.invariant
     ]

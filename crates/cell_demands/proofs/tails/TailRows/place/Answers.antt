@@ -6,6 +6,7 @@ use Rattle.cell_demands.proofs.tails.TailRows.place.Goals as goal
 pub returns-then-eq : goal.returns-then-eq
 returns-then-eq c = record {
   row = c.index-row.result.now;
-  there = slice_get_read c.args.self.now.rows.items c.len.result c.saturating_add-place.result c.index-row.result.now (omega (arith, c.args.self.now.rows.ok.0)) c.if-place-len.false c.index-row.ensures;
+  there = slice_get_read c.args.self.now.rows.items c.len.result c.saturating_add-place.result c.index-row.result.now
+      (omega (arith, c.args.self.now.rows.ok.0)) c.if-place-len.false c.index-row.ensures;
   same = same_tail c.index-row.result.now.tail c.args.tail (sym c.eq.ensures ∙ c.if-eq.true);
 }
