@@ -18,3 +18,6 @@ pub mod Verifying
 pub mod Certified
 pub mod Blocks
 pub mod FirstWords
+pub mod Posts
+pub mod SharedParts
+pub mod SentSlots

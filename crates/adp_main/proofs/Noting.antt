@@ -17,37 +17,11 @@ use Rattle.evaluators.specs.Schedules.{HasKeptSchedule}
 use Rattle.report.specs.declared.fault.Fault.{Fault}
 use Rattle.report.specs.declared.fault.Fault.TheVariants as faults
 use Rattle.adp_main.specs.RunNotes.{AddsNotes, HaveRun, IsNoteFor}
-use Rattle.adp_main.specs.Writing.{IsReportWritten, IsRunFor, IsRunWith, IsWordEnding}
+use Rattle.adp_main.specs.Writing.{IsReportWritten, IsRunFor, IsRunWith, IsWordEnding, IsWrittenWith}
 
 -- a problem has one number of demanded cells
 abbrev pub CountsAgree : Type 0
 CountsAgree = (p : PosedProblem) (a b : ℕ) → IsDemandedCount p a → IsDemandedCount p b → a ≡ b
-
--- the note that can be made of what was left
-abbrev made_note : PosedProblem → ℕ → Finished → RunNote
-made_note p seed finished = record {
-  word = p.word;
-  algebra = p.algebra;
-  seed = seed;
-  answer = finished.answer;
-  cells = sum finished.wins.items;
-  wins = finished.wins.items;
-  moves = map moves_of finished.machines.items;
-  ended = map ended_of finished.machines.items;
-}
-
-is_made : (p : PosedProblem) (seed : ℕ) (finished : Finished) → IsFinished p seed finished
-    → IsNoteOf p seed finished (made_note p seed finished)
-is_made p seed finished done = record {
-  word = refl;
-  algebra = refl;
-  seed_is = refl;
-  answer = refl;
-  cells = done.wins_sum;
-  wins = refl;
-  moves = refl;
-  ended = refl;
-}
 
 -- machines that have all ended have run as each mode runs them that follows no schedule
 all_ended : (mode : Mode) → (mode ≡ Replay → ⊥) → (schedule wins moves : List ℕ) (finished : Finished)
@@ -112,52 +86,42 @@ module _ (agree : CountsAgree) (command : Command) (p : PosedProblem) (finished 
         (λ i. (sym is.wins i, sym is.moves i, sym is.ended i)) ran.run;
   }
 
-  -- a run has a note
-  note_made : (report bytes : List ℕ) → bytes ≡ report
-      → (noted : List RunNote) × IsRunWith command p finished report bytes noted
-  note_made report bytes same =
-      let note = made_note p command.seed finished in
-      (note ∷ [], (same, note, refl, note_for note (is_made p command.seed finished ran.is_finished), refl))
+  -- what was written with the note of the run
+  pub run_noted : (report : List ℕ) (note : RunNote) → IsNoteOf p command.seed finished note
+      → (bytes : List ℕ) (noted : List RunNote) → IsWrittenWith report note bytes noted
+      → IsRunWith command p finished report bytes noted
+  run_noted report note is bytes noted written = (written.0, note, written.1, note_for note is, is.wins)
 
-  -- what the gate was told is the note of the run
-  note_told : (E : Type 0) (done : Unit {0}) (report bytes : List ℕ) → bytes ≡ report → (old new : Option (List RunNote))
-      → GrowsByNote {E = E} p command.seed finished (Ok done) old new
-      → (noted : List RunNote) × IsRunWith command p finished report bytes noted × AddsNotes old new noted
-  note_told E done report bytes same None new grows =
-      let made = note_made report bytes same in
-      (made.0, made.1, grows)
-  note_told E done report bytes same (Some old) new (note, is, grew) =
-      (note ∷ [], (same, note, refl, note_for note is, is.wins), grew)
+-- told notes grew by this one
+adds_note : (E : Type 0) (done : Unit {0}) (note : RunNote) (old new : Option (List RunNote))
+    → GrowsByNote {E = E} note (Ok done) old new → AddsNotes old new (note ∷ [])
+adds_note E done note None new grows = grows
+adds_note E done note (Some old) new grows = grows
 
-  -- the report was written whole and its run noted
-  pub run_written : (E : Type 0) (done : Unit {0}) (seed : ℕ) → seed ≡ command.seed → (report : List ℕ)
-      (old new : Option (List RunNote)) (held held' : Option (List ℕ))
-      → GrowsByNote {E = E} p seed finished (Ok done) old new → Appends held held' report → IsWordEnding (IsRunWith command p finished report) (Ok done) old new held held'
-  run_written E done seed seeded report old new held held' grows whole =
-      let told = note_told E done report report refl old new
-      (subst (λ (seed : ℕ). GrowsByNote {E = E} p seed finished (Ok done) old new) seeded grows) in
-      (report, told.0, told.1, told.2, whole)
+-- the report was written whole and the note handed on
+pub noted_written : (E : Type 0) (done : Unit {0}) (report : List ℕ) (note : RunNote) (old new : Option (List RunNote))
+    (held held' : Option (List ℕ)) → GrowsByNote {E = E} note (Ok done) old new → Appends held held' report
+    → IsWordEnding (IsWrittenWith report note) (Ok done) old new held held'
+noted_written E done report note old new held held' grows whole =
+    (report, note ∷ [], (refl, refl), adds_note E done note old new grows, whole)
 
-  -- the report was not written whole
-  pub run_unwritten : (report : List ℕ) (fault : Fault) (runs : Option (List RunNote)) (held held' : Option (List ℕ))
-      → IsReportWritten (Err fault) held held' report
-      → IsWordEnding (IsRunWith command p finished report) (Err fault) runs runs held held'
-  run_unwritten report faults.Write runs held held' part =
-      let made = note_made report report refl in
-      (refl, report, made.0, made.1, part)
-  run_unwritten report faults.Usage runs held held' h = absurd h
-  run_unwritten report faults.Read runs held held' h = absurd h
-  run_unwritten report faults.TooLong runs held held' h = absurd h
-  run_unwritten report (faults.Text fault) runs held held' h = absurd h
-  run_unwritten report (faults.Grammar fault) runs held held' h = absurd h
-  run_unwritten report (faults.Limit word fault) runs held held' h = absurd h
-  run_unwritten report (faults.Rejected line) runs held held' h = absurd h
-  run_unwritten report faults.Memory runs held held' h = absurd h
+-- the report was not written whole
+pub noted_unwritten : (report : List ℕ) (note : RunNote) (fault : Fault) (runs : Option (List RunNote))
+    (held held' : Option (List ℕ)) → IsReportWritten (Err fault) held held' report
+    → IsWordEnding (IsWrittenWith report note) (Err fault) runs runs held held'
+noted_unwritten report note faults.Write runs held held' part = (refl, report, note ∷ [], (refl, refl), part)
+noted_unwritten report note faults.Usage runs held held' h = absurd h
+noted_unwritten report note faults.Read runs held held' h = absurd h
+noted_unwritten report note faults.TooLong runs held held' h = absurd h
+noted_unwritten report note (faults.Text fault) runs held held' h = absurd h
+noted_unwritten report note (faults.Grammar fault) runs held held' h = absurd h
+noted_unwritten report note (faults.Limit word fault) runs held held' h = absurd h
+noted_unwritten report note (faults.Rejected line) runs held held' h = absurd h
+noted_unwritten report note faults.Memory runs held held' h = absurd h
 
-  -- memory ran out when the gate was told
-  pub run_untold : (report : List ℕ) (old new : Option (List RunNote)) (held held' : Option (List ℕ)) → new ≡ old
-      → Appends held held' report
-      → IsWordEnding (IsRunWith command p finished report) (Err faults.Memory) old new held held'
-  run_untold report old new held held' untold whole =
-      let made = note_made report report refl in
-      (untold, inr (report, made.0, made.1, whole))
+-- there was no memory for the note
+pub noted_untold : (report : List ℕ) (note : RunNote) (old new : Option (List RunNote)) (held held' : Option (List ℕ))
+    → new ≡ old → Appends held held' report
+    → IsWordEnding (IsWrittenWith report note) (Err faults.Memory) old new held held'
+noted_untold report note old new held held' untold whole =
+    (untold, inr (report, note ∷ [], (refl, refl), whole))

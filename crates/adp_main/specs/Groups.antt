@@ -1,18 +1,25 @@
 -- Which words are taken as a group, and the problems by which these are answered.
-use Rattle.std.specs.Prelude.{◌≡◌, ℕ, ◌<◌, ◌≤◌, ◌⊎◌, Option, None, Some, List, [], All, length, sum}
+use Rattle.std.specs.Prelude.{◌≡◌, ℕ, suc, ◌<◌, ◌≤◌, ◌⊎◌, Option, None, Some, IfSome, List, [], ◌∷◌, All, length, sum}
+use Rattle.std.specs.Option.{option_copied}
 use Rattle.std.specs.List.{AllZip}
 use Rattle.adp_model.specs.PosedProblem.{PosedProblem}
 use Rattle.adp_model.specs.Cells.{IsCellBound}
-use Rattle.adp_model.specs.ProblemFields.{most_cells}
+use Rattle.adp_model.specs.ProblemFields.{most_cells, most_nodes}
+use Rattle.evaluators.specs.declared.finished.Finished.{Finished}
+use Rattle.evaluators.specs.Runs.{IsNoteOf}
 use Rattle.grammar_check.specs.CheckedGrammar.{CheckedGrammar}
 use Rattle.split_lines.specs.Shared.{without_word}
 use Rattle.verdicts.specs.declared.command.Mode.{Mode}
 use Rattle.verdicts.specs.declared.command.Mode.TheVariants.{Best, Cert, Lex}
 use Rattle.verdicts.specs.Command.{Command}
 use Rattle.verdicts.specs.Posed.{posed_word}
+use Rattle.verdicts.specs.Verdict.{IsReportWith}
 use Rattle.adp_main.specs.declared.lex.Compiled.{Compiled}
 use Rattle.adp_main.specs.CompiledWords.{IsCompiledFor, ServesItsLength, compiled_word}
 use Rattle.adp_main.specs.SharedWords.{IsSharedOf}
+use Rattle.adp_main.specs.Writing.{IsRunFor}
+use Rattle.adp_main.specs.declared.slot.Slot.{Slot}
+use Rattle.adp_main.specs.declared.slot.Told.{Told}
 
 -- the mode's words are solved in groups: its reports tell nothing of evaluators
 abbrev pub IsGrouped : Mode → Type 0
@@ -25,10 +32,12 @@ IsGrouped mode = ⊥
 abbrev pub TakesGroups : Command → Type 0
 TakesGroups command = IsGrouped command.mode × (1 < command.workers)
 
--- a group of so many words takes one more, with which it has so many counted cells: it stays with 1,024 words and with the
--- cells that one word may have, and with fewer once there is a word for each worker
-abbrev pub HasRoom : ℕ → ℕ → ℕ → Type 0
-HasRoom words cells workers = (words < 1024) × (cells ≤ most_cells) × ((words < workers) ⊎ (cells ≤ 131072))
+-- a group of so many words takes one more, with which it has so many counted cells, and its trees so many nodes at most:
+-- it stays with 1,024 words, with the cells and the nodes that one word may have, and with fewer cells once there is a word
+-- for each worker
+abbrev pub HasRoom : ℕ → ℕ → ℕ → ℕ → Type 0
+HasRoom words cells nodes workers =
+    (words < 1024) × (cells ≤ most_cells) × (nodes ≤ most_nodes) × ((words < workers) ⊎ (cells ≤ 524288))
 
 -- these problems have so many counted cells together
 abbrev pub HaveCells : List PosedProblem → ℕ → Type 0
@@ -61,3 +70,45 @@ common_of first (Some made) = compiled_word made []
 abbrev pub AreAlike : List PosedProblem → Option PosedProblem → Type 0
 AreAlike problems shared =
     (common : PosedProblem) × All (λ p. without_word p ≡ common) problems × IsSharedOf common shared
+
+-- a word of a group: the command by which it is solved, what is compiled for it, its number, and the problem that is solved
+pub record Post : Type 0 where
+  pub command : Command
+  pub made : Option Compiled
+  pub number : ℕ
+  pub problem : PosedProblem
+
+abbrev pub post_of : {G : Type 0} → Slot G → Post
+post_of slot = record {
+  command = slot.command.now;
+  made = option_copied slot.made;
+  number = slot.number;
+  problem = slot.sharing;
+}
+
+-- those of these problems in order, the first of which has this number
+abbrev pub posts_from : Command → Option Compiled → ℕ → List PosedProblem → List Post
+posts_from command made number [] = []
+posts_from command made number (p ∷ ps) =
+    record { command = command; made = made; number = number; problem = p } ∷ posts_from command made (suc number) ps
+
+-- its problem is solved for a word that is asked for, in a mode whose words are solved in groups
+abbrev pub IsPosted : Post → Type 0
+IsPosted post =
+    IsGrouped post.command.mode × (asked : PosedProblem) × IsSolvedFor post.command post.made asked post.problem
+
+-- what is told of it: the note of a run for its problem, and the report of the word that it is solved for
+pub record IsTold (post : Post) (told : Told) : Type 0 where
+  pub finished : Finished
+  pub run : IsRunFor post.command post.problem finished
+  pub note : IsNoteOf post.problem post.command.seed finished told.note
+  pub report : (asked : PosedProblem) → IsSolvedFor post.command post.made asked post.problem
+      → IsReportWith post.command.mode post.command None post.number asked finished.wins.items told.report.items
+
+-- what is told of words that are asked for, in order, the first of which has this number
+pub record AreTold (command : Command) (number : ℕ) (asked : List PosedProblem) (all : List (Option Told)) : Type 0 where
+  pub mode : IsGrouped command.mode
+  pub made : Option Compiled
+  pub problems : List PosedProblem
+  pub solved : AllZip (IsSolvedFor command made) asked problems
+  pub told : AllZip (λ post told. IfSome told (IsTold post)) (posts_from command made number problems) all

@@ -24,6 +24,10 @@ IsRunWith command p finished report bytes noted =
     (bytes ≡ report) × (note : RunNote) × (noted ≡ note ∷ []) × IsNoteFor command p note
     × (note.wins ≡ finished.wins.items)
 
+-- the bytes are this report, and this note is noted
+abbrev pub IsWrittenWith : List ℕ → RunNote → List ℕ → List RunNote → Type 0
+IsWrittenWith report note bytes noted = (bytes ≡ report) × (noted ≡ note ∷ [])
+
 -- a report was written whole, or a part of it was
 abbrev pub IsReportWritten : Result (Unit {0}) Fault → Option (List ℕ) → Option (List ℕ) → List ℕ → Type 0
 IsReportWritten (Ok written) held held' report = Appends held held' report

@@ -41,5 +41,5 @@ pub(crate) fn report_word<R: Threads + Sync, K: Sink, G: Gate>(
 {
     let finished = run_over(rt, alloc, command, problem, shared, &*gate)?;
     let report = plain_report(alloc, number, problem, &finished)?;
-    write_run(command, problem, &finished, &report, out, gate)
+    write_run(alloc, command, problem, &finished, &report, out, gate)
 }

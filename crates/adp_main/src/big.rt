@@ -42,9 +42,28 @@ pub(crate) fn answer_big<R: Threads + Sync, K: Sink, G: Gate>(
     let word = made_word(alloc, command.seed, command.size)?;
     let rows = BoundRows::new(alloc, &checked, command.size)?;
     let problem = admitted(&checked, &rows, &word);
-    let finished = run_evaluators(rt, alloc, command, &problem, &*gate)?;
-    let report = made_report(alloc, command, &problem, &finished)?;
-    write_run(command, &problem, &finished, &report, out, gate)
+    report_made(rt, alloc, command, &problem, out, gate)
+}
+
+/// Solves the problem of the word that is made, writes its report by one `write_whole`, and tells the gate of the run.
+fn report_made<R: Threads + Sync, K: Sink, G: Gate>(
+    rt: &R,
+    alloc: Global,
+    command: &Command<'_>,
+    problem: &Problem<'_>,
+    out: &mut K,
+    gate: &mut G,
+) -> Result<(), Fault>
+    requires makes { command.now.mode ≡ Big }
+    requires made { problem.now ≡ made_problem command.now.seed command.now.size }
+    ensures told { SameTold (K.held out.old) (K.held out.new) }
+    ensures faults { RisesWhere (K.faults out.old) (K.faults out.new) (status_after result ≡ WriteFault) }
+    ensures ending { IsWordEnding (IsBigRun command.now) result
+        (G.runs gate.old) (G.runs gate.new) (K.held out.old) (K.held out.new) }
+{
+    let finished = run_evaluators(rt, alloc, command, problem, &*gate)?;
+    let report = made_report(alloc, command, problem, &finished)?;
+    write_run(alloc, command, problem, &finished, &report, out, gate)
 }
 
 /// The report of the word.

@@ -47,7 +47,7 @@ pub(crate) fn report_word<R: Threads + Sync, K: Sink, G: Gate>(
 {
     let finished = run_over(rt, alloc, command, problem, shared, &*gate)?;
     let report = block_report(alloc, number, problem, &finished)?;
-    write_run(command, problem, &finished, &report, out, gate)
+    write_run(alloc, command, problem, &finished, &report, out, gate)
 }
 
 /// The block of a word that evaluators solved; before that of the first word stands the line `cert`.

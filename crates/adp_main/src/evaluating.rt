@@ -9,7 +9,7 @@ ghost use Rattle.evaluators.specs.Runs.{IsFinished};
 ghost use Rattle.split_lines.specs.Shared.{without_word};
 ghost use Rattle.adp_main.specs.Faults.{status_after};
 ghost use Rattle.adp_main.specs.SharedWords.{IsSharedOf};
-ghost use Rattle.adp_main.specs.Writing.{IsRunFor, IsRunWith, IsWordEnding};
+ghost use Rattle.adp_main.specs.Writing.{IsRunFor, IsRunWith, IsWordEnding, IsWrittenWith};
 ghost use Rattle.adp_main.specs.declared.status.Status.TheVariants.{WriteFault};
 
 use crate::preparing::prepare;
@@ -19,9 +19,11 @@ use adp_io::Sink;
 use adp_model::Problem;
 use adp_model::laws::demand::demanded_cells_are_unique;
 use command_words::schedule_entries;
-use evaluators::{Finished, Gate, run_prepared, run_schedule, run_workers};
+use evaluators::{
+    Door, Finished, Gate, RunNote, run_in_turn, run_prepared, run_schedule, run_workers,
+};
 use report::{Fault, push_wins};
-use split_lines::Shared;
+use split_lines::{Prepared, Shared};
 use std::alloc::{AllocError, Global};
 use std::thread::Threads;
 use verdicts::Command;
@@ -57,6 +59,21 @@ pub(crate) fn run_over<'a, R: Threads + Sync, G: Gate>(
     command.in_range();
     let prepared = prepare(alloc, problem, shared)?;
     run_prepared(rt, alloc, prepared, command.workers, command.seed, gate)
+}
+
+/// Solves the prepared problem by evaluators that run to their ends one after the other, on the thread that calls. The door
+/// is passed.
+pub(crate) fn run_alone<'a, D: Door>(
+    alloc: Global,
+    command: &Command<'_>,
+    prepared: Prepared<'a>,
+    door: &D,
+) -> Result<Finished<'a>, AllocError>
+    requires { command.now.mode ≡ Replay → ⊥ }
+    ensures { IfOk result (IsRunFor command.now prepared.entry) }
+{
+    command.in_range();
+    run_in_turn(alloc, prepared, command.workers, command.seed, door)
 }
 
 /// Solves the problem by evaluators that are stepped in the order of the command's schedule.
@@ -111,6 +128,7 @@ fn with_wins(mut report: Vec<u8>, wins: &[u64]) -> Result<Vec<u8>, AllocError>
 
 /// Writes the report of a run by one `write_whole`, and tells the gate of the run once it is written.
 pub(crate) fn write_run<K: Sink, G: Gate>(
+    alloc: Global,
     command: &Command<'_>,
     problem: &Problem<'_>,
     finished: &Finished<'_>,
@@ -125,7 +143,23 @@ pub(crate) fn write_run<K: Sink, G: Gate>(
         (G.runs gate.old) (G.runs gate.new) (K.held out.old) (K.held out.new) }
 {
     demanded_cells_are_unique();
+    let note = finished.note(alloc, problem, command.seed)?;
+    write_noted(report, note, out, gate)
+}
+
+/// Writes a report by one `write_whole`, and hands this note to the gate once it is written.
+pub(crate) fn write_noted<K: Sink, G: Gate>(
+    report: &[u8],
+    note: RunNote,
+    out: &mut K,
+    gate: &mut G,
+) -> Result<(), Fault>
+    ensures told { SameTold (K.held out.old) (K.held out.new) }
+    ensures faults { RisesWhere (K.faults out.old) (K.faults out.new) (status_after result ≡ WriteFault) }
+    ensures ending { IsWordEnding (IsWrittenWith report.now note) result
+        (G.runs gate.old) (G.runs gate.new) (K.held out.old) (K.held out.new) }
+{
     write_report(out, report)?;
-    gate.finished(problem, command.seed, finished)?;
+    gate.finished(note)?;
     Ok(())
 }

@@ -1,5 +1,5 @@
-//! Groups of words: solved side by side, each on one thread, and reported in order.
-ghost use Rattle.std.specs.Prelude.{◌≡◌, ◌↔◌, ◌++◌, ◌+◌, ◌<◌, ◌≤◌, [], List, ℕ, None, All, IfOk, IfSome, IsTrue, drop, length};
+//! Groups of words: solved and told side by side, each on one thread, and written in order.
+ghost use Rattle.std.specs.Prelude.{◌≡◌, ◌↔◌, ◌++◌, ◌+◌, ◌<◌, ◌≤◌, [], List, ℕ, All, IfOk, IfSome, IsTrue, drop, length, map};
 ghost use Rattle.std.specs.List.{AllZip};
 ghost use Rattle.std.specs.Option.{option_copied};
 ghost use Rattle.adp_io.specs.Causes.{RisesWhere};
@@ -7,44 +7,47 @@ ghost use Rattle.adp_io.specs.Streams.{SameTold};
 ghost use Rattle.adp_model.specs.PosedProblem.{PosedProblem};
 ghost use Rattle.adp_model.specs.ProblemFields.{most_cells};
 ghost use Rattle.split_lines.specs.Shared.{without_word};
-ghost use Rattle.verdicts.specs.declared.command.Mode.TheVariants.{Lex};
+ghost use Rattle.verdicts.specs.Command.{Command};
 ghost use Rattle.verdicts.specs.Posed.{posed_word, posed_words};
 ghost use Rattle.verdicts.specs.SecondAlgebra.{IsAdmissibleWith};
-ghost use Rattle.verdicts.specs.Verdict.{IsReportWith};
 ghost use Rattle.adp_main.specs.CompiledWords.{ServesItsLength};
 ghost use Rattle.adp_main.specs.FirstWords.{AreFirstEnding, IsWriteFault};
-ghost use Rattle.adp_main.specs.Groups.{AreAlike, HasItsLength, HasRoom, HaveCells, IsGrouped, IsMadeFor, IsSolvedFor, TakesGroups, common_of};
+ghost use Rattle.adp_main.specs.Groups.{AreAlike, AreTold, HasItsLength, HasRoom, HaveCells, IsGrouped, IsMadeFor, IsSolvedFor, IsTold, TakesGroups, common_of, post_of, posts_from};
 ghost use Rattle.adp_main.specs.JudgedWords.{AreJudged};
 ghost use Rattle.adp_main.specs.KeptLengths.{HasKept};
 ghost use Rattle.adp_main.specs.Seconds.{AreJobRows};
 ghost use Rattle.adp_main.specs.SharedWords.{IsSharedOf};
-ghost use Rattle.adp_main.specs.Writing.{IsRunFor};
 
-use crate::admitting::admitted;
-use crate::cert::block_report;
+use crate::admitting::{admitted, nodes_of};
 use crate::checking::CheckedJob;
-use crate::evaluating::{plain_report, write_run};
-use crate::lex::{Compiled, keep_for, report_of_both};
+use crate::evaluating::write_noted;
+use crate::lex::{Compiled, keep_for};
 use crate::limits::Judged;
+use crate::slot::{Slot, Told};
 use crate::writing::is_admitted;
 use adp_io::Sink;
+use adp_model::laws::demand::demanded_cells_are_unique;
 use adp_model::{Problem, Text};
-use evaluators::{Finished, Gate};
+use evaluators::Gate;
 use report::Fault;
-use split_lines::Shared;
+use split_lines::{Shared, Sharing};
 use std::alloc::{AllocError, Global};
 use std::thread::Threads;
 use verdicts::{Command, Mode};
-use word_groups::run_group;
+use word_groups::filled;
 
 /// The most words of a group.
 const MOST_WORDS: usize = 1_024;
 
 /// The most counted cells that the words of a group have together, unless it had fewer words than there are workers.
-const ENOUGH_CELLS: u64 = 131_072;
+const ENOUGH_CELLS: u64 = 524_288;
 
 /// The most counted cells that the words of a group have together: as many as one word may have.
 const MOST_CELLS: u64 = 2_097_152;
+
+/// The most nodes that the trees of a group can have together, since their reports are kept until the group is written: as
+/// many as the tree of one word can have.
+const MOST_NODES: u64 = 1_048_576;
 
 /// Whether words are solved in groups: where there are workers enough, and reports tell nothing of them.
 fn takes_groups(command: &Command<'_>) -> bool
@@ -185,6 +188,7 @@ fn next_group<'a>(
     let words = job.words.as_slice();
     let mut problems = Vec::new(alloc);
     let mut cells = 0u64;
+    let mut nodes = 0u64;
     for at in place..words.len() {
         let word = &words[at];
         if !has_its_length(made, word) {
@@ -193,7 +197,8 @@ fn next_group<'a>(
         is_admitted(command, job, judged, words, at, word);
         let problem = problem_of(command, job, judged, made, word);
         cells = cells.saturating_add(problem.cells);
-        if !has_room(problems.len(), cells, command.workers as usize) {
+        nodes = nodes.saturating_add(nodes_of(&job.checked, &judged.rows.first, word));
+        if !has_room(problems.len(), cells, nodes, command.workers as usize) {
             break;
         }
         match problems.push(problem) {
@@ -239,11 +244,15 @@ fn problem_of<'a>(
     }
 }
 
-/// Whether a group of so many words takes one more, with which it has so many counted cells.
-fn has_room(words: usize, cells: u64, workers: usize) -> bool
-    ensures { IsTrue result ↔ HasRoom words cells workers }
+/// Whether a group of so many words takes one more, with which it has so many counted cells, and its trees so many nodes
+/// at most.
+fn has_room(words: usize, cells: u64, nodes: u64, workers: usize) -> bool
+    ensures { IsTrue result ↔ HasRoom words cells nodes workers }
 {
-    words < MOST_WORDS && cells <= MOST_CELLS && (words < workers || cells <= ENOUGH_CELLS)
+    words < MOST_WORDS
+        && cells <= MOST_CELLS
+        && nodes <= MOST_NODES
+        && (words < workers || cells <= ENOUGH_CELLS)
 }
 
 /// Solves the problems side by side and reports them in order, the first of which has this number, as many as there is
@@ -309,119 +318,102 @@ fn write_over<R: Threads + Sync, K: Sink, G: Gate>(
         → AreFirstEnding command.now number asked result
         (G.runs gate.old) (G.runs gate.new) (K.held out.old) (K.held out.new) }
 {
-    match run_side_by_side(rt, alloc, command, problems, shared, &*gate) {
-        Ok(all) => write_solved(alloc, command, number, made, problems, &all, out, gate),
+    match tell_all(rt, alloc, command, number, made, problems, shared, &*gate) {
+        Ok(all) => write_told(all, out, gate),
         Err(_) => Ok(0),
     }
 }
 
-/// Solves the problems side by side, each by as many evaluators as the command says. The gate is passed.
-fn run_side_by_side<'a, R: Threads + Sync, G: Gate>(
+/// Solves the problems side by side, and tells of each on the thread that solved it, the first of which has this number.
+/// The gate is passed.
+fn tell_all<'a, R: Threads + Sync, G: Gate>(
     rt: &R,
     alloc: Global,
-    command: &Command<'_>,
+    command: &'a Command<'a>,
+    number: u32,
+    made: Option<&'a Compiled>,
     problems: &'a [Problem<'a>],
     shared: &'a Shared<'a>,
     gate: &G,
-) -> Result<Vec<Finished<'a>>, AllocError>
-    requires mode { IsGrouped command.now.mode }
-    requires shared { All (λ p. shared.now ≡ without_word p) problems.now }
-    ensures { IfOk result (λ all. AllZip (IsRunFor command.now) problems.now all.items) }
-{
-    command.in_range();
-    run_group(
-        rt,
-        alloc,
-        problems,
-        shared,
-        command.workers,
-        command.seed,
-        gate,
-    )
-}
-
-/// Reports problems in order that evaluators solved, each by one `write_whole`, and tells the gate of each run, as many
-/// as there is memory for.
-fn write_solved<'a, K: Sink, G: Gate>(
-    alloc: Global,
-    command: &Command<'_>,
-    number: u32,
-    made: Option<&Compiled>,
-    problems: &'a [Problem<'a>],
-    all: &[Finished<'a>],
-    out: &mut K,
-    gate: &mut G,
-) -> Result<usize, Fault>
+) -> Result<Vec<Option<Told>>, AllocError>
     requires mode { IsGrouped command.now.mode }
     requires few { number + length problems.now ≤ 65537 }
     requires asked { (asked : List PosedProblem)
         × AllZip (IsSolvedFor command.now (option_copied made)) asked problems.now }
-    requires solved { AllZip (IsRunFor command.now) problems.now all.now }
-    ensures told { SameTold (K.held out.old) (K.held out.new) }
-    ensures faults { RisesWhere (K.faults out.old) (K.faults out.new) (IsWriteFault result) }
-    ensures ending { (asked : List PosedProblem)
-        → AllZip (IsSolvedFor command.now (option_copied made.entry)) asked problems.now
-        → AreFirstEnding command.now number asked result
-        (G.runs gate.old) (G.runs gate.new) (K.held out.old) (K.held out.new) }
+    requires shared { All (λ p. shared.now ≡ without_word p) problems.now }
+    ensures { IfOk result (λ all. AllZip (λ post told. IfSome told (IsTold post))
+        (posts_from command.now (option_copied made.entry) number problems.now) all.items) }
 {
+    let slots = slots_for(alloc, command, number, made, problems, shared, gate)?;
+    let threads = (command.workers as usize).min(slots.len());
+    let done = filled(rt, threads, slots);
+    told_of(alloc, done)
+}
+
+/// A slot for each problem, of which nothing is told yet.
+fn slots_for<'a, 'g, G>(
+    alloc: Global,
+    command: &'a Command<'a>,
+    number: u32,
+    made: Option<&'a Compiled>,
+    problems: &'a [Problem<'a>],
+    shared: &'a Shared<'a>,
+    gate: &'g G,
+) -> Result<Vec<Slot<'a, 'g, G>>, AllocError>
+    requires few { number + length problems.now ≤ 65537 }
+    requires shared { All (λ p. shared.now ≡ without_word p) problems.now }
+    ensures { IfOk result (λ slots. map post_of slots.items
+        ≡ posts_from command.now (option_copied made.entry) number problems.now) }
+{
+    let mut slots = Vec::new(alloc);
     for place in 0..problems.len() {
-        let problem = &problems[place];
-        let finished = &all[place];
-        let report = match report_of(
+        slots.push(Slot {
             alloc,
             command,
-            number + place as u32,
             made,
-            problem,
-            finished,
-        ) {
-            Ok(report) => report,
-            Err(_) => return Ok(place),
+            number: number + place as u32,
+            sharing: Sharing::new(&problems[place], shared),
+            gate,
+            told: None,
+        })?;
+    }
+    Ok(slots)
+}
+
+/// What is told of each slot, in order.
+fn told_of<G>(alloc: Global, slots: Vec<Slot<'_, '_, G>>) -> Result<Vec<Option<Told>>, AllocError>
+    requires { All (λ slot. IfSome slot.told (IsTold (post_of slot))) slots.items }
+    ensures { IfOk result (λ all. AllZip (λ post told. IfSome told (IsTold post))
+        (map post_of slots.entry.items) all.items) }
+{
+    let mut all = Vec::new(alloc);
+    for slot in slots {
+        all.push(slot.told)?;
+    }
+    Ok(all)
+}
+
+/// Writes what is told of words in order, each report by one `write_whole`, and hands the gate each note, for as many
+/// words as there was memory for.
+fn write_told<K: Sink, G: Gate>(
+    all: Vec<Option<Told>>,
+    out: &mut K,
+    gate: &mut G,
+) -> Result<usize, Fault>
+    ensures told { SameTold (K.held out.old) (K.held out.new) }
+    ensures faults { RisesWhere (K.faults out.old) (K.faults out.new) (IsWriteFault result) }
+    ensures ending { (command : Command) (number : ℕ) (asked : List PosedProblem)
+        → AreTold command number asked all.items → AreFirstEnding command number asked result
+        (G.runs gate.old) (G.runs gate.new) (K.held out.old) (K.held out.new) }
+{
+    demanded_cells_are_unique();
+    let mut written = 0;
+    for word in all {
+        let Some(Told { report, note }) = word else {
+            break;
         };
-        write_run(command, problem, finished, &report, out, gate)?;
+        write_noted(&report, note, out, gate)?;
+        written += 1;
     }
-    Ok(problems.len())
-}
-
-/// The report of a word that evaluators solved.
-fn report_of<'a>(
-    alloc: Global,
-    command: &Command<'_>,
-    number: u32,
-    made: Option<&Compiled>,
-    problem: &'a Problem<'a>,
-    finished: &Finished<'a>,
-) -> Result<Vec<u8>, AllocError>
-    requires mode { IsGrouped command.now.mode }
-    requires asked { (asked : PosedProblem) × IsSolvedFor command.now (option_copied made) asked problem.now }
-    requires run { IsRunFor command.now problem.now finished.now }
-    ensures { IfOk result (λ report. (asked : PosedProblem)
-        → IsSolvedFor command.now (option_copied made.entry) asked problem.now
-        → IsReportWith command.now.mode command.now None number asked finished.now.wins.items report.items) }
-{
-    match made {
-        Some(made) => report_of_both(alloc, number, made, problem, finished),
-        None => own_report(alloc, command, number, problem, finished),
-    }
-}
-
-/// The report of a word that evaluators solved under its own algebra.
-fn own_report<'a>(
-    alloc: Global,
-    command: &Command<'_>,
-    number: u32,
-    problem: &'a Problem<'a>,
-    finished: &Finished<'a>,
-) -> Result<Vec<u8>, AllocError>
-    requires mode { IsGrouped command.now.mode }
-    requires single { command.now.mode ≡ Lex → ⊥ }
-    requires run { IsRunFor command.now problem.now finished.now }
-    ensures { IfOk result (λ report. IsReportWith command.now.mode command.now None number problem.now
-        finished.now.wins.items report.items) }
-{
-    if command.certifies() {
-        block_report(alloc, number, problem, finished)
-    } else {
-        plain_report(alloc, number, problem, finished)
-    }
+    Ok(written)
 }

@@ -139,7 +139,7 @@ pub(crate) fn report_word<R: Threads + Sync, K: Sink, G: Gate>(
     let problem = made.problem_of(command, job, judged, word);
     let finished = run_evaluators(rt, alloc, command, &problem, &*gate)?;
     let report = report_of_both(alloc, number, &made, &problem, &finished)?;
-    let result = write_run(command, &problem, &finished, &report, out, gate);
+    let result = write_run(alloc, command, &problem, &finished, &report, out, gate);
     drop(finished);
     *kept = Some(made);
     result

@@ -18,6 +18,7 @@ mod preparing;
 mod replay;
 mod reporting;
 mod serial;
+mod slot;
 mod status;
 mod top_call;
 mod verify;

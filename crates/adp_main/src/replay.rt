@@ -34,5 +34,5 @@ pub(crate) fn report_word<K: Sink, G: Gate>(
 {
     let finished = follow_schedule(alloc, command, problem)?;
     let report = wins_report(alloc, number, problem, &finished)?;
-    write_run(command, problem, &finished, &report, out, gate)
+    write_run(alloc, command, problem, &finished, &report, out, gate)
 }

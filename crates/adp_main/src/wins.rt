@@ -35,5 +35,5 @@ pub(crate) fn report_word<R: Threads + Sync, K: Sink, G: Gate>(
 {
     let finished = run_evaluators(rt, alloc, command, problem, &*gate)?;
     let report = wins_report(alloc, number, problem, &finished)?;
-    write_run(command, problem, &finished, &report, out, gate)
+    write_run(alloc, command, problem, &finished, &report, out, gate)
 }

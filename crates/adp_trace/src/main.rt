@@ -3,8 +3,10 @@
 //! It takes the options of the mode `replay` and a job on its standard input, of which it answers the first word.
 #![tactic(auto)]
 
-ghost use Rattle.std.specs.Prelude.{IfErr};
+ghost use Rattle.std.specs.Prelude.{◌≤◌, IfErr, length};
 ghost use Rattle.report.specs.Faults.{HasShortName};
+ghost use Rattle.verdicts.specs.Command.{ReadsJob};
+ghost use Rattle.verdicts.specs.Verdict.{greatest_length};
 
 mod lines;
 mod step_lines;
@@ -62,15 +64,40 @@ fn answer<S: Source, K: Sink>(
         Ok(command) => command,
         Err(Usage) => return Err(Fault::Usage),
     };
+    answer_command(alloc, &command, input, out)
+}
+
+/// Reads the command's job and writes the trace of its first word.
+fn answer_command<S: Source, K: Sink>(
+    alloc: Global,
+    command: &Command<'_>,
+    input: &mut S,
+    out: &mut K,
+) -> Result<(), Fault>
+    ensures { IfErr result HasShortName }
+{
     if !command.reads_job() {
         return Err(Fault::Usage);
     }
-    let bytes = match read_job(alloc, input) {
-        Ok(bytes) => bytes,
-        Err(fault) => return Err(reading_fault(fault)),
-    };
-    let job = checked_job(alloc, &command, &bytes)?;
-    let text = trace_text(alloc, &command, &job)?;
+    match read_job(alloc, input) {
+        Ok(bytes) => answer_job(alloc, command, &bytes, out),
+        Err(fault) => Err(reading_fault(fault)),
+    }
+}
+
+/// Writes the trace of the first word of the job that these bytes spell.
+fn answer_job<K: Sink>(
+    alloc: Global,
+    command: &Command<'_>,
+    bytes: &[u8],
+    out: &mut K,
+) -> Result<(), Fault>
+    requires reads { ReadsJob command.now.mode }
+    requires fits { length bytes.now ≤ greatest_length }
+    ensures { IfErr result HasShortName }
+{
+    let job = checked_job(alloc, command, bytes)?;
+    let text = trace_text(alloc, command, &job)?;
     match write_whole(out, &text) {
         Ok(()) => Ok(()),
         Err(_) => Err(Fault::Write),

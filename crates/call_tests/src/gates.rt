@@ -1,7 +1,6 @@
 //! Gates at which workers can meet: one that counts how often each of them passes, and one for those of two words.
 
-use adp_model::Problem;
-use evaluators::{Finished, Gate, LogGate, RunNote};
+use evaluators::{Gate, LogGate, RunNote};
 use std::alloc::{AllocError, Global};
 use std::sync::atomic::{AtomicU64, Ordering};
 
@@ -81,13 +80,8 @@ impl Gate for CountingGate {
         }
     }
 
-    fn finished(
-        &mut self,
-        problem: &Problem<'_>,
-        seed: u64,
-        finished: &Finished<'_>,
-    ) -> Result<(), AllocError> {
-        self.notes.finished(problem, seed, finished)
+    fn finished(&mut self, note: RunNote) -> Result<(), AllocError> {
+        self.notes.finished(note)
     }
 }
 
@@ -153,12 +147,7 @@ impl Gate for WordsGate {
         }
     }
 
-    fn finished(
-        &mut self,
-        problem: &Problem<'_>,
-        seed: u64,
-        finished: &Finished<'_>,
-    ) -> Result<(), AllocError> {
-        self.notes.finished(problem, seed, finished)
+    fn finished(&mut self, note: RunNote) -> Result<(), AllocError> {
+        self.notes.finished(note)
     }
 }

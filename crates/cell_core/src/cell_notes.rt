@@ -39,7 +39,7 @@ impl NotedCells for NothingNoted {
 /// Which cells a machine has noted, their scores, and what the tails of alternatives are worth. Where `skips` isn't set
 /// the search for the next argument doesn't pass over noted ones. Contracts see the notes as the problem and the bits.
 #[derive(Drop)]
-pub struct CellNotes<'a> {
+pub(crate) struct CellNotes<'a> {
     prepared: Arc<Prepared<'a>, Global>,
     noted: Noted<'a>,
     scores: Scores<'a>,
@@ -71,7 +71,7 @@ impl<'a> Model for CellNotes<'a> {
 
 impl<'a> CellNotes<'a> {
     /// No cell is noted. Fails for want of memory alone.
-    pub fn new(
+    pub(crate) fn new(
         alloc: Global,
         prepared: &Arc<Prepared<'a>, Global>,
     ) -> Result<CellNotes<'a>, AllocError>
@@ -95,7 +95,7 @@ impl<'a> CellNotes<'a> {
 
     /// No cell is noted, in the memory of other notes of the problem, where there are some. Fails for want of memory
     /// alone.
-    pub fn over(
+    pub(crate) fn over(
         alloc: Global,
         prepared: &Arc<Prepared<'a>, Global>,
         kept: Option<CellNotes<'a>>,
@@ -133,14 +133,14 @@ impl<'a> CellNotes<'a> {
     }
 
     /// Sets whether the search for the next argument passes over noted ones. Takes no memory.
-    pub fn set_skips(&mut self, skips: bool)
+    pub(crate) fn set_skips(&mut self, skips: bool)
         ensures { self.new ≡ self.old }
     {
         self.skips = skips;
     }
 
     /// The problem. Takes no memory.
-    pub fn problem(&self) -> &'a Problem<'a>
+    pub(crate) fn problem(&self) -> &'a Problem<'a>
         ensures { result.now ≡ self.now.problem }
     {
         self.prepared.problem()

@@ -7,7 +7,6 @@ mod notes;
 mod plain_memo;
 mod work;
 
-pub use cell_notes::CellNotes;
 pub use machine::Machine;
 pub use plain_memo::{PlainMemo, PlainPass, PlainProbe};
 pub use split_lines::Prepared;

@@ -89,12 +89,47 @@ impl<'a, M: Memo> Machine<'a, M> {
     {
         let prepared = Prepared::new(alloc, problem)?;
         let prepared = Arc::new(alloc, prepared)?;
-        Machine::on(alloc, &prepared, None, orders)
+        Machine::on(alloc, &prepared, orders)
     }
 
-    /// A machine of a problem that others share, in the memory of the notes of one of them that has ended, if they are
-    /// given. Fails for want of memory alone.
+    /// A machine of a problem that others share. Fails for want of memory alone.
     pub fn on(
+        alloc: Global,
+        prepared: &Arc<Prepared<'a>, Global>,
+        orders: Orders,
+    ) -> Result<Machine<'a, M>, AllocError>
+        ensures fresh { IfOk result (λ machine. IsFresh (arc_value prepared.now) orders machine) }
+        ensures machine { IfOk result (λ machine. (pass : M.Pass)
+            → IsMachine M.meaning IsNotedIn machine.machine pass) }
+        ensures bound { IfOk result (λ machine. (pass : M.Pass) (m : ℕ) (arguments : List SplitArgument)
+            → IsDemandedCount (arc_value prepared.now) m → AreRuleArguments (arc_value prepared.now) arguments
+            → remaining_bound M.meaning m arguments machine.machine pass ≤ step_bound m (length arguments)) }
+    {
+        Machine::over(alloc, prepared, None, orders)
+    }
+
+    /// The same, in the memory of the notes that a machine of the problem has put by at its end, if it still has them.
+    pub fn after(
+        alloc: Global,
+        prepared: &Arc<Prepared<'a>, Global>,
+        before: &mut Machine<'a, M>,
+        orders: Orders,
+    ) -> Result<Machine<'a, M>, AllocError>
+        requires { before.old.machine.problem ≡ arc_value prepared.now }
+        ensures before { before.new ≡ before.old }
+        ensures fresh { IfOk result (λ machine. IsFresh (arc_value prepared.now) orders machine) }
+        ensures machine { IfOk result (λ machine. (pass : M.Pass)
+            → IsMachine M.meaning IsNotedIn machine.machine pass) }
+        ensures bound { IfOk result (λ machine. (pass : M.Pass) (m : ℕ) (arguments : List SplitArgument)
+            → IsDemandedCount (arc_value prepared.now) m → AreRuleArguments (arc_value prepared.now) arguments
+            → remaining_bound M.meaning m arguments machine.machine pass ≤ step_bound m (length arguments)) }
+    {
+        let kept = before.take_notes();
+        Machine::over(alloc, prepared, kept, orders)
+    }
+
+    /// The same, in the memory of these notes, if there are any.
+    fn over(
         alloc: Global,
         prepared: &Arc<Prepared<'a>, Global>,
         kept: Option<CellNotes<'a>>,
@@ -176,12 +211,19 @@ impl<'a, M: Memo> Machine<'a, M> {
         Turn::Ended(self.work.score)
     }
 
-    /// Gives away the notes that it has put by at its end, for another machine of its problem. Takes no memory.
-    pub fn take_notes(&mut self) -> Option<CellNotes<'a>>
+    /// Gives away the notes that it has put by.
+    fn take_notes(&mut self) -> Option<CellNotes<'a>>
         ensures same { self.new ≡ self.old }
         ensures problem { IfSome result (λ notes. notes.problem ≡ self.old.machine.problem) }
     {
         self.kept.take()
+    }
+
+    /// Gives back the memory of the notes that it has put by at its end. Takes no memory.
+    pub fn forget_notes(&mut self)
+        ensures { self.new ≡ self.old }
+    {
+        self.kept = None;
     }
 
     /// Sets whether the machine passes over noted arguments, as it does at first; where it doesn't, each rule argument

@@ -58,13 +58,12 @@ pub record IsNoteOf (p : PosedProblem) (seed : ℕ) (finished : Finished) (note 
   pub moves : note.moves ≡ map moves_of finished.machines.items
   pub ended : note.ended ≡ map ended_of finished.machines.items
 
--- told notes grew by the run's note; where there was no memory they are as before
-abbrev pub GrowsByNote : {E : Type 0} → PosedProblem → ℕ → Finished → Result (Unit {0}) E → Option (List RunNote)
-    → Option (List RunNote) → Type 0
-GrowsByNote p seed finished (Err error) old new = new ≡ old
-GrowsByNote p seed finished (Ok done) None new = new ≡ None
-GrowsByNote p seed finished (Ok done) (Some notes) new =
-    (note : RunNote) × IsNoteOf p seed finished note × (new ≡ Some (notes ++ note ∷ []))
+-- told notes grew by this one; where there was no memory they are as before
+abbrev pub GrowsByNote : {E : Type 0} → RunNote → Result (Unit {0}) E → Option (List RunNote) → Option (List RunNote)
+    → Type 0
+GrowsByNote note (Err error) old new = new ≡ old
+GrowsByNote note (Ok done) None new = new ≡ None
+GrowsByNote note (Ok done) (Some notes) new = new ≡ Some (notes ++ note ∷ [])
 
 -- every machine has ended
 abbrev pub HaveAllEnded : Finished → Type 0

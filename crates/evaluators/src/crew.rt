@@ -1,6 +1,6 @@
 //! The workers of a problem: made, run, and brought together again.
 
-ghost use Rattle.std.specs.Prelude.{◌≡◌, ◌<◌, ◌≤◌, ℕ, [], ◌∷◌, ◌++◌, IfOk, IfSome, All, map, true, vec_len, slice_index_or};
+ghost use Rattle.std.specs.Prelude.{◌≡◌, ◌<◌, ◌≤◌, ℕ, [], ◌∷◌, ◌++◌, IfOk, All, map, true, vec_len, slice_index_or};
 ghost use Rattle.std.specs.Arc.{arc_value};
 ghost use Rattle.memo_model.specs.Machines.{IsMachine};
 ghost use Rattle.adp_model.specs.ProblemFields.{IsAdmissible};
@@ -24,7 +24,7 @@ use crate::halves::run_all;
 use crate::worker::{TableWorker, Worker};
 use adp_model::laws::existence::demanded_cells_are_listed;
 use adp_model::{Problem, axiom_answer};
-use cell_core::{CellNotes, Machine, Prepared};
+use cell_core::{Machine, Prepared};
 use memo_table::{Pass, Table};
 use random_orders::Orders;
 use std::alloc::{AllocError, Global};
@@ -167,21 +167,19 @@ fn hire<'a, 'g, G>(
     ensures { IfOk result (λ _. IsHired (λ gated. gated.worker) (arc_value prepared.now) seed number pass
         team.old.items team.new.items) }
 {
-    let worker = worker(alloc, prepared, None, pass, number, seed)?;
+    let worker = worker(alloc, prepared, pass, number, seed)?;
     team.push(GatedWorker { worker, gate })?;
     Ok(())
 }
 
-/// A worker with a fresh machine, which begins with these notes, if there are any.
-pub(crate) fn worker<'a>(
+/// A worker with a fresh machine.
+fn worker<'a>(
     alloc: Global,
     prepared: &Arc<Prepared<'a>, Global>,
-    notes: Option<CellNotes<'a>>,
     pass: Pass,
     number: u32,
     seed: u64,
 ) -> Result<TableWorker<'a>, AllocError>
-    requires notes { IfSome notes (λ kept. kept.problem ≡ arc_value prepared.now) }
     ensures fresh { IfOk result (λ worker. IsFresh (arc_value prepared.now) (first_orders seed number) worker.machine) }
     ensures machine { IfOk result (λ worker. (other : AnyPass)
         → IsMachine table_meaning IsNotedIn worker.machine.machine other) }
@@ -191,7 +189,7 @@ pub(crate) fn worker<'a>(
     ensures number { IfOk result (λ worker. worker.number ≡ number) }
     ensures seed { IfOk result (λ worker. worker.seed ≡ seed) }
 {
-    let machine = Machine::on(alloc, prepared, notes, Orders::new(seed, number))?;
+    let machine = Machine::on(alloc, prepared, Orders::new(seed, number))?;
     Ok(Worker {
         machine,
         pass,
@@ -284,12 +282,13 @@ fn take_in<'a, G>(
     keep(left, machine)
 }
 
-/// One more machine is kept, and what it won.
-fn keep<'a>(left: &mut Leavings<'a>, machine: Machine<'a, Table>) -> Result<(), AllocError>
+/// One more machine is kept, and what it won. The memory of its notes is given back.
+fn keep<'a>(left: &mut Leavings<'a>, mut machine: Machine<'a, Table>) -> Result<(), AllocError>
     ensures pass { left.new.pass ≡ left.old.pass }
     ensures machines { IfOk result (λ _. left.new.machines.items ≡ left.old.machines.items ++ machine.entry ∷ []) }
     ensures wins { IfOk result (λ _. left.new.wins.items ≡ left.old.wins.items ++ wins_of machine.entry ∷ []) }
 {
+    machine.forget_notes();
     let wins = machine.wins();
     left.machines.push(machine)?;
     left.wins.push(wins)?;

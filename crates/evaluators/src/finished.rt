@@ -1,10 +1,11 @@
-ghost use Rattle.std.specs.Prelude.{◌≡◌, ◌-◌, ◌^◌, min, sum};
+ghost use Rattle.std.specs.Prelude.{◌≡◌, ◌-◌, ◌^◌, min, sum, IfOk};
 
 use adp_model::laws::demand::demanded_cells_are_unique;
 use adp_model::laws::existence::demanded_cells_are_listed;
-use adp_model::{Answer, Sequence, Text};
+use adp_model::{Answer, Problem, Sequence, Text};
 use cell_core::Machine;
 use memo_table::{Closed, Table};
+use std::alloc::{AllocError, Global};
 
 /// What is left when the evaluators of a problem have run: the closed table, the machines by their numbers, how many
 /// answers each of them put into the table, and the answer of the axiom's cell.
@@ -20,7 +21,7 @@ impl Finished<'_> {
     ghost use Rattle.std.specs.Prelude.{ℕ};
     ghost use Rattle.adp_model.specs.Demand.{IsDemandedCount};
     ghost use Rattle.adp_model.specs.PosedProblem.{PosedProblem};
-    ghost use Rattle.evaluators.specs.Runs.{IsFinished};
+    ghost use Rattle.evaluators.specs.Runs.{IsFinished, IsNoteOf};
 
     /// The number of demanded cells, each of which one machine put into the table. Takes no memory.
     pub fn demanded_cells(&self) -> u64
@@ -31,6 +32,38 @@ impl Finished<'_> {
         demanded_cells_are_listed();
         demanded_cells_are_unique();
         sum_of(&self.wins)
+    }
+
+    /// The note of this run, which was of the problem and under the seed.
+    ///
+    /// # Errors
+    ///
+    /// Where there is no memory for it.
+    pub fn note(
+        &self,
+        alloc: Global,
+        problem: &Problem<'_>,
+        seed: u64,
+    ) -> Result<RunNote, AllocError>
+        requires { IsFinished problem.now seed self.now }
+        ensures { IfOk result (IsNoteOf problem.now seed self.now) }
+    {
+        let mut moves = Vec::new(alloc);
+        let mut ended = Vec::new(alloc);
+        for machine in &self.machines {
+            moves.push(machine.moves())?;
+            ended.push(machine.ended())?;
+        }
+        Ok(RunNote {
+            word: word_of(alloc, problem)?,
+            algebra: problem.algebra,
+            seed,
+            answer: self.answer,
+            cells: self.demanded_cells(),
+            wins: Sequence::new(Vec::from_slice(alloc, &self.wins)?),
+            moves: Sequence::new(moves),
+            ended: Sequence::new(ended),
+        })
     }
 }
 
@@ -43,6 +76,13 @@ fn sum_of(numbers: &[u64]) -> u64
         sum = sum.saturating_add(*number);
     }
     sum
+}
+
+/// A copy of the word.
+fn word_of(alloc: Global, problem: &Problem<'_>) -> Result<Text, AllocError>
+    ensures { IfOk result (λ text. text ≡ problem.now.word) }
+{
+    Ok(Text::new(Vec::from_slice(alloc, problem.word.bytes())?))
 }
 
 /// What a run is remembered by: its word, the number of its algebra, the seed of its orders, the answer and the number

@@ -1,19 +1,17 @@
 //! Those who are told of a run: before each load of a record word, and when it has ended.
 
-ghost use Rattle.std.specs.Prelude.{◌≡◌, ◌++◌, [], ◌∷◌, List, None, Some, map, IfOk};
+ghost use Rattle.std.specs.Prelude.{◌≡◌, [], List};
 ghost use Rattle.evaluators.specs.declared.finished.RunNote.{RunNote as Note};
-ghost use Rattle.evaluators.specs.Runs.{IsFinished, IsNoteOf};
 
-use crate::finished::{Finished, RunNote};
-use adp_model::{Problem, Sequence, Text};
+use crate::finished::RunNote;
 use std::alloc::{AllocError, Global};
 use std::marker::Model;
 
 /// Who is asked before each load of a record word, and told of each run that has ended.
 pub trait Gate: Sync {
-    ghost use Rattle.std.specs.Prelude.{◌≡◌, List, Option, IsErr};
+    ghost use Rattle.std.specs.Prelude.{List, Option};
     ghost use Rattle.evaluators.specs.declared.finished.RunNote.{RunNote};
-    ghost use Rattle.evaluators.specs.Runs.{IsFinished, GrowsByNote};
+    ghost use Rattle.evaluators.specs.Runs.{GrowsByNote};
 
     /// The notes of the runs that it was told of, in order, where it tells them.
     ghost runs: { Self → Option (List RunNote) };
@@ -21,19 +19,13 @@ pub trait Gate: Sync {
     /// Called before a worker loads a record word. Nothing is promised but that it returns.
     fn pass(&self, worker: u32);
 
-    /// Told once the evaluators of a problem have run under this seed.
+    /// Told of a run once it has ended.
     ///
     /// # Errors
     ///
-    /// Where there is no memory for a note; its notes are then as before.
-    fn finished(
-        &mut self,
-        problem: &Problem<'_>,
-        seed: u64,
-        finished: &Finished<'_>,
-    ) -> Result<(), AllocError>
-        requires { IsFinished problem.now seed finished.now }
-        ensures noted { GrowsByNote problem.now seed finished.now result (runs self.old) (runs self.new) };
+    /// Where there is no memory for the note; its notes are then as before.
+    fn finished(&mut self, note: RunNote) -> Result<(), AllocError>
+        ensures noted { GrowsByNote note result (runs self.old) (runs self.new) };
 }
 
 /// A gate that is always open and keeps nothing.
@@ -47,12 +39,7 @@ impl Gate for OpenGate {
 
     fn pass(&self, _worker: u32) {}
 
-    fn finished(
-        &mut self,
-        _problem: &Problem<'_>,
-        _seed: u64,
-        _finished: &Finished<'_>,
-    ) -> Result<(), AllocError>
+    fn finished(&mut self, _note: RunNote) -> Result<(), AllocError>
         ensures { IsOk result }
     {
         Ok(())
@@ -62,7 +49,6 @@ impl Gate for OpenGate {
 /// A gate that is always open and keeps a note of each run. Contracts see the list of its notes.
 #[derive(Drop)]
 pub struct LogGate {
-    alloc: Global,
     notes: Vec<RunNote>,
 }
 
@@ -78,7 +64,6 @@ impl LogGate {
         ensures { result ≡ [] }
     {
         LogGate {
-            alloc,
             notes: Vec::new(alloc),
         }
     }
@@ -98,49 +83,8 @@ impl Gate for LogGate {
 
     fn pass(&self, _worker: u32) {}
 
-    fn finished(
-        &mut self,
-        problem: &Problem<'_>,
-        seed: u64,
-        finished: &Finished<'_>,
-    ) -> Result<(), AllocError> {
-        let note = note_of(self.alloc, problem, seed, finished)?;
+    fn finished(&mut self, note: RunNote) -> Result<(), AllocError> {
         self.notes.push(note)?;
         Ok(())
     }
-}
-
-/// The note of a run.
-fn note_of(
-    alloc: Global,
-    problem: &Problem<'_>,
-    seed: u64,
-    finished: &Finished<'_>,
-) -> Result<RunNote, AllocError>
-    requires { IsFinished problem.now seed finished.now }
-    ensures { IfOk result (IsNoteOf problem.now seed finished.now) }
-{
-    let mut moves = Vec::new(alloc);
-    let mut ended = Vec::new(alloc);
-    for machine in &finished.machines {
-        moves.push(machine.moves())?;
-        ended.push(machine.ended())?;
-    }
-    Ok(RunNote {
-        word: word_of(alloc, problem)?,
-        algebra: problem.algebra,
-        seed,
-        answer: finished.answer,
-        cells: finished.demanded_cells(),
-        wins: Sequence::new(Vec::from_slice(alloc, &finished.wins)?),
-        moves: Sequence::new(moves),
-        ended: Sequence::new(ended),
-    })
-}
-
-/// A copy of the word.
-fn word_of(alloc: Global, problem: &Problem<'_>) -> Result<Text, AllocError>
-    ensures { IfOk result (λ text. text ≡ problem.now.word) }
-{
-    Ok(Text::new(Vec::from_slice(alloc, problem.word.bytes())?))
 }

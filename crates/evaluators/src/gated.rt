@@ -39,6 +39,6 @@ impl<'a, 'g, G: Gate> Evaluator for GatedWorker<'g, TableWorker<'a>, G> {
         let way = Way { gate: self.gate };
         let number = self.worker.number;
         work(table, &way, &mut Unwatched, number, &mut self.worker);
-        let _ = self.worker.machine.take_notes();
+        self.worker.machine.forget_notes();
     }
 }

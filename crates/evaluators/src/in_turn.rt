@@ -1,57 +1,34 @@
 //! Workers that run one after the other, on the thread that calls.
 
-ghost use Rattle.std.specs.Prelude.{◌≡◌, ◌≤◌, ℕ, [], IfOk, IfSome, All, map};
+ghost use Rattle.std.specs.Prelude.{◌≡◌, ◌≤◌, [], IfOk, All, map};
 ghost use Rattle.std.specs.Arc.{arc_value};
-ghost use Rattle.adp_model.specs.PosedProblem.{PosedProblem};
 ghost use Rattle.adp_model.specs.ProblemFields.{IsAdmissible};
 ghost use Rattle.memo_words.specs.Passes.{IsPassOf, view_of, marks_of, problem_of, plan_of};
 ghost use Rattle.memo_words.specs.Views.{first_view};
-ghost use Rattle.evaluators.specs.Ends.{IsEnded, IsRunToEnd};
+ghost use Rattle.memo_model.specs.Machines.{IsMachine};
+ghost use Rattle.cell_core.specs.MachineViews.{IsFresh, IsNotedIn};
+ghost use Rattle.memo_table.specs.Meanings.{table_meaning};
+ghost use Rattle.memo_words.specs.declared.pass.Pass.{Pass as AnyPass};
+ghost use Rattle.evaluators.specs.Driving.{HasStepsOfFresh};
+ghost use Rattle.evaluators.specs.Ends.{IsRunToEnd};
 ghost use Rattle.evaluators.specs.Posts.{posts_of};
 ghost use Rattle.evaluators.specs.Turns.{HasServed};
-ghost use Rattle.evaluators.specs.Working.{IsReady, IsDone, post_of};
+ghost use Rattle.evaluators.specs.Working.{IsDone, first_orders, post_of};
 
-use crate::crew::{Leavings, finish, join_all, shared_by_all, worker};
+use crate::crew::{finish, join_all, shared_by_all};
 use crate::driving::Door;
 use crate::finished::Finished;
 use crate::gated::GatedWorker;
 use crate::watcher::Unwatched;
-use crate::worker::{TableWorker, work};
-use adp_model::Problem;
-use cell_core::{CellNotes, Prepared};
+use crate::worker::{TableWorker, Worker, work};
+use cell_core::{Machine, Prepared};
 use memo_table::{Pass, Table};
+use random_orders::Orders;
 use std::alloc::{AllocError, Global};
 use std::sync::Arc;
 
-/// What evaluators leave that have run, with their table, which is still to be closed. It may go to another thread, as a
-/// closed table may not.
-#[derive(Drop)]
-pub struct Ended<'a> {
-    pub(crate) table: Table,
-    pub(crate) problem: &'a Problem<'a>,
-    pub(crate) seed: u64,
-    pub(crate) left: Leavings<'a>,
-}
-
-impl<'a> Ended<'a> {
-    /// Closes the table, from which the answers are read then. Takes no memory.
-    pub fn close(self) -> Finished<'a>
-        requires { (workers : ℕ) × (seed : ℕ) × (p : PosedProblem) × IsEnded workers seed p self }
-        ensures { (workers seed : ℕ) (p : PosedProblem) → IsEnded workers seed p self.entry
-            → IsRunToEnd workers seed p result }
-    {
-        let Ended {
-            table,
-            problem,
-            seed,
-            left,
-        } = self;
-        finish(table, problem, seed, left)
-    }
-}
-
-/// Solves the prepared problem as `run_prepared` does, on one thread, but for closing the table: each of so many
-/// evaluators, 1 to 32, runs to its end before the next begins. The door is passed before each load of a record word.
+/// Solves the prepared problem as `run_prepared` does, on one thread: each of so many evaluators, 1 to 32, runs to its
+/// end before the next begins. The door is passed before each load of a record word.
 ///
 /// # Errors
 ///
@@ -62,9 +39,9 @@ pub fn run_in_turn<'a, D: Door>(
     workers: u32,
     seed: u64,
     door: &D,
-) -> Result<Ended<'a>, AllocError>
+) -> Result<Finished<'a>, AllocError>
     requires { (1 ≤ workers) × (workers ≤ 32) }
-    ensures { IfOk result (IsEnded workers seed prepared.entry) }
+    ensures { IfOk result (IsRunToEnd workers seed prepared.entry) }
 {
     let problem = prepared.problem();
     let (table, pass) = Table::new(alloc, problem, workers)?;
@@ -78,12 +55,7 @@ pub fn run_in_turn<'a, D: Door>(
     };
     let crew = turns.crew(pass, workers)?;
     let left = join_all(alloc, &table, seed, workers, crew)?;
-    Ok(Ended {
-        table,
-        problem,
-        seed,
-        left,
-    })
+    Ok(finish(table, problem, seed, left))
 }
 
 type Visitor<'a, 'd, D> = GatedWorker<'d, TableWorker<'a>, D>;
@@ -113,20 +85,18 @@ impl<'r, 'a, 'd, D: Door> Turns<'r, 'a, 'd, D> {
             ≡ posts_of (arc_value self.now.prepared.now) self.now.seed count) }
     {
         let mut crew = Vec::new(self.alloc);
-        let mut notes = None;
         for number in 0..count - 1 {
             let other = self.table.split(&mut pass);
-            self.serve(&mut crew, &mut notes, other, number)?;
+            self.serve(&mut crew, other, number)?;
         }
-        self.serve(&mut crew, &mut notes, pass, count - 1)?;
+        self.serve(&mut crew, pass, count - 1)?;
         Ok(crew)
     }
 
-    /// One more worker, which has run to its end. It began with these notes, if there were any, and leaves its own.
+    /// One more worker, which has run to its end.
     fn serve(
         &self,
         crew: &mut Vec<Visitor<'a, 'd, D>>,
-        notes: &mut Option<CellNotes<'a>>,
         pass: Pass,
         number: u32,
     ) -> Result<(), AllocError>
@@ -135,20 +105,18 @@ impl<'r, 'a, 'd, D: Door> Turns<'r, 'a, 'd, D> {
         requires own { IsPassOf self.now.table.now pass }
         requires no_wins { (view_of pass).wins ≡ 0 }
         requires unmarked { marks_of pass ≡ [] }
-        requires notes { IfSome notes.old (λ kept. kept.problem ≡ arc_value self.now.prepared.now) }
-        ensures notes { IfSome notes.new (λ kept. kept.problem ≡ arc_value self.now.prepared.now) }
-        ensures served { IfOk result (λ _. HasServed (λ gated. gated.worker) self.now.table.now
+        requires done { All (λ gated. IsDone self.now.table.now gated.worker) crew.old.items }
+        ensures { IfOk result (λ _. HasServed (λ gated. gated.worker) self.now.table.now
             (arc_value self.now.prepared.now) self.now.seed number pass crew.old.items crew.new.items) }
     {
-        let mut worker = worker(
-            self.alloc,
-            self.prepared,
-            notes.take(),
+        let machine = self.machine(crew, number)?;
+        let mut worker = Worker {
+            machine,
             pass,
             number,
-            self.seed,
-        )?;
-        *notes = self.run(&mut worker, number);
+            seed: self.seed,
+        };
+        work(self.table, self.door, &mut Unwatched, number, &mut worker);
         crew.push(GatedWorker {
             worker,
             gate: self.door,
@@ -156,14 +124,28 @@ impl<'r, 'a, 'd, D: Door> Turns<'r, 'a, 'd, D> {
         Ok(())
     }
 
-    /// Runs a worker to its end, and takes the notes that it leaves.
-    fn run(&self, worker: &mut TableWorker<'a>, number: u32) -> Option<CellNotes<'a>>
-        requires ready { IsReady self.now.table.now worker.old }
-        ensures done { IsDone self.now.table.now worker.new }
-        ensures post { post_of worker.new ≡ post_of worker.old }
-        ensures notes { IfSome result (λ kept. kept.problem ≡ problem_of self.now.table.now) }
+    /// A fresh machine, in the memory of the notes of the crew's last one, where there is one.
+    fn machine(
+        &self,
+        crew: &mut Vec<Visitor<'a, 'd, D>>,
+        number: u32,
+    ) -> Result<Machine<'a, Table>, AllocError>
+        requires same { problem_of self.now.table.now ≡ arc_value self.now.prepared.now }
+        requires done { All (λ gated. IsDone self.now.table.now gated.worker) crew.old.items }
+        ensures crew { crew.new.items ≡ crew.old.items }
+        ensures fresh { IfOk result
+            (IsFresh (arc_value self.now.prepared.now) (first_orders self.now.seed number)) }
+        ensures machine { IfOk result (λ machine. (pass : AnyPass)
+            → IsMachine table_meaning IsNotedIn machine.machine pass) }
+        ensures bound { IfOk result (λ machine. (pass : AnyPass)
+            → HasStepsOfFresh table_meaning machine.machine pass) }
     {
-        work(self.table, self.door, &mut Unwatched, number, worker);
-        worker.machine.take_notes()
+        let orders = Orders::new(self.seed, number);
+        if crew.is_empty() {
+            return Machine::on(self.alloc, self.prepared, orders);
+        }
+        let last = crew.len() - 1;
+        let before = &mut crew[last].worker.machine;
+        Machine::after(self.alloc, self.prepared, before, orders)
     }
 }

@@ -17,6 +17,6 @@ pub use driving::Door;
 pub use finished::{Finished, RunNote};
 pub use gate::{Gate, LogGate, OpenGate};
 pub use gated::Way;
-pub use in_turn::{Ended, run_in_turn};
+pub use in_turn::run_in_turn;
 pub use schedule::{run_schedule, watch_schedule};
 pub use watcher::{Unwatched, Watcher};

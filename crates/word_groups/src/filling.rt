@@ -2,61 +2,49 @@
 
 ghost use Rattle.std.specs.Prelude.{◌≡◌, ◌<◌, ◌≤◌, All, map};
 ghost use Rattle.std.specs.Thread.{IsSync};
-ghost use Rattle.word_groups.specs.Groups.{IsAllowed};
 
-use std::alloc::Global;
 use std::thread::{Threads, join_mut};
 
-/// How each problem of a group is solved: by so many evaluators, under this seed, in memory of this allocator.
-#[derive(Drop)]
-pub(crate) struct Order {
-    pub(crate) alloc: Global,
-    pub(crate) workers: u32,
-    pub(crate) seed: u64,
-}
-
-/// What can be filled in a thread of its own. The cutting is proved over this bound, which names no lifetime.
-pub(crate) trait Fill: Send {
+/// What can be filled in a thread of its own.
+pub trait Fill: Send {
     ghost use Rattle.std.specs.Prelude.{◌≡◌};
-    ghost use Rattle.adp_model.specs.PosedProblem.{PosedProblem};
-    ghost use Rattle.word_groups.specs.declared.filling.Order.{Order};
-    ghost use Rattle.word_groups.specs.Groups.{IsAllowed};
-
-    /// Of what is found in it nothing is said but by this.
-    ghost is_filled: { Order → Self → Type 0 };
 
     /// What of it stays as it is.
-    ghost asked: { Self → PosedProblem };
+    ghost Asked: { Type 0 };
 
-    fn fill(&mut self, order: &Order)
-        requires { IsAllowed order.now }
-        ensures filled { is_filled order.now self.new }
+    ghost asked: { Self → Asked };
+
+    /// What is asked of it before it is filled.
+    ghost is_ready: { Self → Type 0 };
+
+    /// What holds of it then.
+    ghost is_filled: { Self → Type 0 };
+
+    fn fill(&mut self)
+        requires { is_ready self.old }
+        ensures filled { is_filled self.new }
         ensures asked { asked self.new ≡ asked self.old };
 }
 
-/// These, all of them filled, in so many threads.
-pub(crate) fn filled<S: Fill, R: Threads + Sync>(
-    rt: &R,
-    order: &Order,
-    threads: usize,
-    mut slots: Vec<S>,
-) -> Vec<S>
-    requires { IsAllowed order.now }
-    ensures filled { All (S.is_filled order.now) result.items }
+/// These, all of them filled, in so many threads, each of which has as many to fill as the others, or one less. A thread
+/// fills its own one after the other, and waits for another but to join it.
+pub fn filled<S: Fill, R: Threads + Sync>(rt: &R, threads: usize, mut slots: Vec<S>) -> Vec<S>
+    requires { All S.is_ready slots.items }
+    ensures filled { All S.is_filled result.items }
     ensures asked { map S.asked result.items ≡ map S.asked slots.items }
 {
-    fill_all(rt, order, threads, slots.as_mut_slice());
+    fill_all(rt, threads, slots.as_mut_slice());
     slots
 }
 
-/// Fills all, in so many threads, each of which has as many to fill as the others, or one less.
-fn fill_all<S: Fill, R: Threads + Sync>(rt: &R, order: &Order, threads: usize, slots: &mut [S])
-    requires { IsAllowed order.now }
-    ensures filled { All (S.is_filled order.now) slots.new }
+/// Fills all, in so many threads.
+fn fill_all<S: Fill, R: Threads + Sync>(rt: &R, threads: usize, slots: &mut [S])
+    requires { All S.is_ready slots.old }
+    ensures filled { All S.is_filled slots.new }
     ensures asked { map S.asked slots.new ≡ map S.asked slots.old }
 {
     if threads < 2 {
-        fill_each(order, slots);
+        fill_each(slots);
         return;
     }
     let low = threads / 2;
@@ -67,16 +55,16 @@ fn fill_all<S: Fill, R: Threads + Sync>(rt: &R, order: &Order, threads: usize, s
         rt,
         &mut ||
             requires sync { IsSync R.row }
-            requires allowed { IsAllowed order.now }
-            ensures filled { All (S.is_filled order.entry.now) front.exit.now }
+            requires ready { All S.is_ready front.now }
+            ensures filled { All S.is_filled front.exit.now }
             ensures asked { map S.asked front.exit.now ≡ map S.asked front.entry.now }
-        { fill_all(rt, order, low, front) },
+        { fill_all(rt, low, front) },
         &mut ||
             requires sync { IsSync R.row }
-            requires allowed { IsAllowed order.now }
-            ensures filled { All (S.is_filled order.entry.now) back.exit.now }
+            requires ready { All S.is_ready back.now }
+            ensures filled { All S.is_filled back.exit.now }
             ensures asked { map S.asked back.exit.now ≡ map S.asked back.entry.now }
-        { fill_all(rt, order, high, back) },
+        { fill_all(rt, high, back) },
     );
 }
 
@@ -91,12 +79,12 @@ fn share(slots: usize, threads: usize, low: usize) -> usize
 }
 
 /// Fills all, one after the other.
-fn fill_each<S: Fill>(order: &Order, slots: &mut [S])
-    requires { IsAllowed order.now }
-    ensures filled { All (S.is_filled order.now) slots.new }
+fn fill_each<S: Fill>(slots: &mut [S])
+    requires { All S.is_ready slots.old }
+    ensures filled { All S.is_filled slots.new }
     ensures asked { map S.asked slots.new ≡ map S.asked slots.old }
 {
     for place in 0..slots.len() {
-        slots[place].fill(order);
+        slots[place].fill();
     }
 }

@@ -1,8 +1,6 @@
-//! Groups of words that are solved side by side: each word by one thread, from its table to its answer.
+//! Slots for the words of a group, which threads fill side by side.
 #![tactic(auto)]
 
 mod filling;
-mod group;
-mod slot;
 
-pub use group::run_group;
+pub use filling::{Fill, filled};

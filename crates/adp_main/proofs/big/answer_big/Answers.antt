@@ -4,7 +4,7 @@ use Rattle.adp_model.specs.declared.grammar.Grammar.{Grammar}
 use Rattle.adp_model.specs.ProblemFields.{KeepsLimits}
 use Rattle.adp_model.specs.BigReport.{made_word}
 use Rattle.verdicts.specs.Command.{Command}
-use Rattle.adp_main.proofs.MadeWords.{big_word, made_length, no_write_failed, problem_is}
+use Rattle.adp_main.proofs.MadeWords.{made_length, problem_is}
 use Rattle.adp_main.proofs.Running.{not_written}
 use Rattle.adp_main.proofs.big.answer_big.Goals as goal
 
@@ -23,21 +23,6 @@ returns-in_err-rows-clause-ending g c =
     let p = err_from_is_err_and c.from_residual-in_err-rows.result c.from_residual-in_err-rows.ensures.1 in
     rw (p.1, p.2) (not_written _ _)
 
-pub returns-in_err-finished-clause-ending : goal.returns-in_err-finished-clause-ending
-returns-in_err-finished-clause-ending g c =
-    let p = err_from_is_err_and c.from_residual-in_err-finished.result c.from_residual-in_err-finished.ensures.1 in
-    rw (p.1, p.2) (not_written _ _)
-
-pub returns-in_err-report-clause-ending : goal.returns-in_err-report-clause-ending
-returns-in_err-report-clause-ending g c =
-    let p = err_from_is_err_and c.from_residual-in_err-report.result c.from_residual-in_err-report.ensures.1 in
-    rw (p.1, p.2) (not_written _ _)
-
-pub returns-in_err-report-clause-faults : goal.returns-in_err-report-clause-faults
-returns-in_err-report-clause-faults g c =
-    let p = err_from_is_err_and c.from_residual-in_err-report.result c.from_residual-in_err-report.ensures.1 in
-    rw (p.1, p.2) (no_write_failed _)
-
 pub admitted-problem-requires-clause-known : goal.admitted-problem-requires-clause-known
 admitted-problem-requires-clause-known g c =
     let size : length c.in_ok-word.word ≡ c.command.inside.size =
@@ -53,19 +38,10 @@ admitted-problem-requires-clause-limits g c =
     (λ i. (sym c.in_ok-checked.ensures.grammar i, sym c.in_ok-checked.ensures.algebra i, sym size i))
     (c.made_words_keep_the_limits.ensures c.args.command.now.size c.in_range.ensures.size)
 
-pub made_report-requires-clause-made : goal.made_report-requires-clause-made
-made_report-requires-clause-made g c =
+pub report_made-requires-clause-made : goal.report_made-requires-clause-made
+report_made-requires-clause-made g c =
+    λ lifetimes inside.
     problem_is c.admitted-problem.result c.in_ok-checked.checked.grammar c.in_ok-checked.checked.algebra
     c.args.command.now.seed c.args.command.now.size c.in_ok-word.word c.admitted-problem.ensures
     c.in_ok-checked.ensures.grammar c.in_ok-checked.ensures.algebra
     (c.in_ok-word.ensures ∙ ap (λ (it : Command). made_word it.seed it.size) c.command.view_is)
-
-pub returns-clause-ending : goal.returns-clause-ending
-returns-clause-ending g c =
-    let made = problem_is c.admitted-problem.result c.in_ok-checked.checked.grammar c.in_ok-checked.checked.algebra
-    c.args.command.now.seed c.args.command.now.size c.in_ok-word.word c.admitted-problem.ensures
-    c.in_ok-checked.ensures.grammar c.in_ok-checked.ensures.algebra
-    (c.in_ok-word.ensures ∙ ap (λ (it : Command). made_word it.seed it.size) c.command.view_is) in
-    big_word c.args.command.now c.admitted-problem.result c.in_ok-finished.finished c.in_ok-report.report.items
-    c.deref.result.now made c.in_ok-report.ensures c.deref.ensures.value c.write_run.result _ _ _ _
-    c.write_run.ensures.ending

@@ -6,7 +6,7 @@ use Rattle.adp_model.specs.PosedProblem.{PosedProblem}
 use Rattle.adp_model.specs.Cells.{IsCellBound}
 use Rattle.verdicts.specs.Posed.{posed_word, posed_words}
 use Rattle.adp_main.specs.Groups.{HaveCells, IsSolvedFor}
-use Rattle.adp_main.proofs.FirstLimit.{posed_at}
+use Rattle.adp_main.proofs.FirstLimit.{own_limits, posed_at}
 use Rattle.adp_main.proofs.FirstWords.{cells_more, zip_more}
 use Rattle.adp_main.proofs.groups.next_group.Goals as goal
 
@@ -67,6 +67,12 @@ loop-at-preserved c =
             ∙ first.2,
       );
     }
+
+pub nodes_of-requires-clause-limits : goal.nodes_of-requires-clause-limits
+nodes_of-requires-clause-limits c =
+    own_limits c.args.command.now.second
+    (posed_word c.args.job.now.checked.grammar c.args.job.now.checked.algebra c.index-words-at.result)
+    c.is_admitted.ensures.admissible
 
 pub returns-then-not-has_its_length-clause-first : goal.returns-then-not-has_its_length-clause-first
 returns-then-not-has_its_length-clause-first c =

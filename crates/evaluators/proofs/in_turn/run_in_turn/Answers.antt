@@ -1,7 +1,8 @@
-use Rattle.std.proofs.Common.{◌≡◌, true, All, refl, sym, ap, ◌∙◌, subst}
+use Rattle.std.proofs.Common.{◌≡◌, true, All, sym, ap, ◌∙◌, subst}
+use Rattle.adp_model.specs.PosedProblem.{PosedProblem}
 use Rattle.evaluators.specs.Posts.{posts_of}
 use Rattle.evaluators.specs.Joined.{IsJoined}
-use Rattle.evaluators.specs.Runs.{ended_of}
+use Rattle.evaluators.specs.Runs.{IsFinished, ended_of}
 use Rattle.evaluators.specs.Working.{TableWorker}
 use Rattle.evaluators.specs.declared.gated.GatedWorker.{GatedWorker}
 use Rattle.evaluators.proofs.Finishing.{all_ended, first_of_ended}
@@ -19,18 +20,18 @@ join_all-requires-clause-first g c =
     first_of_ended (λ (gated : GatedWorker TableWorker _). gated.worker) c.in_ok-table.table crew.items _ c.args.seed
     c.args.workers (c.in_ok-crew.ensures {u = tt}).done (c.in_ok-crew.ensures {u = tt}).posts c.requires.0
 
+pub finish-requires-clause-joined : goal.finish-requires-clause-joined
+finish-requires-clause-joined g c =
+    subst (λ count. IsJoined c.in_ok-table.table c.args.seed count c.in_ok-left.left)
+    (sym (c.in_ok-table.ensures {u = tt}).seats) (c.in_ok-left.ensures {u = tt}).joined
+
 pub returns : goal.returns
-returns g c =
-    let crew = c.in_ok-crew.crew in
-    let seats = (c.in_ok-table.ensures {u = tt}).seats in
-    record {
-      problem = c.problem-problem.ensures;
-      seed_is = refl;
-      same = (c.in_ok-table.ensures {u = tt}).problem;
-      joined = subst (λ count. IsJoined c.in_ok-table.table c.args.seed count c.in_ok-left.left) (sym seats)
-          (c.in_ok-left.ensures {u = tt}).joined;
-      seats = seats;
-      have_ended = subst (All (λ machine. ended_of machine ≡ true)) (sym (c.in_ok-left.ensures {u = tt}).kept)
-          (all_ended (λ (gated : GatedWorker TableWorker _). gated.worker) c.in_ok-table.table crew.items
-          (c.in_ok-crew.ensures {u = tt}).done);
-    }
+returns g c = record {
+  is_finished = subst (λ (p : PosedProblem). IsFinished p c.args.seed c.finish.result) c.problem-problem.ensures
+      c.finish.ensures.finished;
+  machines = c.finish.ensures.machines ∙ (c.in_ok-table.ensures {u = tt}).seats;
+  have_ended = subst (All (λ machine. ended_of machine ≡ true))
+      (sym (c.finish.ensures.kept ∙ (c.in_ok-left.ensures {u = tt}).kept))
+      (all_ended (λ (gated : GatedWorker TableWorker _). gated.worker) c.in_ok-table.table c.in_ok-crew.crew.items
+      (c.in_ok-crew.ensures {u = tt}).done);
+}

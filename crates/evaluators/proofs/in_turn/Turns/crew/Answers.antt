@@ -12,7 +12,7 @@ pub loop-number-preserved : goal.loop-number-preserved
 loop-number-preserved g c =
     let inv = c.loop-number.invariant in
     let split = c.split-other.ensures in
-    let made = c.in_ok-serve.ensures.served in
+    let made = c.in_ok-serve.ensures {u = tt} in
     let p = arc_value c.args.self.now.prepared.now in
     let seed = c.args.self.now.seed in
     let number = c.loop-number.number in
@@ -31,7 +31,6 @@ loop-number-preserved g c =
       spare = let few = inv.spare in let more = c.loop-number-test.true in omega (arith, left, few, more);
       wins = ap (λ (v : View). v.wins) split.old_view ∙ inv.wins;
       unmarked = split.old_marks ∙ inv.unmarked;
-      notes = c.in_ok-serve.ensures.notes;
       done = all_pushed (λ (gated : GatedWorker TableWorker _). IsDone c.args.self.now.table.now gated.worker)
           c.loop-number.crew.items c.serve.new.crew.items _ made.grown inv.done made.done;
       posts = posts_pushed (λ (gated : GatedWorker TableWorker _). post_of gated.worker) p seed number
@@ -40,14 +39,14 @@ loop-number-preserved g c =
 
 pub returns-clause-done : goal.returns-clause-done
 returns-clause-done g c =
-    let made = c.in_ok-serve-2.ensures.served in
+    let made = c.in_ok-serve-2.ensures {u = tt} in
     all_pushed (λ (gated : GatedWorker TableWorker _). IsDone c.args.self.now.table.now gated.worker)
     c.loop-number.crew.items c.serve-2.new.crew.items _ made.grown c.loop-number.invariant.done made.done
 
 pub returns-clause-posts : goal.returns-clause-posts
 returns-clause-posts g c =
     let inv = c.loop-number.invariant in
-    let made = c.in_ok-serve-2.ensures.served in
+    let made = c.in_ok-serve-2.ensures {u = tt} in
     let p = arc_value c.args.self.now.prepared.now in
     let seed = c.args.self.now.seed in
     let few = inv.spare in

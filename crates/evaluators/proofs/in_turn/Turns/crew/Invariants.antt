@@ -1,6 +1,5 @@
 use Rattle.std.proofs.Common.{◌≡◌, ◌+◌, [], All, map}
 use Rattle.std.specs.Arc.{arc_value}
-use Rattle.std.specs.Prelude.{IfSome}
 use Rattle.memo_words.specs.Passes.{IsPassOf, view_of, marks_of}
 use Rattle.evaluators.specs.Posts.{posts_of}
 use Rattle.evaluators.specs.Working.{IsDone, post_of}
@@ -13,7 +12,6 @@ invariant-loop-number g l = record {
   spare : (view_of l.pass).spare + l.number + 1 ≡ l.count;
   wins : (view_of l.pass).wins ≡ 0;
   unmarked : marks_of l.pass ≡ [];
-  notes : IfSome l.notes (λ kept. kept.problem ≡ arc_value l.self.prepared.now);
   done : All (λ gated. IsDone l.self.table.now gated.worker) l.crew.items;
   posts : map (λ gated. post_of gated.worker) l.crew.items ≡ posts_of (arc_value l.self.prepared.now) l.self.seed l.number;
 }

@@ -1,0 +1,24 @@
+use Rattle.std.proofs.Common.{ℕ, ap, sym, subst}
+use Rattle.std.specs.Option.{option_copied}
+use Rattle.adp_model.specs.PosedProblem.{PosedProblem}
+use Rattle.evaluators.specs.Runs.{IsNoteOf}
+use Rattle.verdicts.specs.Command.{Command}
+use Rattle.adp_main.specs.Groups.{IsSolvedFor}
+use Rattle.adp_main.specs.Writing.{IsRunFor}
+use Rattle.adp_main.proofs.slot.Slot.tell.Goals as goal
+
+pub returns : goal.returns
+returns g c =
+    let command = c.args.self.now.command.now in
+    let made = option_copied c.args.self.now.made in
+    let finished = c.in_ok-finished.finished in
+    let note = c.in_ok-note.note in
+    let seeded = subst (λ (seed : ℕ). IsNoteOf c.problem-problem.result.now seed finished note)
+    (ap (λ (it : Command). it.seed) c.command.view_is) c.in_ok-note.ensures in
+    record {
+      finished = finished;
+      run = subst (λ (p : PosedProblem). IsRunFor command p finished) c.in_ok-prepared.ensures c.in_ok-finished.ensures;
+      note = subst (λ (p : PosedProblem). IsNoteOf p command.seed finished note) c.problem-problem.ensures seeded;
+      report = λ asked solved. c.in_ok-report.ensures asked
+          (subst (λ (p : PosedProblem). IsSolvedFor command made asked p) (sym c.problem-problem.ensures) solved);
+    }

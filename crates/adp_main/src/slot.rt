@@ -1,0 +1,122 @@
+//! A word of a group, which is solved and told on one thread.
+ghost use Rattle.std.specs.Prelude.{◌≡◌, ℕ, IfOk, IfSome, None};
+ghost use Rattle.std.specs.Option.{option_copied};
+ghost use Rattle.adp_model.specs.PosedProblem.{PosedProblem};
+ghost use Rattle.verdicts.specs.declared.command.Mode.TheVariants.{Lex};
+ghost use Rattle.verdicts.specs.Verdict.{IsReportWith};
+ghost use Rattle.adp_main.specs.Groups.{IsGrouped, IsPosted, IsSolvedFor, IsTold, post_of};
+ghost use Rattle.adp_main.specs.Writing.{IsRunFor};
+
+use crate::cert::block_report;
+use crate::evaluating::{plain_report, run_alone};
+use crate::lex::{Compiled, report_of_both};
+use adp_model::Problem;
+use evaluators::{Door, Finished, Gate, RunNote, Way};
+use split_lines::Sharing;
+use std::alloc::{AllocError, Global};
+use verdicts::Command;
+use word_groups::Fill;
+
+/// What is told of a word that evaluators solved: its report, and the note of their run.
+#[derive(Drop)]
+pub(crate) struct Told {
+    pub(crate) report: Vec<u8>,
+    pub(crate) note: RunNote,
+}
+
+/// A word of a group, with what its problem shares with the others, and what is told of it: nothing before its evaluators
+/// ran, and where there was no memory.
+#[derive(Drop)]
+pub(crate) struct Slot<'a, 'g, G> {
+    pub(crate) alloc: Global,
+    pub(crate) command: &'a Command<'a>,
+    pub(crate) made: Option<&'a Compiled>,
+    pub(crate) number: u32,
+    pub(crate) sharing: Sharing<'a>,
+    pub(crate) gate: &'g G,
+    pub(crate) told: Option<Told>,
+}
+
+impl<'a, 'g, G: Gate> Fill for Slot<'a, 'g, G> {
+    ghost use Rattle.std.specs.Prelude.{IfSome};
+    ghost use Rattle.adp_main.specs.Groups.{Post, IsPosted, IsTold, post_of};
+
+    ghost Asked = { Post };
+
+    ghost asked = { post_of };
+
+    ghost is_ready = { λ slot. IsPosted (post_of slot) };
+
+    ghost is_filled = { λ slot. IfSome slot.told (IsTold (post_of slot)) };
+
+    fn fill(&mut self) {
+        let way = Way { gate: self.gate };
+        self.told = self.tell(&way).ok();
+    }
+}
+
+impl<'a, 'g, G> Slot<'a, 'g, G> {
+    /// What is told of the word, whose evaluators run here, one after the other. Nothing else is left of them.
+    fn tell<D: Door>(&self, door: &D) -> Result<Told, AllocError>
+        requires { IsPosted (post_of self.now) }
+        ensures { IfOk result (IsTold (post_of self.now)) }
+    {
+        let command = self.command;
+        let problem = self.sharing.problem();
+        let prepared = self.sharing.prepared(self.alloc)?;
+        let finished = run_alone(self.alloc, command, prepared, door)?;
+        let report = report_of(
+            self.alloc,
+            command,
+            self.number,
+            self.made,
+            problem,
+            &finished,
+        )?;
+        let note = finished.note(self.alloc, problem, command.seed)?;
+        Ok(Told { report, note })
+    }
+}
+
+/// The report of a word that evaluators solved.
+fn report_of<'a>(
+    alloc: Global,
+    command: &Command<'_>,
+    number: u32,
+    made: Option<&Compiled>,
+    problem: &'a Problem<'a>,
+    finished: &Finished<'a>,
+) -> Result<Vec<u8>, AllocError>
+    requires mode { IsGrouped command.now.mode }
+    requires asked { (asked : PosedProblem) × IsSolvedFor command.now (option_copied made) asked problem.now }
+    requires run { IsRunFor command.now problem.now finished.now }
+    ensures { IfOk result (λ report. (asked : PosedProblem)
+        → IsSolvedFor command.now (option_copied made.entry) asked problem.now
+        → IsReportWith command.now.mode command.now None number asked finished.now.wins.items report.items) }
+{
+    match made {
+        Some(made) => report_of_both(alloc, number, made, problem, finished),
+        None => own_report(alloc, command, number, problem, finished),
+    }
+}
+
+/// The report of a word that evaluators solved under its own algebra.
+fn own_report<'a>(
+    alloc: Global,
+    command: &Command<'_>,
+    number: u32,
+    problem: &'a Problem<'a>,
+    finished: &Finished<'a>,
+) -> Result<Vec<u8>, AllocError>
+    requires mode { IsGrouped command.now.mode }
+    requires single { command.now.mode ≡ Lex → ⊥ }
+    requires run { IsRunFor command.now problem.now finished.now }
+    ensures { IfOk result (λ report. IsReportWith command.now.mode command.now None number problem.now
+        finished.now.wins.items report.items) }
+{
+    if command.certifies() {
+        block_report(alloc, number, problem, finished)
+    } else {
+        plain_report(alloc, number, problem, finished)
+    }
+}

@@ -1,9 +1,0 @@
-use Rattle.std.proofs.Common.{◌≡◌, map, take}
-use Rattle.evaluators.specs.Runs.{moves_of, ended_of}
-use Rattle.evaluators.proofs.gate.note_of.Given as goal
-
-abbrev pub invariant-loop-machine : goal.invariant-loop-machine
-invariant-loop-machine l = record {
-  moves : l.moves.items ≡ map moves_of (take l.machine-index l.machine-items);
-  ended : l.ended.items ≡ map ended_of (take l.machine-index l.machine-items);
-}
