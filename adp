@@ -49,8 +49,11 @@ did not end with 0; after a faulty command or a failed output no further file is
 
 of the launcher
   --words FILE       more words, a line each, behind those of each job; `-` is standard input; not of verify
+  --only-words FILE  the same, but in the place of those of each job
+  --certificates DIR puts a certificate for each word into this folder, as 00001.cert; of cert, and of one job
   --time-limit S     ends each run after S seconds, with status 124 and a line that says at which word it was
   --explain          tells behind a fault's line, and of words without a tree, what is wrong, where, and what to do
+  --quiet            no line on standard error where no word has a tree, or a certificate is too long for verify
   --version, -V      what stands here: version, formats, the number of its sources, and the toolchain that built it
   --help, -h         this text
 
@@ -254,27 +257,27 @@ build() {
   case $why in *since\ prebuilt/adp*) before="; as it was before that, $top/prebuilt/adp can be run by itself" ;; esac
   command -v rt >/dev/null ||
     fail "$why, so the program has to be built, and 'rt' of the Rattle toolchain is not on the PATH$before"
-  need grep mktemp rm tail wc
+  need grep tail wc
   say "$why"
   say "so the program is proved and built now, once: this takes 20 to 40 minutes$before"
-  log=$(mktemp) || return 1
+  make_file || return 1
+  log=$made
   # The build ends by a run of the program; what that run prints is of no use here. It has a process group of its own,
   # so that all of it can be ended.
   set -m
   (cd -- "$top/crates/adp" && exec rt run -- usage) >"$log" 2>&1 </dev/null &
   job=$!
   set +m
-  trap 'kill -- -"$job" 2>/dev/null; rm -f "$log"; echo >&2; exit 1' INT TERM HUP
+  trap 'kill -- -"$job" 2>/dev/null; echo >&2; exit 1' INT TERM HUP
   watch "$log" "$job"
   wait "$job"
   trap - INT TERM HUP
   if [ -x "$built" ] && grep -q '^rt: running out/adp' "$log"; then
     printf '%s\nbuilt here\nchecksum %s\n' "$sum" "$(checksum "$built")" >"${built%/*}/sources"
-    rm -f "$log"
+    close_copies
     return 0
   fi
   tail -n 20 "$log" >&2
-  rm -f "$log"
   return 1
 }
 
@@ -318,30 +321,44 @@ find_program() {
 # goes to the program, which refuses it.
 takes() {
   case $1 in
-    --words)
+    --words | --only-words)
       case $mode in big | verify) return 1 ;; esac
-      [ -z "$words_file" ] && { [ "$2" = - ] || [ -e "$2" ]; }
+      [ -z "$words_file" ] && { [ "$2" = - ] || [ -e "$2" ]; } && ! is_job "$2"
       ;;
+    --certificates) [ "$mode" = cert ] && [ -z "$folder" ] && [ -n "$2" ] ;;
     --time-limit) [ -z "$time_limit" ] && [[ $2 =~ ^[0-9]{1,9}(\.[0-9]{1,6})?$ ]] && [[ $2 == *[1-9]* ]] ;;
     *) false ;;
   esac
 }
 
-# Sorts the arguments: `words` are those of the program, `files` the jobs. Each option but --explain has a value.
+# Whether a file begins as a job does. (What is no file can be read only once.)
+is_job() {
+  local line=''
+  [ ! -f "$1" ] || { IFS= read -r line <"$1"; } 2>/dev/null
+  [[ ${line%$'\r'} =~ ^adp\ [0-9]+$ ]]
+}
+
+# Sorts the arguments: `words` are those of the program, `files` the jobs. Each option but --explain and --quiet has a
+# value.
 sort_arguments() {
   local word option=''
   for word; do
     if [ -n "$option" ]; then
       if ! takes "$option" "$word"; then
         words+=("$option" "$word")
-      elif [ "$option" = --words ]; then
-        words_file=$word
       else
-        time_limit=$word
+        case $option in
+          --words) words_file=$word ;;
+          --only-words) words_file=$word replaces=1 ;;
+          --certificates) folder=$word ;;
+          --time-limit) time_limit=$word ;;
+        esac
       fi
       option=
     elif [ "$word" = --explain ]; then
       explains=1
+    elif [ "$word" = --quiet ]; then
+      is_quiet=1
     elif [ "${word#--}" != "$word" ] && [ -n "$mode" ]; then
       option=$word
     elif [ -z "$mode" ]; then
@@ -354,8 +371,9 @@ sort_arguments() {
   done
   [ -z "$option" ] || words+=("$option")
   if [ ${#files[@]} = 0 ]; then files=(-); fi
-  # (one text is no job and its words)
+  # (one text is no job and its words, and a folder has the certificates of one job)
   if [ "$words_file" = - ] && is_among - "${files[@]}"; then words+=(--words -); fi
+  if [ -n "$folder" ] && [ ${#files[@]} != 1 ]; then words+=(--certificates "$folder"); fi
 }
 
 is_among() {
@@ -375,20 +393,21 @@ takes_input() {
 
 # ---- Input: `input` is what the run reads, `job` a file with the same bytes, where there is one
 
-# A file that is gone behind the run: sets `made`.
+# A file without a name, which is gone when nothing has it open, however the launcher ends: sets `made`.
 make_file() {
-  made=$(mktemp 2>/dev/null) || return
-  copies+=("$made")
+  local name file
+  name=$(mktemp 2>/dev/null) || return
+  { exec {file}<>"$name"; } 2>/dev/null || return
+  rm -f -- "$name"
+  made=/proc/self/fd/$file
+  copies+=("$file")
 }
 
-remove_copies() {
-  if [ ${#copies[@]} != 0 ]; then rm -f -- "${copies[@]}"; fi
+# Lets go of the files of a run.
+close_copies() {
+  local file
+  for file in ${copies[@]+"${copies[@]}"}; do exec {file}>&-; done
   copies=()
-}
-
-remove_all() {
-  [ -z "$words_copy" ] || copies+=("$words_copy")
-  remove_copies
 }
 
 # Why this cannot be read, in words; nothing where it can.
@@ -429,7 +448,7 @@ open_job() {
   fi
   if [ -n "$words_file" ] && [ -z "$cause" ]; then
     put_words
-  elif [ -n "$explains" ] && [ -z "$job$cause" ] && [ "$mode" != big ]; then
+  elif [ -n "$explains$folder" ] && [ -z "$job$cause" ] && [ "$mode" != big ]; then
     keep_input
   fi
 }
@@ -438,6 +457,17 @@ open_job() {
 reopen() {
   [ "$input" = 0 ] || exec {input}<&-
   exec {input}<"$1"
+}
+
+# The folder of certificates, which is made, or empty.
+make_folder() {
+  local why=''
+  if ! mkdir -p -- "$folder" 2>/dev/null; then
+    why="cannot be made"
+  elif [ -n "$(find "$folder/" -mindepth 1 -print -quit)" ]; then
+    why="is not empty"
+  fi
+  [ -z "$why" ] || { say "\`$folder\` $why"; exit 4; }
 }
 
 # Puts what comes from here into a file, up to one byte more than a job may have. Fails where it cannot be read. (While
@@ -455,6 +485,7 @@ keep() {
 
 keep_input() {
   if ! make_file; then
+    [ -z "$folder" ] || fail "no file can be made in ${TMPDIR:-/tmp}"
     say "no file can be made in ${TMPDIR:-/tmp}, so lines of the job are not shown"
   elif keep "$input" "$made"; then
     job=$made
@@ -464,10 +495,11 @@ keep_input() {
   fi
 }
 
-# Puts the words of --words behind the job, in a file: `front` is the number of lines before them. A job without the
-# line `words` gets none, and is refused for that alone.
+# Puts the words of --words behind the job, in a file, or those of --only-words in the place of its own: `front` is the
+# number of lines before them. A job without the line `words` gets none, and is refused for that alone.
 put_words() {
-  need awk head mktemp tail wc
+  local last
+  need awk head tail wc
   if [ "$words_file" != - ]; then
     cause=$(why_not_read "$words_file")
     if [ -n "$cause" ]; then cause="\`$words_file\` $cause"; reopen /; return; fi
@@ -480,13 +512,24 @@ put_words() {
   make_file || fail "no file can be made in ${TMPDIR:-/tmp}"
   job=$made
   keep "$input" "$job" || { cause=$(why_not_input); reopen /; return; }
-  if awk 'NR > 1 && /^ *words *\r?$/ { is_there = 1; exit } END { exit !is_there }' "$job"; then
+  last=$(words_line)
+  if [ -n "$last" ]; then
+    if [ -n "$replaces" ]; then
+      make_file || fail "no file can be made in ${TMPDIR:-/tmp}"
+      head -n "$last" "$job" >"$made"
+      job=$made
+    fi
     # (the last line may have no end)
     if [ "$(tail -c 1 "$job" | wc -l)" = 0 ]; then echo >>"$job"; fi
     front=$(wc -l <"$job")
     head -c $((most_bytes + 1)) -- "${words_copy:-$words_file}" >>"$job"
   fi
   reopen "$job"
+}
+
+# The number of the line behind which the words of the job stand.
+words_line() {
+  awk 'NR > 1 && /^ *words *\r?$/ { print NR; exit }' "$job"
 }
 
 # How many words the job has; nothing where that is not known.
@@ -501,8 +544,7 @@ end_by() {
   trap '' INT TERM HUP
   [ -z "$child" ] || kill "$child" 2>/dev/null
   wipe
-  remove_all
-  trap - EXIT "$1"
+  trap - "$1"
   kill -s "$1" $$
 }
 
@@ -578,19 +620,72 @@ follow() {
   wipe
 }
 
-# Lets what the program writes pass on to file 9; the lines that tell how far it is go to the file `counts`, too.
+# Lets what the program writes pass on to file 9, and to a command that looks at it; a certificate for each word goes to
+# its folder instead.
 relay() {
   local ended
-  tee /dev/fd/8 8>&1 >&9 9>&- 2>/dev/null |
-    grep --line-buffered -aE '^(word [0-9]+( cells [0-9]+)?|none|listed 0)$' >"$counts" 9>&-
+  if [ -n "$folder" ]; then
+    part_certificates
+    return
+  fi
+  tee /dev/fd/8 8>&1 >&9 9>&- 2>/dev/null | look 9>&-
   ended=${PIPESTATUS[0]}
   return "$ended"
 }
 
+# Writes to the file `counts` the lines that tell how far a run is, where that is followed; at the end how many bytes a
+# certificate has, or that there are words and none has a tree.
+look() {
+  if [ "$mode" = cert ]; then
+    awk -v follows="$follows" '
+      follows && /^word [0-9]+ cells [0-9]+$/ { print; fflush() }
+      { bytes += length($0) + 1 }
+      END { print "bytes", bytes + 0 }' >"$counts"
+  elif [ -n "$follows" ]; then
+    grep --line-buffered -aE '^(word [0-9]+( cells [0-9]+)?|none|listed 0)$' >"$counts"
+  else
+    awk '/^score / { is_there = 1 } END { if (NR && !is_there) print "none" }' >"$counts"
+  fi
+}
+
+# Writes each block of a certificate with its word, and the job up to its words, into a file of the folder.
+part_certificates() {
+  ADP_FOLDER=$folder ADP_JOB=$job awk '
+    BEGIN {
+      folder = ENVIRON["ADP_FOLDER"]
+      job = ENVIRON["ADP_JOB"]
+      while ((getline line < job) > 0) {
+        header = header line "\n"
+        if (++lines > 1 && line ~ /^ *words *\r?$/) break
+      }
+    }
+    is_job || NR == 1 { next }
+    $0 == "job" { end_block(); is_job = 1; next }
+    /^word [0-9]+ cells [0-9]+$/ {
+      print
+      fflush()
+      end_block()
+      path = sprintf("%s/%05d.cert", folder, $2)
+      printf "cert\nword 1 cells %s\n", $4 >path
+      next
+    }
+    { print >path }
+    function end_block() {
+      if (path == "") return
+      line = ""
+      getline line < job
+      printf "job\n%s%s\n", header, line >path
+      if (close(path)) exit 1
+    }' >"$counts"
+}
+
 # Starts the relay: `output` leads to it, and `lines` has what comes back, and an end when all is done.
 start_relay() {
-  make_file && counts=$made
-  if [ -t 2 ] && [ ! -t "$input" ]; then shows=1; fi
+  if [ -n "$follows" ]; then
+    counts=/dev/null
+    make_file && counts=$made
+    if [ -t 2 ] && [ ! -t "$input" ]; then shows=1; fi
+  fi
   exec {screen}>&1
   if [ -n "$shows" ] && [ -t 1 ]; then
     coproc passing { relay 9>&1; }
@@ -619,13 +714,14 @@ tune_memory() {
 }
 
 # Runs the program over `input`: `fault` is then what it wrote on standard error, `status` how it ended, `finished` the
-# last word with a report, and `treeless` are the first words without a tree, of which there are `treeless_count`.
+# last word with a report, `treeless` are the first words without a tree, of which there are `treeless_count`, and
+# `remark` is what was seen at the end of the output.
 run() {
-  local output=1 faults lines line screen passer='' is_cut='' is_late='' shows='' all_words='' counts=/dev/null
-  finished=0 treeless='' treeless_count=0 fault=''
+  local output=1 faults lines line screen passer='' is_cut='' is_late='' shows='' all_words='' counts=/dev/stdout
+  finished=0 treeless='' treeless_count=0 fault='' remark=''
   # (a pipe holds what is written before it is read, which is a line)
   exec {faults}<> <(:)
-  [ -z "$follows" ] || start_relay
+  [ -z "$follows$looks" ] || start_relay
   ${guard[@]+"${guard[@]}"} "$program" ${words[@]+"${words[@]}"} <&"$input" >&"$output" 2>&"$faults" &
   child=$!
   if [ -n "$follows" ]; then
@@ -639,10 +735,21 @@ run() {
       $1 != "word" && ++count <= 20 { these = these " " last }
       { last = $2 }
       END { print count + 0 these }' "$counts")
+    if [ "$mode" = cert ]; then
+      remark=$(tail -n 1 "$counts")
+    elif [ "$finished" != 0 ] && [ "$finished" = "$treeless_count" ]; then
+      remark=none
+    fi
   fi
   wait "$child" 2>/dev/null
   status=$?
   child=
+  if [ -n "$looks" ]; then
+    exec {output}>&-
+    wait "$passer" 2>/dev/null || is_cut=1
+    while read -r -u "$lines" line; do remark=$line; done
+    exec {lines}<&-
+  fi
   printf '\nend\n' >&"$faults"
   while read -r -u "$faults" line && [ "$line" != end ]; do fault+=${fault:+${line:+$'\n'}}$line; done
   exec {faults}>&-
@@ -671,9 +778,10 @@ say_cause() {
       ;;
     "fault limit word "*)
       set -- $fault
-      [ -z "$front" ] || place_in_words $(($4 - (front - $(first_word) + 1)))
+      [ -z "$front" ] || place_in_words $(($4 - (front - $(words_line))))
       ;;
   esac
+  tell_sort
   if [ -t 2 ] && [ -z "$cause" ]; then
     case $fault in
       "fault text line "* | "fault grammar "* | "fault limit "* | "fault certificate "*)
@@ -683,9 +791,26 @@ say_cause() {
   fi
 }
 
-# The line of the job that is its first word.
-first_word() {
-  awk 'NR > 1 && /^ *words *\r?$/ { print NR + 1; exit }' "$job"
+# Says of a text that is no job what it is, where it is one of those that the program writes.
+tell_sort() {
+  local line=''
+  [ "$fault" = "fault text line 1 kind 1" ] && [ -n "$job" ] && [ "$mode" != verify ] || return
+  IFS= read -r line <"$job"
+  case ${line%$'\r'} in
+    cert) say "this is a certificate: adp verify FILE checks it" ;;
+    "word "[0-9]*) say "this is a report, and no job: tools/view.html and tools/report show it" ;;
+  esac
+}
+
+# Says what was seen of an output that is right: that no word has a tree, or that a certificate is too long.
+say_remark() {
+  case $remark in
+    none) say "no word has a tree (--explain says why)" ;;
+    bytes\ *)
+      [ "${remark#bytes }" -le $most_bytes ] || say "the certificate has ${remark#bytes } bytes, and verify reads \
+$most_bytes: --certificates DIR writes one for each word"
+      ;;
+  esac
 }
 
 # Explains a fault, or words without a tree; a faulty command in one line where it is to be brief. A command and its
@@ -748,12 +873,14 @@ run_file() {
     explain "$1"
   elif [ -n "$fault" ]; then
     say_cause "$1"
-  elif [ -n "$treeless" ] && [ -t 2 ]; then
-    say "--explain says why words have no tree"
   elif [ "$status" -gt 128 ]; then
     say "the program was ended by the signal $((status - 128))"
+  elif [ -n "$remark" ] && [ -z "$is_quiet" ]; then
+    say_remark
+  elif [ -n "$treeless" ] && [ -t 2 ]; then
+    say "--explain says why words have no tree"
   fi
-  remove_copies
+  close_copies
   return "$status"
 }
 
@@ -813,8 +940,8 @@ done
 
 words=() files=() copies=() guard=()
 treeless='' treeless_count=0 shown=0
-mode='' explains='' words_file='' words_copy='' time_limit='' program='' why=''
-brief='' cause='' fault='' front='' job='' made='' child=''
+mode='' explains='' is_quiet='' words_file='' words_copy='' replaces='' folder='' time_limit='' program='' why=''
+brief='' cause='' fault='' front='' job='' made='' child='' remark=''
 command="adp${*:+ $*}"
 need find
 # (a stream that is closed is one that fails)
@@ -823,7 +950,6 @@ need find
 find_checked || find_program
 sort_arguments "$@"
 
-trap remove_all EXIT
 for signal in INT TERM HUP; do trap "end_by $signal" $signal; done
 if [ "$mode" != big ] && ! takes_input; then
   printf '%s\n' "$fault" >&2
@@ -837,17 +963,21 @@ if [ -n "$time_limit" ]; then
   case $time_limit in *.*) fraction=${time_limit#*.}000000 ;; esac
   limit=$((10#${time_limit%.*} * 1000000 + 10#${fraction:0:6}))
 fi
+if [ -n "$folder" ]; then make_folder; fi
 tune_memory
-follows=
+follows='' looks=''
 if [ -t 2 ] || [ -n "$explains$time_limit" ]; then
   need awk dd grep tail tee
   follows=1
+elif [ -n "$folder" ] || { [ -z "$is_quiet" ] && [ "$mode" != big ] && [ -x "$(command -v tee)" ] &&
+  [ -x "$(command -v awk)" ]; }; then
+  looks=1
 fi
-if [ -z "$follows$words_file" ] && [ ${#files[@]} = 1 ] && [ "$mode" != big ]; then
+if [ -z "$follows$looks$words_file" ] && [ ${#files[@]} = 1 ] && [ "$mode" != big ]; then
   open_job "${files[0]}"
   if [ -z "$cause" ]; then
     [ "$input" = 0 ] || exec <&"$input" {input}<&-
-    trap - EXIT INT TERM HUP
+    trap - INT TERM HUP
     exec "$program" "${words[@]}"
   fi
   [ "$input" = 0 ] || exec {input}<&-

@@ -64,6 +64,8 @@ function fill_tables() {
   add_option("--size", "number", "1", "2046")
   # of the launcher
   add_option("--words", "file")
+  add_option("--only-words", "file")
+  add_option("--certificates", "folder")
   add_option("--time-limit", "seconds")
 }
 
@@ -71,7 +73,8 @@ function fill_tables() {
 function add_mode(name, its_options, needed, what,    list, i) {
   MODES[++said_modes] = name
   is_of[name, "--time-limit"] = 1
-  if (name != "big" && name != "verify") is_of[name, "--words"] = 1
+  if (name != "big" && name != "verify") is_of[name, "--words"] = is_of[name, "--only-words"] = 1
+  if (name == "cert") is_of[name, "--certificates"] = 1
   for (i = split(its_options, list, " "); i; i--) is_of[name, list[i]] = 1
   if (needed != "") needed_by[name] = needed
   needed_as[name] = what
@@ -98,9 +101,12 @@ function tell(text) { print wrapped(text, "") }
 
 function name_of(path) { return path == "-" || path == "" ? "standard input" : path }
 
+# Whether a line is one of the file of more words, by the number that it has behind the job.
+function is_of_words_file(number) { return job_lines >= 0 && number > job_lines }
+
 # A line of the job, or of the file of more words, by the number that it has in both together.
 function place_of(number) {
-  if (job_lines >= 0 && number > job_lines) return name_of(ENVIRON["ADP_WORDS"]) ", line " number - job_lines
+  if (is_of_words_file(number)) return name_of(ENVIRON["ADP_WORDS"]) ", line " number - job_lines
   return name_of_job ", line " number
 }
 
@@ -134,7 +140,7 @@ function printed(text,    out, i, byte) {
 # A line of the job with its number; where a column is told, a mark below it. Long lines are cut around it.
 function show(number, text, column,    front, first, shown) {
   first = 1
-  if (job_lines >= 0 && number > job_lines) number -= job_lines
+  if (is_of_words_file(number)) number -= job_lines
   if (column > 70) first = column - 60
   front = (first > 1 ? ".." : "") printed(substr(text, first, column > 0 ? column - first : 0))
   shown = (first > 1 ? ".." : "") printed(substr(text, first, 100)) (length(text) >= first + 100 ? ".." : "")
@@ -932,6 +938,15 @@ function show_wrong(number) {
   has_form(number)
   show(number, header[number], wrong_at)
   tell(sentence(wrong))
+  if (shape == "rule" && at > tokens && goes_on(number + 1)) tell("The rule goes on in line " number + 1 ": a rule " \
+      "stands on one line, with all its alternatives.")
+}
+
+# Whether a line of the header goes on with what the one before began.
+function goes_on(number,    list) {
+  if (!(number in header) || number == words_line) return 0
+  split(header[number], list, " ")
+  return !is_one_of(list[1], KEYWORDS)
 }
 
 function sentence(text) { return toupper(substr(text, 1, 1)) substr(text, 2) (text ~ /[.?:"]$/ ? "" : ".") }
@@ -1041,6 +1056,9 @@ function tell_first_line() {
   else if (tolower(wanted_line) ~ /^[ \t]*adp[ \t]*[123][ \t]*$/) tell("Only `adp " (wanted_line ~ /1/ ? 1 : \
       wanted_line ~ /2/ ? 2 : 3) "` itself will do: small letters, one space, and none before or behind.")
   else if (wanted_line ~ /^adp [0-9]+$/) tell("This program reads the formats `adp 1`, `adp 2` and `adp 3`.")
+  else if (wanted_line == "cert") tell("This is a certificate, and no job: `adp verify FILE` checks it, and " \
+      "tools/table.html draws it.")
+  else if (wanted_line ~ /^word [0-9]+$/) tell("This is a report, and no job: tools/view.html and tools/report show it.")
   else tell("A job begins with the line `adp 1`, `adp 2` or `adp 3`.")
 }
 
@@ -1051,8 +1069,8 @@ function tell_strange_byte(number,    text) {
   wrong_at = RSTART
   show(number, text, wrong_at)
   tell(sentence(strange(text, wrong_at)))
-  if (words_line && number > words_line) tell("This line is a word: all that stands behind the line `words` (line " \
-      words_line ") is words.")
+  if (words_line && number > words_line) tell(is_of_words_file(number) ? "This line is a word: each line of this " \
+      "file is one." : "This line is a word: all that stands behind the line `words` (line " words_line ") is words.")
 }
 
 # A word in the place of a name that is none.
@@ -1444,7 +1462,7 @@ function once_for(name, one, two) {
 function tell_count(number, counted,    what, most, mend) {
   show(number, number in header ? header[number] : wanted_line, 0)
   if (words_line && number > words_line) { what = "words"; most = 65536; mend = \
-      "Split them among jobs with the same header." }
+      "tools/spread asks any number, in as many runs as they take." }
   else if (shape == "class") { what = "classes"; most = 64 }
   else if (shape == "sign" && counted == kinds) { what = "arguments of a sign"; most = 4; mend = \
       "Make it two signs, with a rule between them." }
@@ -2586,11 +2604,33 @@ function wrong_option(mode, word, has_value, value, given,    near) {
   }
   if (!((mode, word) in is_of)) {
     near = in_a_row(MODES, "and", word)
+    if (mode == "kbest" && word == "--then") return "The option --then is of the mode lex alone: for lists by two " \
+        "algebras tools/two-wishes writes a job that has both in one."
     return "The option " word " is of the mode" (near ~ / / ? "s " near ", and not of " mode "." : " " near " alone.")
   }
   if (word in given) return "The option " word " stands twice."
   if (!has_value) return "The option " word " has no value behind it."
   return wrong_value(word, value)
+}
+
+# The first line of a file, without a carriage return at its end.
+function first_line_of(path,    line) {
+  if ((getline line < path) < 1) line = ""
+  close(path)
+  sub(/\r$/, "", line)
+  return line
+}
+
+# How often a word stands in the command.
+function how_often(word,    list, n, i, count) {
+  n = split(ENVIRON["ADP_COMMAND"], list, " ")
+  for (i = 1; i <= n; i++) if (list[i] == word) count++
+  return count + 0
+}
+
+function stands_twice(word) {
+  if (how_often(word) > 1 || word !~ /words$/) return "The option " word " stands twice."
+  return "The options --words and --only-words can't stand together."
 }
 
 function is_seconds(value,    half) {
@@ -2611,12 +2651,19 @@ function wrong_value(word, value) {
   }
   if (value_of[word] == "file") {
     if (value == "-") return "Standard input is the job, or its words, and not both."
-    return is_file(value) ? "The option " word " stands twice." : "There is no file " quoted(value) ", for " word "."
+    if (!is_file(value)) return "There is no file " quoted(value) ", for " word "."
+    if (first_line_of(value) ~ /^adp [0-9]+$/) return "The file " quoted(value) " is a job, and no file of words."
+    return stands_twice(word)
+  }
+  if (value_of[word] == "folder") {
+    if (value == "") return "The folder of " word " has no name."
+    return how_often(word) > 1 ? stands_twice(word) : "The option " word " takes the words of one job, and several " \
+        "jobs are named."
   }
   if (value !~ /^[0-9]/ && is_file(value)) return "The option " word " lacks its value: the file " quoted(value) \
       " stands in its place."
   if (value_of[word] == "seconds") {
-    if (is_seconds(value)) return "The option " word " stands twice."
+    if (is_seconds(value)) return stands_twice(word)
     return "The value of " word " is seconds, as 60 or 0.5, above 0 and below 1000000000, with six decimal places at " \
         "most, and not " quoted(value) "."
   }

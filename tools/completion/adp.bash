@@ -3,16 +3,17 @@
 # The options of a mode: a line for each.
 _adp_options_of() {
   case $1 in
-    best | serial | wins | cert) echo '--algebra --workers --seed --words' ;;
-    replay) echo '--algebra --workers --seed --schedule --words' ;;
-    lex) echo '--algebra --then --workers --seed --words' ;;
-    kbest) echo '--algebra --best --words' ;;
+    best | serial | wins) echo '--algebra --workers --seed --words --only-words' ;;
+    cert) echo '--algebra --workers --seed --words --only-words --certificates' ;;
+    replay) echo '--algebra --workers --seed --schedule --words --only-words' ;;
+    lex) echo '--algebra --then --workers --seed --words --only-words' ;;
+    kbest) echo '--algebra --best --words --only-words' ;;
     verify) echo '--algebra' ;;
     big) echo '--workers --seed --size' ;;
   esac
 }
 _adp_modes='best serial wins replay lex kbest cert verify big'
-_adp_common='--time-limit --explain --help --version'
+_adp_common='--time-limit --explain --quiet --help --version'
 
 # The mode that is named already.
 _adp_mode() {
@@ -46,8 +47,9 @@ _adp() {
       return
       ;;
     --workers) mapfile -t COMPREPLY < <(compgen -W '1 2 4 8 16 32' -- "$word"); return ;;
-    --words) compopt -o filenames 2>/dev/null; mapfile -t COMPREPLY < <(compgen -f -- "$word"); return ;;
-    --[a-z]*) case $before in --explain | --help | --version) ;; *) return ;; esac ;;
+    --words | --only-words) compopt -o filenames 2>/dev/null; mapfile -t COMPREPLY < <(compgen -f -- "$word"); return ;;
+    --certificates) compopt -o filenames 2>/dev/null; mapfile -t COMPREPLY < <(compgen -d -- "$word"); return ;;
+    --[a-z]*) case $before in --explain | --quiet | --help | --version) ;; *) return ;; esac ;;
   esac
   if [ "${word#-}" != "$word" ]; then
     mapfile -t COMPREPLY < <(compgen -W "$(_adp_options_of "$mode") $_adp_common" -- "$word")

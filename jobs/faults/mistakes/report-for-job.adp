@@ -1,0 +1,4 @@
+word 1
+score 0
+tree end("")
+cells 1
