@@ -23,13 +23,15 @@ import os
 import re
 import shutil
 import subprocess
+from collections import Counter
 from collections.abc import Iterable, Iterator, Mapping, Sequence
 from dataclasses import dataclass, field
+from itertools import chain
 from typing import Any, Union
 
 __version__ = "1.3"
-__all__ = ["Candidate", "Fault", "Job", "Malformed", "Node", "Place", "Report", "find_program", "places", "quoted",
-           "read_reports", "read_tree", "record_of", "solve", "solve_big", "write_job"]
+__all__ = ["Candidate", "Fault", "Job", "Malformed", "Node", "Place", "Report", "find_program", "named", "places",
+           "quoted", "read_reports", "read_tree", "record_of", "solve", "solve_big", "write_job"]
 
 # (by the mode `lex` the scores of two algebras)
 Score = Union[int, "tuple[int, ...]"]
@@ -165,7 +167,7 @@ class Report:
     """What is said of a word: its number, from 1; the best score and the first tree of it, or None; its cells; by the
     modes `wins` and `replay` how many answers each evaluator put into the table; by `kbest`, which tells no cells, the
     first trees with their scores, in order; and by `tools/spread` why a word was refused. By `lex` the score is a pair,
-    that of the first algebra and that of the second."""
+    that of the first algebra and that of the second. Who knows names of the words can add them (see `named`)."""
 
     word: int
     score: Score | None
@@ -174,6 +176,26 @@ class Report:
     wins: list[int] | None = None
     refused: str | None = None
     listed: list[Candidate] | None = None
+    name: str | None = None
+
+    def rows(self) -> list[dict[str, Any]]:
+        """The report as rows of a table, one for each tree, or one for a word without any: its name, where it has one,
+        its number, the rank of the tree, its score (by `lex` `score` and `then`), the cells, how often each sign stands
+        in the tree, as `count_SIGN`, and the tree as the program writes it. So `pandas.DataFrame` takes them."""
+        found: list[tuple[Score | None, Node | None]] = [(self.score, self.tree)]
+        if self.listed:
+            found = [(it.score, it.tree) for it in self.listed]
+        return [self._row(rank, score, tree) for rank, (score, tree) in enumerate(found, 1)]
+
+    def _row(self, rank: int, score: Score | None, tree: Node | None) -> dict[str, Any]:
+        row: dict[str, Any] = {} if self.name is None else {"name": self.name}
+        row |= {"word": self.word, "rank": None if tree is None else rank}
+        row |= {"score": score[0], "then": score[1]} if isinstance(score, tuple) else {"score": score}
+        row["cells"] = self.cells if self.listed is None and self.refused is None else None
+        if self.refused is not None:
+            row["refused"] = self.refused
+        signs = Counter(() if tree is None else (node.sign for node in tree.preorder()))
+        return row | {f"count_{sign}": count for sign, count in signs.items()} | {"tree": tree and str(tree)}
 
 
 @dataclass
@@ -239,16 +261,17 @@ def _numbers(text: str) -> list[int]:
     return [int(number) for number in text.split(" ")]
 
 
-def read_reports(text: str) -> Iterator[Report]:
-    """The reports of what the program wrote, one after the other."""
-    lines: Iterator[str | None] = iter([*text.splitlines(), None])
+def read_reports(text: str | Iterable[str]) -> Iterator[Report]:
+    """The reports of what the program wrote, one after the other: of a text, or of its lines as a file gives them."""
+    split = text.splitlines() if isinstance(text, str) else (line.rstrip("\r\n") for line in text)
+    lines: Iterator[str | None] = chain(split, [None])
 
     def behind(front: str, line: str | None) -> str:
         if line is None or not line.startswith(front + " "):
             raise Malformed(f"no report: {front!r} should stand where {str(line)[:60]!r} does")
         return line[len(front) + 1 :]
 
-    line = next(lines)
+    line = next(lines, None)
     while line is not None:
         word, second = int(behind("word", line)), next(lines, None)
         if second is not None and second.startswith("refused "):
@@ -288,18 +311,35 @@ def _list_of(word: int, found: Sequence[tuple[Score, Node]], count: int) -> Repo
     return Report(word, first and first.score, first and first.tree, 0, listed=listed)
 
 
+def named(reports: Iterable[Report], names: Iterable[str]) -> Iterator[Report]:
+    """Reports with the names of their words, in order, of which there have to be as many."""
+    waiting, last = iter(names), None
+    for report in reports:
+        if last is not None and report.word != last + 1:
+            raise Malformed(f"the reports go on with word {report.word}, where word {last + 1} should be")
+        last = report.word
+        report.name = next(waiting, None)
+        if report.name is None:
+            raise Malformed(f"there are more reports than names, from word {report.word} on: has the job words of its "
+                            "own? (--only-words leaves them out)")
+        yield report
+    if next(waiting, None) is not None:
+        raise Malformed("there are fewer reports than names")
+
+
 def record_of(report: Report, scores: Sequence[Any] | None = None) -> dict[str, Any]:
     """A report as an object that is not nested, for JSON: the letters that the tree covers, and its nodes in preorder.
     Each tells its sign, the positions where it begins and ends, its parent's number among the nodes, its depth, its
     score where these are given, and its parts: letters, or the number of a node. Of a list each tree is told so; its
     scores are a list for each tree."""
+    record: dict[str, Any] = {"word": report.word} if report.name is None else {"word": report.word, "name": report.name}
     if report.refused is not None:
-        return {"word": report.word, "refused": report.refused}
+        return record | {"refused": report.refused}
     if report.listed is not None:
         of_each = scores if scores is not None else [None] * len(report.listed)
         listed = [{"score": it.score} | _record_of_tree(it.tree, own) for it, own in zip(report.listed, of_each)]
-        return {"word": report.word, "listed": listed}
-    record: dict[str, Any] = {"word": report.word, "score": report.score, "cells": report.cells}
+        return record | {"listed": listed}
+    record |= {"score": report.score, "cells": report.cells}
     if report.wins is not None:
         record["wins"] = report.wins
     if report.tree is None:
