@@ -1,4 +1,5 @@
-"""Jobs of adp from Python: `solve` runs the program, and gives its reports as objects; `solve_big` needs no job.
+"""Jobs of adp from Python: `solve` runs the program, and gives its reports as objects; `solve_many` asks any number of
+words, in runs side by side; `solve_big` needs no job.
 
     from adp import solve
 
@@ -14,24 +15,29 @@
     )
 
 The file stands alone, beside the launcher `adp` or anywhere: the program is found by the argument `program`, by the
-variable ADP, with this file, above it, or on the PATH. Trees may be thousands of nodes deep, so nothing here is
-recursive: they are written, compared, copied and pickled at any depth.
+variable ADP, with this file, above it, or on the PATH; `python -m adp` runs the command. Trees may be thousands of
+nodes deep, so nothing here is recursive: they are written, compared, copied and pickled at any depth.
 """
 from __future__ import annotations
 
 import os
+import platform
 import re
 import shutil
 import subprocess
-from collections import Counter
+import sys
+from collections import Counter, deque
 from collections.abc import Iterable, Iterator, Mapping, Sequence
+from concurrent.futures import Future, ThreadPoolExecutor
 from dataclasses import dataclass, field
+from functools import cached_property
 from itertools import chain
 from typing import Any, Union
 
 __version__ = "1.3"
 __all__ = ["Candidate", "Fault", "Job", "Malformed", "Node", "Place", "Report", "find_program", "named", "places",
-           "quoted", "read_reports", "read_tree", "record_of", "solve", "solve_big", "write_job"]
+           "quoted", "read_reports", "read_tree", "record_of", "solve", "solve_big", "solve_many",
+           "write_job"]
 
 # (by the mode `lex` the scores of two algebras)
 Score = Union[int, "tuple[int, ...]"]
@@ -39,22 +45,56 @@ Score = Union[int, "tuple[int, ...]"]
 _PART = re.compile(r'([A-Za-z]\w*)\(|"((?:[^"\\]|\\.)*)"|([),])')
 _WORDS_LINE = re.compile(r"^ *words *\r?$", re.M)
 _SHOWN = 200
+# The statuses of runs that were refused before anything was solved.
+_REFUSALS = (2, 5, 6, 7, 10)
+# One run has at most so many words, and so many bytes with the job.
+_MOST_WORDS, _MOST_BYTES = 65536, 4194304
+# The options of each mode, and of the options that are numbers the least and the greatest.
+_MODES = {"best": "algebra workers seed", "serial": "algebra workers seed", "wins": "algebra workers seed",
+          "replay": "algebra workers seed schedule", "lex": "algebra then workers seed", "kbest": "algebra best"}
+_NEEDED = {"replay": "schedule", "lex": "then", "kbest": "best"}
+_RANGES = {"workers": (1, 32), "seed": (0, 2**64 - 1), "best": (1, 64), "size": (1, 2046)}
 
 
 class Fault(Exception):
-    """A run that gave no reports, or not all of them: its line, as `fault text line 3 kind 15`, and its status."""
+    """A run that gave no reports, or not all of them: its line, as `fault text line 3 kind 15`, and its status. As a
+    text it tells its cause too, where `explanation` has one."""
 
-    def __init__(self, line: str, status: int, run: tuple[list[str], str] | None = None) -> None:
+    def __init__(self, line: str, status: int, run: tuple[list[str], str] | None = None, before: int = 0) -> None:
         super().__init__(line or f"status {status}")
-        self.line, self.status, self._run = line, status, run
+        self.line, self.status, self._run, self._before = line, status, run, before
 
     def __reduce__(self) -> tuple[Any, ...]:
-        return Fault, (self.line, self.status, self._run)
+        return Fault, (self.line, self.status, self._run, self._before)
+
+    def __str__(self) -> str:
+        return f"{self.args[0]}: {self.cause}" if self.cause else str(self.args[0])
 
     @property
+    def word(self) -> int | None:
+        """The number of the word that is at fault, in the whole of what `solve_many` was asked; None where it is
+        another fault."""
+        found = re.match(r"fault limit word (\d+)", self.line)
+        if found:
+            return self._before + int(found[1])
+        found = re.match(r"fault text line (\d+)", self.line)
+        behind = 0 if found is None or self._run is None else int(found[1]) - _header_lines(self._run[1])
+        return self._before + behind if behind > 0 else None
+
+    @property
+    def cause(self) -> str:
+        """What is wrong, in a sentence or two, as `explanation` has it; empty where that is."""
+        said, _, prose = self.explanation.partition("docs/FAULTS.md:\n")
+        # (without lines of the job, and what only leads to them)
+        lines = [line for line in said.splitlines()[:-1] if not re.search(r"^ *\d* \| |:$", line)]
+        text = " ".join("\n".join(lines).split("\n\n")[0].split())
+        return text or " ".join(prose.split()).split(". ")[0]
+
+    @cached_property
     def explanation(self) -> str:
-        """What `adp --explain` tells of it; empty where no launcher is there to tell. It runs the job once more."""
-        if self._run is None:
+        """What `adp --explain` tells of it; empty where no launcher is there to tell. It runs the job once more, to
+        where it is refused."""
+        if self._run is None or self.status not in _REFUSALS:
             return ""
         (program, *words), text = self._run
         for launcher in dict.fromkeys([program, *_launchers()]):
@@ -64,7 +104,7 @@ class Fault(Exception):
             except OSError:
                 continue
             lines = ran.stderr.decode(errors="replace").splitlines()
-            if self.line in lines and lines[-1] != self.line:
+            if lines and self.line in lines and lines[-1] != self.line:
                 return "\n".join(lines[lines.index(self.line) + 1 :]).strip("\n")
         return ""
 
@@ -680,24 +720,43 @@ def write_job(*, signs: Mapping[str, Sequence[str]], algebras: Mapping[str, tupl
     return "\n".join(_line(line) for line in lines) + "\n"
 
 
-def _listed(words: Iterable[str]) -> list[str]:
+def _listed(words: Iterable[str]) -> Iterator[str]:
+    """Words, each of which is looked at."""
     if isinstance(words, (str, bytes)):
         raise TypeError("words are a list of texts, and no text")
-    return list(words)
+    for number, word in enumerate(words, 1):
+        if not isinstance(word, str):
+            raise TypeError(f"words are texts, and number {number} is of type {type(word).__name__}")
+        yield _line(word)
+
+
+def _header_end(text: str) -> int:
+    """Where the words of a job begin: behind the line `words`, or at its end."""
+    found = _WORDS_LINE.search(text, text.find("\n") + 1)
+    return len(text) if found is None else min(found.end() + 1, len(text))
+
+
+def _header_lines(text: str) -> int:
+    """How many lines stand before the words of a job."""
+    return text.count("\n", 0, _header_end(text))
+
+
+def _header(text: str) -> str:
+    """A job without its words, up to the line `words`."""
+    front = text[: _header_end(text)]
+    front = front if not front or front.endswith("\n") else front + "\n"
+    return front if _WORDS_LINE.search(front, front.find("\n") + 1) else front + "words\n"
 
 
 def _with_words(text: str, words: Iterable[str]) -> str:
     """A job with further words behind its own."""
-    front = text if not text or text.endswith("\n") else text + "\n"
-    if not _WORDS_LINE.search(text, text.find("\n") + 1):
-        front += "words\n"
-    return front + "".join(_line(word) + "\n" for word in _listed(words))
+    own = text[_header_end(text) :]
+    return _header(text) + own + "\n" * (own != "" and own[-1] != "\n") + "".join(f"{it}\n" for it in _listed(words))
 
 
 def _count_words(text: str) -> int:
     """How many words stand behind the header of a job."""
-    found = _WORDS_LINE.search(text, text.find("\n") + 1)
-    behind = "" if found is None else text[found.end() + 1 :]
+    behind = text[_header_end(text) :]
     return behind.count("\n") + (behind != "" and not behind.endswith("\n"))
 
 
@@ -711,6 +770,15 @@ def _launchers() -> list[str]:
 def find_program() -> str:
     """The command `adp`: the one that ADP names, the one with this file or above it, or the one on the PATH."""
     return os.environ.get("ADP") or [*_launchers(), "adp"][0]
+
+
+def started_by(command: str) -> str:
+    """What is started for a command: the program itself, where the command is a launcher that is installed with it; in
+    a checkout the launcher, which looks whether the program is that of the sources."""
+    top = os.path.dirname(os.path.realpath(shutil.which(command) or command))
+    program = os.path.join(top, "prebuilt", "adp")
+    is_alone = os.access(program, os.X_OK) and not os.path.isdir(os.path.join(top, "crates"))
+    return program if is_alone and (sys.platform, platform.machine()) == ("linux", "x86_64") else command
 
 
 def run_environment() -> dict[str, str] | None:
@@ -731,28 +799,112 @@ def run_environment() -> dict[str, str] | None:
 
 def solve(job: str | None = None, *, words: Iterable[str] | None = None, mode: str | None = None,
           algebra: str | None = None, then: str | None = None, best: int | None = None, workers: int | None = None,
-          seed: int | None = None, schedule: str | None = None, program: str | None = None,
-          timeout: float | None = None, **parts: Any) -> list[Report]:
+          seed: int | None = None, schedule: str | None = None, only: Iterable[str] | None = None,
+          program: str | None = None, timeout: float | None = None, **parts: Any) -> list[Report]:
     """The reports of a job, which is a text, or is made of its parts (see `write_job`); `words` are asked behind those
-    of a text. A fault is raised, and after `timeout` seconds a `TimeoutError`. The mode is one that reads a job and
-    writes reports: 'best', 'serial', 'wins', 'replay' with a schedule, 'lex' with `then`, the algebra that decides
-    among equals, or 'kbest' with `best`, how many trees each report lists; where none is named 'best', or 'lex' where
-    `then` is given, or 'kbest' where `best` is."""
+    of a text, `only` in their place. A fault is raised, and after `timeout` seconds a `TimeoutError`. The mode is one
+    that reads a job and writes reports: 'serial', the quickest one, 'best' with its workers, 'wins', 'replay' with a
+    schedule, 'lex' with `then`, the algebra that decides among equals, or 'kbest' with `best`, how many trees each
+    report lists. Where none is named it is the one that the options are of, and else 'serial'."""
     if job is not None and parts:
         raise TypeError(f"a job is a text, or is given by its parts: beside a text {', '.join(parts)} can't stand")
     if job is None and not parts:
         raise TypeError("a job is a text, or is given by its parts")
+    if words is not None and only is not None:
+        raise TypeError("words stand behind those of the job, or are the only ones, and not both")
     if job is None:
-        text = write_job(**parts, words=() if words is None else words)
-    elif isinstance(job, str):
-        text = job if words is None else _with_words(job, words)
-    else:
+        text = write_job(**parts, words=() if words is None and only is None else words or only or ())
+    elif not isinstance(job, str):
         raise TypeError(f"a job is a text, and this is of type {type(job).__name__}")
+    elif only is not None:
+        text = _with_words(_header(job), only)
+    else:
+        text = job if words is None else _with_words(job, words)
     options = {"algebra": algebra, "then": then, "best": best, "workers": workers, "seed": seed, "schedule": schedule}
-    mode = mode or ("kbest" if best is not None else "best" if then is None else "lex")
+    mode = mode or _mode_of(options)
+    _check(mode, options)
     reports = list(read_reports(_written(program, mode, options, text, timeout)))
     if [report.word for report in reports] != list(range(1, _count_words(text) + 1)):
         raise Malformed(f"{_count_words(text)} words were given, and {len(reports)} reports came")
+    return reports
+
+
+def _mode_of(options: Mapping[str, Any]) -> str:
+    """The mode that has these options."""
+    by_option = {option: mode for mode, option in _NEEDED.items()} | {"workers": "best"}
+    return next((mode for option, mode in by_option.items() if options[option] is not None), "serial")
+
+
+def _check(mode: str, options: Mapping[str, Any]) -> None:
+    """Refuses a mode and options that are none."""
+    if mode not in _MODES:
+        raise ValueError(f"there is no mode {mode!r} of reports: there are {', '.join(_MODES)}")
+    for name, value in options.items():
+        if value is None:
+            if name == _NEEDED.get(mode):
+                raise ValueError(f"the mode {mode} needs {name}")
+        elif name not in _MODES[mode].split():
+            raise ValueError(f"{name} is not of the mode {mode}, whose options are {_MODES[mode].replace(' ', ', ')}")
+        else:
+            _check_value(name, value)
+
+
+def _check_value(name: str, value: Any) -> None:
+    wanted = int if name in _RANGES else str
+    if not isinstance(value, wanted) or isinstance(value, bool):
+        raise TypeError(f"{name} is of type {wanted.__name__}, and this is of type {type(value).__name__}")
+    least, most = _RANGES.get(name, (0, 0))
+    if isinstance(value, int) and not least <= value <= most:
+        raise ValueError(f"{name} lies between {least} and {most}, and is not {value}")
+
+
+def solve_many(job: str, words: Iterable[str], *, processes: int = 1, run_words: int = 8192,
+               **options: Any) -> Iterator[Report]:
+    """The reports of any number of words, without those of the job, one after the other, with the numbers that the
+    words have in the whole. They are asked in runs of at most so many words, of which so many are made side by side;
+    the options are those of `solve`. Words may come from anywhere, and are taken as they are needed. The fault of a run
+    is raised where its reports would come, and tells the `word` in the whole; so is a `TimeoutError` of a run."""
+    if processes < 1 or run_words < 1:
+        raise ValueError("there is one process at least, and one word in a run")
+    runs = _runs(_listed(words), min(run_words, _MOST_WORDS), _MOST_BYTES - len(_bytes_of(_header(job))))
+    with ThreadPoolExecutor(processes) as side_by_side:
+        window: deque[Future[list[Report]]] = deque()
+        try:
+            for before, run in runs:
+                window.append(side_by_side.submit(_reports_of, job, before, run, options))
+                if len(window) > processes:
+                    yield from window.popleft().result()
+            while window:
+                yield from window.popleft().result()
+        finally:
+            for future in window:
+                future.cancel()
+
+
+def _runs(words: Iterable[str], most_words: int, most_bytes: int) -> Iterator[tuple[int, list[str]]]:
+    """Words in runs that keep these bounds, each with the number of words before. (A word that is too long for any run
+    has one of its own.)"""
+    run: list[str] = []
+    count = size = 0
+    for word in words:
+        length = len(word.encode("utf-8", "surrogateescape")) + 1
+        if run and (len(run) == most_words or size + length > most_bytes):
+            yield count, run
+            count, run, size = count + len(run), [], 0
+        run.append(word)
+        size += length
+    if run:
+        yield count, run
+
+
+def _reports_of(job: str, before: int, words: list[str], options: Mapping[str, Any]) -> list[Report]:
+    """The reports of a run with so many words before it."""
+    try:
+        reports = solve(job, only=words, **options)
+    except Fault as fault:
+        raise Fault(fault.line, fault.status, fault._run, before) from None
+    for report in reports:
+        report.word += before
     return reports
 
 
@@ -760,6 +912,9 @@ def solve_big(size: int, *, seed: int | None = None, workers: int | None = None,
               timeout: float | None = None) -> tuple[int, int]:
     """The best score and the number of cells of a word of this size that is made from a seed. A fault is raised."""
     options = {"size": size, "seed": seed, "workers": workers}
+    for name, value in options.items():
+        if value is not None:
+            _check_value(name, value)
     lines = _written(program, "big", options, "", timeout).splitlines()
     told = dict(line.split(" ", 1) for line in lines if " " in line)
     if list(told) != ["size", "score", "cells"]:
@@ -772,10 +927,10 @@ def _bytes_of(text: str) -> bytes:
 
 
 def _written(program: str | None, mode: str, options: Mapping[str, Any], text: str, timeout: float | None) -> str:
-    words = [program or find_program(), mode]
+    command, words = program or find_program(), [mode]
     for name, value in options.items():
         words += [] if value is None else ["--" + name, str(value)]
-    with subprocess.Popen(words, stdin=subprocess.PIPE, stdout=subprocess.PIPE, stderr=subprocess.PIPE,
+    with subprocess.Popen([started_by(command), *words], stdin=subprocess.PIPE, stdout=subprocess.PIPE, stderr=subprocess.PIPE,
                           env=run_environment()) as process:
         try:
             written, told = process.communicate(_bytes_of(text), timeout)
@@ -787,7 +942,7 @@ def _written(program: str | None, mode: str, options: Mapping[str, Any], text: s
     if process.returncode != 0:
         lines = told.decode(errors="replace").strip().splitlines()
         line = next((line for line in lines if line.startswith("fault ")), lines[-1] if lines else "")
-        raise Fault(line, process.returncode, (words, text))
+        raise Fault(line, process.returncode, ([command, *words], text))
     return written.decode()
 
 
@@ -798,3 +953,16 @@ def _end(process: subprocess.Popen[bytes]) -> None:
         process.wait(2)
     except subprocess.TimeoutExpired:
         process.kill()
+
+
+def main() -> int:
+    """Runs the command `adp` in the place of this process."""
+    command = shutil.which(find_program())
+    if command is None or os.path.realpath(command) == os.path.realpath(sys.argv[0]):
+        print("adp: there is no program here: tools/install puts one on the PATH", file=sys.stderr)
+        return 1
+    os.execv(command, [command, *sys.argv[1:]])
+
+
+if __name__ == "__main__":
+    sys.exit(main())
