@@ -28,8 +28,8 @@ from dataclasses import dataclass, field
 from typing import Any, Union
 
 __version__ = "1.3"
-__all__ = ["Candidate", "Fault", "Job", "Malformed", "Node", "Place", "Report", "find_program", "places", "quoted",
-           "read_reports", "read_tree", "record_of", "solve", "solve_big", "write_job"]
+__all__ = ["Candidate", "Fault", "Job", "Malformed", "Node", "Place", "Report", "find_program", "letter_parts", "places",
+           "quoted", "read_reports", "read_tree", "record_of", "solve", "solve_big", "write_job"]
 
 # (by the mode `lex` the scores of two algebras)
 Score = Union[int, "tuple[int, ...]"]
@@ -203,6 +203,24 @@ def places(tree: Node) -> list[Place]:
         else:
             found[part].end = at
     return found
+
+
+def letter_parts(found: Sequence[Place]) -> list[list[tuple[int, int, int]]]:
+    """Of each node, as `places` tells them, the parts that are letters and not empty: the place of each among the
+    parts, and where in the word it begins and ends."""
+    ends: list[list[int]] = [[] for _ in found]
+    for place in found[1:]:
+        ends[place.parent or 0].append(place.end)
+    told: list[list[tuple[int, int, int]]] = []
+    for place, below in zip(found, map(iter, ends)):
+        at, own = place.start, []
+        for number, part in enumerate(place.node.parts):
+            end = next(below) if isinstance(part, Node) else at + len(part)
+            if isinstance(part, str) and part:
+                own.append((number, at, end))
+            at = end
+        told.append(own)
+    return told
 
 
 def quoted(letters: str) -> str:
@@ -394,6 +412,10 @@ class _Argument:
     low: int = 1
     high: int | None = 1
 
+    def is_spelled(self, or_one_letter: bool) -> bool:
+        """Whether it is a literal, or, where that is asked for, one letter of a class."""
+        return self.literal is not None or (or_one_letter and self.rule is None and self.low == self.high == 1)
+
 
 @dataclass
 class _Alternative:
@@ -433,6 +455,11 @@ class Job:
     def algebras(self) -> list[str]:
         """The names of the algebras, in order."""
         return list(self._terms)
+
+    @property
+    def signs(self) -> list[str]:
+        """The names of the signs, as the first algebra has them."""
+        return list(next(iter(self._terms.values())))
 
     @staticmethod
     def _tokens(line: str) -> list[tuple[str, bool]]:
@@ -550,6 +577,36 @@ class Job:
         """The score of each node of a tree, in preorder, by an algebra (the first one, where none is named), or by
         several of which the later ones judge what is equal by those before; None where the job derives no such tree.
         """
+        found = self._derivation(tree, algebras)
+        return None if found is None else [it if len(it) > 1 else it[0] for it, _ in found]
+
+    def pairs(self, tree: Node, *algebras: str, signs: Iterable[str] = (),
+              without: Iterable[str] = ()) -> list[tuple[int, int]] | None:
+        """The places of the letters that nodes pair, from 0; None where the job derives no such tree, by an algebra
+        (the first one, where none is named). A node pairs its first letters with its last ones where its rule spells
+        both and they are equally many; where `signs` are named those alone do, and a letter of a class is paired as a
+        letter is that the rule spells. Signs of `without` pair nothing."""
+        named, left_out = set(signs), set(without)
+        unknown = (named | left_out).difference(self.signs)
+        if unknown:
+            raise Malformed(f"the job has no sign {min(unknown)}")
+        derived = self._derivation(tree, algebras)
+        if derived is None:
+            return None
+        found: list[tuple[int, int]] = []
+        stands = places(tree)
+        for it, own, (_, arguments) in zip(stands, letter_parts(stands), derived):
+            if it.node.sign in left_out or (named and it.node.sign not in named) or len(own) < 2:
+                continue
+            (first, start, end), (last, back, behind) = own[0], own[-1]
+            is_spelled = all(arguments[at].is_spelled(bool(named)) for at in (first, last))
+            if is_spelled and end - start == behind - back:
+                found += zip(range(start, end), range(behind - 1, back - 1, -1))
+        return found
+
+    def _derivation(self, tree: Node,
+                    algebras: tuple[str, ...]) -> list[tuple[tuple[int, ...], list[_Argument]]] | None:
+        """Of each node of a tree, in preorder, its scores and the arguments of its alternative."""
         names = algebras or (self.algebras[0],)
         for name in names:
             if name not in self._terms:
@@ -575,7 +632,7 @@ class Job:
                 known = best[at].get(rule)
                 if known is None or self._order(names, found) < self._order(names, known[0]):
                     best[at][rule] = found, arguments
-        return self._told(nodes, number, best, len(names) == 1)
+        return self._told(nodes, number, best)
 
     def is_better(self, one: Score, other: Score, *algebras: str) -> bool:
         """Whether a score is better than another one, by an algebra (the first one, where none is named), or by several
@@ -587,20 +644,20 @@ class Job:
     def _order(self, names: Sequence[str], values: tuple[int, ...]) -> list[int]:
         return [value if self._is_least[name] else -value for name, value in zip(names, values)]
 
-    def _told(self, nodes: list[Node], number: dict[int, int], best: list[dict[str, Any]],
-              is_one: bool) -> list[Score] | None:
-        """The scores of all nodes, by the rule that each one has under the one above it."""
+    def _told(self, nodes: list[Node], number: dict[int, int],
+              best: list[dict[str, Any]]) -> list[tuple[tuple[int, ...], list[_Argument]]] | None:
+        """What is known of all nodes, by the rule that each one has under the one above it."""
         rules: list[Any] = [self.axiom] + [None] * (len(nodes) - 1)
-        scores: list[Score] = []
+        told: list[tuple[tuple[int, ...], list[_Argument]]] = []
         for at, node in enumerate(nodes):
             found = best[at].get(rules[at])
             if found is None:
                 return None
-            scores.append(found[0][0] if is_one else found[0])
+            told.append(found)
             for part, argument in zip(node.parts, found[1]):
                 if isinstance(part, Node):
                     rules[number[id(part)]] = argument.rule
-        return scores
+        return told
 
 
 def _line(text: str) -> str:
