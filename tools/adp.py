@@ -154,9 +154,9 @@ class _Mark(str):
 
 @dataclass
 class Candidate:
-    """A tree of a list, and its score."""
+    """A tree of a list, and its score; two scores where `tools/two-wishes` took them apart."""
 
-    score: int
+    score: Score
     tree: Node
 
 
@@ -299,9 +299,9 @@ def read_reports(text: str) -> Iterator[Report]:
 
 def _list_of(word: int, found: Sequence[tuple[Score, Node]], count: int) -> Report:
     """The report of a word whose first trees are listed."""
-    listed = [Candidate(score, tree) for score, tree in found if isinstance(score, int)]
-    if len(listed) != len(found) or count != len(found):
-        raise Malformed(f"word {word}: {len(found)} trees stand there, and {count} are told, each of one score")
+    listed = [Candidate(score, tree) for score, tree in found]
+    if count != len(found):
+        raise Malformed(f"word {word}: {len(found)} trees stand there, and {count} are told")
     first = listed[0] if listed else None
     return Report(word, first and first.score, first and first.tree, 0, listed=listed)
 
@@ -419,9 +419,10 @@ class _Argument:
 
 @dataclass
 class _Alternative:
-    """An alternative of a rule: its arguments, and how many letters it may cover."""
+    """An alternative of a rule: its sign, its arguments, and how many letters it may cover."""
 
     rule: str
+    sign: str
     arguments: list[_Argument]
     low: int = 0
     high: int | None = None
@@ -433,6 +434,7 @@ class Job:
 
     def __init__(self, text: str) -> None:
         self.axiom = ""
+        self.rules: dict[str, list[_Alternative]] = {}
         self._classes: dict[str, dict[str, int]] = {}
         self._terms: dict[str, dict[str, _Steps]] = {}
         self._is_least: dict[str, bool] = {}
@@ -521,8 +523,9 @@ class Job:
         return whole, at
 
     def _added(self, rule: str, sign: str) -> _Alternative:
-        alternative = _Alternative(rule, [])
+        alternative = _Alternative(rule, sign, [])
         self._by_sign.setdefault(sign, []).append(alternative)
+        self.rules.setdefault(rule, []).append(alternative)
         return alternative
 
     @staticmethod
