@@ -352,12 +352,12 @@ _SIZE = re.compile(r"\) *with +size\b[^\")]*$")
 _TIGHTNESS = {"+": 1, "-": 1, "*": 2}
 
 # The steps of a term, its sides before each operation: a number, the value of the argument of a number, an operation.
-_Steps = list["tuple[str, int]"]
+Steps = list["tuple[str, int]"]
 
 
-def _steps(words: Sequence[str], variables: Sequence[str]) -> _Steps:
+def _steps(words: Sequence[str], variables: Sequence[str]) -> Steps:
     """The steps of a term of either format."""
-    steps: _Steps = []
+    steps: Steps = []
     waiting: list[str] = []
 
     def reduce(least: int) -> None:
@@ -387,7 +387,7 @@ def _steps(words: Sequence[str], variables: Sequence[str]) -> _Steps:
     return steps
 
 
-def _worth_of(steps: _Steps, values: Sequence[int]) -> int:
+def worth_of(steps: Steps, values: Sequence[int]) -> int:
     """What a term is worth at the values of its arguments."""
     known: list[int] = []
     for what, number in steps:
@@ -403,7 +403,7 @@ def _worth_of(steps: _Steps, values: Sequence[int]) -> int:
 
 
 @dataclass
-class _Argument:
+class Argument:
     """An argument of an alternative: a rule, a literal, or letters of a class in a number between two bounds."""
 
     rule: str | None = None
@@ -418,12 +418,12 @@ class _Argument:
 
 
 @dataclass
-class _Alternative:
+class Alternative:
     """An alternative of a rule: its sign, its arguments, and how many letters it may cover."""
 
     rule: str
     sign: str
-    arguments: list[_Argument]
+    arguments: list[Argument]
     low: int = 0
     high: int | None = None
 
@@ -434,11 +434,12 @@ class Job:
 
     def __init__(self, text: str) -> None:
         self.axiom = ""
-        self.rules: dict[str, list[_Alternative]] = {}
-        self._classes: dict[str, dict[str, int]] = {}
-        self._terms: dict[str, dict[str, _Steps]] = {}
-        self._is_least: dict[str, bool] = {}
-        self._by_sign: dict[str, list[_Alternative]] = {}
+        self.words = _words_of(text)
+        self.rules: dict[str, list[Alternative]] = {}
+        self.classes: dict[str, dict[str, int]] = {}
+        self.terms: dict[str, dict[str, Steps]] = {}
+        self.is_least: dict[str, bool] = {}
+        self._by_sign: dict[str, list[Alternative]] = {}
         self._hidden_rules = 0
         readers = {"class": self._read_class, "algebra": self._read_algebra, "let": self._read_let,
                    "rule": self._read_rule, "grammar": self._read_grammar}
@@ -450,18 +451,18 @@ class Job:
                     readers[tokens[0][0]](tokens)
                 except (IndexError, KeyError, ValueError) as error:
                     raise Malformed(f"this line of the job cannot be read: {line[:60]!r}") from error
-        if not self.axiom or not self._terms:
+        if not self.axiom or not self.terms:
             raise Malformed("this is no job: no line says its grammar, or no algebra")
 
     @property
     def algebras(self) -> list[str]:
         """The names of the algebras, in order."""
-        return list(self._terms)
+        return list(self.terms)
 
     @property
     def signs(self) -> list[str]:
         """The names of the signs, as the first algebra has them."""
-        return list(next(iter(self._terms.values())))
+        return list(next(iter(self.terms.values())))
 
     @staticmethod
     def _tokens(line: str) -> list[tuple[str, bool]]:
@@ -473,7 +474,7 @@ class Job:
         return found
 
     def _read_class(self, tokens: list[tuple[str, bool]]) -> None:
-        weights = self._classes.setdefault(tokens[1][0], {})
+        weights = self.classes.setdefault(tokens[1][0], {})
         at = 3
         while at < len(tokens):
             is_less = tokens[at + 1][0] == "-"
@@ -482,14 +483,14 @@ class Job:
             at += 2 + is_less
 
     def _read_algebra(self, tokens: list[tuple[str, bool]]) -> None:
-        self._terms[tokens[1][0]] = {}
-        self._is_least[tokens[1][0]] = tokens[2][0] == "min"
+        self.terms[tokens[1][0]] = {}
+        self.is_least[tokens[1][0]] = tokens[2][0] == "min"
 
     def _read_let(self, tokens: list[tuple[str, bool]]) -> None:
         words = [text for text, _ in tokens]
         close = words.index(")")
         variables = [word for word in words[3:close] if word != ","]
-        next(reversed(self._terms.values()))[words[1]] = _steps(words[close + 2 :], variables)
+        next(reversed(self.terms.values()))[words[1]] = _steps(words[close + 2 :], variables)
 
     def _read_rule(self, tokens: list[tuple[str, bool]]) -> None:
         at = 3
@@ -499,7 +500,7 @@ class Job:
                 at = self._read_size(tokens, at + 2, alternative)
             at += 1
 
-    def _read_alternative(self, tokens: list[tuple[str, bool]], at: int) -> tuple[_Alternative, int]:
+    def _read_alternative(self, tokens: list[tuple[str, bool]], at: int) -> tuple[Alternative, int]:
         """An alternative from a place of the tokens on, and the place behind it. One that stands as an argument is that
         of a hidden rule."""
         whole = self._added(tokens[1][0], tokens[at][0])
@@ -509,7 +510,7 @@ class Job:
             if tokens[at + 1] == ("(", False):
                 self._hidden_rules += 1
                 inner = self._added(f"h_{self._hidden_rules}", tokens[at][0])
-                unfinished[-1].arguments.append(_Argument(rule=inner.rule))
+                unfinished[-1].arguments.append(Argument(rule=inner.rule))
                 unfinished.append(inner)
                 at += 2
                 continue
@@ -522,14 +523,14 @@ class Job:
             at += bool(unfinished)
         return whole, at
 
-    def _added(self, rule: str, sign: str) -> _Alternative:
-        alternative = _Alternative(rule, sign, [])
+    def _added(self, rule: str, sign: str) -> Alternative:
+        alternative = Alternative(rule, sign, [])
         self._by_sign.setdefault(sign, []).append(alternative)
         self.rules.setdefault(rule, []).append(alternative)
         return alternative
 
     @staticmethod
-    def _read_size(tokens: list[tuple[str, bool]], at: int, alternative: _Alternative) -> int:
+    def _read_size(tokens: list[tuple[str, bool]], at: int, alternative: Alternative) -> int:
         alternative.low = int(tokens[at][0])
         if at + 2 >= len(tokens) or tokens[at + 2][0] == "|":
             return at + 2
@@ -540,29 +541,29 @@ class Job:
         self.axiom = tokens[1][0]
 
     @staticmethod
-    def _argument(tokens: list[tuple[str, bool]], at: int) -> tuple[_Argument, int]:
+    def _argument(tokens: list[tuple[str, bool]], at: int) -> tuple[Argument, int]:
         text, is_quoted = tokens[at]
         if is_quoted:
-            return _Argument(literal=text), at + 1
+            return Argument(literal=text), at + 1
         if text != "[":
-            return _Argument(rule=text), at + 1
+            return Argument(rule=text), at + 1
         close = tokens.index(("]", False), at)
         name, *bounds = (word for word, _ in tokens[at + 1 : close])
         if not bounds:
-            return _Argument(letters=name), close + 1
-        return _Argument(letters=name, low=int(bounds[0]), high=int(bounds[2]) if len(bounds) > 2 else None), close + 1
+            return Argument(letters=name), close + 1
+        return Argument(letters=name, low=int(bounds[0]), high=int(bounds[2]) if len(bounds) > 2 else None), close + 1
 
-    def _worth(self, letters: str, argument: _Argument) -> int | None:
+    def _worth(self, letters: str, argument: Argument) -> int | None:
         """What letters are worth as an argument; nothing where they do not match."""
         if argument.literal is not None:
             return 0 if letters == argument.literal else None
-        weights = self._classes.get(argument.letters)
+        weights = self.classes.get(argument.letters)
         if weights is None or len(letters) < argument.low or (argument.high or len(letters)) < len(letters):
             return None
         found = [weights.get(letter) for letter in letters]
         return None if None in found else sum(weight for weight in found if weight is not None)
 
-    def _value(self, place: list[Any], arguments: list[_Argument], term: _Steps, at: int) -> int | None:
+    def _value(self, place: list[Any], arguments: list[Argument], term: Steps, at: int) -> int | None:
         """The score of a node in one of the algebras, from those of its parts."""
         values = []
         for part, argument in zip(place, arguments):
@@ -574,7 +575,7 @@ class Job:
             if value is None:
                 return None
             values.append(value)
-        return _worth_of(term, values)
+        return worth_of(term, values)
 
     def scores(self, tree: Node, *algebras: str) -> list[Score] | None:
         """The score of each node of a tree, in preorder, by an algebra (the first one, where none is named), or by
@@ -608,17 +609,17 @@ class Job:
         return found
 
     def _derivation(self, tree: Node,
-                    algebras: tuple[str, ...]) -> list[tuple[tuple[int, ...], list[_Argument]]] | None:
+                    algebras: tuple[str, ...]) -> list[tuple[tuple[int, ...], list[Argument]]] | None:
         """Of each node of a tree, in preorder, its scores and the arguments of its alternative."""
         names = algebras or (self.algebras[0],)
         for name in names:
-            if name not in self._terms:
+            if name not in self.terms:
                 raise Malformed(f"the job has no algebra {name}")
         stands = places(tree)
         nodes = [it.node for it in stands]
         number = {id(node): at for at, node in enumerate(nodes)}
         # of each node its best scores under each rule that derives it, with the alternative's arguments
-        best: list[dict[str, tuple[tuple[int, ...], list[_Argument]]]] = [{} for _ in nodes]
+        best: list[dict[str, tuple[tuple[int, ...], list[Argument]]]] = [{} for _ in nodes]
         for at in range(len(nodes) - 1, -1, -1):
             node = nodes[at]
             parts = [part if isinstance(part, str) else best[number[id(part)]] for part in node.parts]
@@ -627,7 +628,7 @@ class Job:
                 rule, arguments, most = alternative.rule, alternative.arguments, alternative.high
                 if len(arguments) != len(parts) or length < alternative.low or (most is not None and most < length):
                     continue
-                values = [self._value(parts, arguments, self._terms[name][node.sign], place)
+                values = [self._value(parts, arguments, self.terms[name][node.sign], place)
                           for place, name in enumerate(names)]
                 if None in values:
                     continue
@@ -645,13 +646,13 @@ class Job:
         return self._order(names, pair[0]) < self._order(names, pair[1])
 
     def _order(self, names: Sequence[str], values: tuple[int, ...]) -> list[int]:
-        return [value if self._is_least[name] else -value for name, value in zip(names, values)]
+        return [value if self.is_least[name] else -value for name, value in zip(names, values)]
 
     def _told(self, nodes: list[Node], number: dict[int, int],
-              best: list[dict[str, Any]]) -> list[tuple[tuple[int, ...], list[_Argument]]] | None:
+              best: list[dict[str, Any]]) -> list[tuple[tuple[int, ...], list[Argument]]] | None:
         """What is known of all nodes, by the rule that each one has under the one above it."""
         rules: list[Any] = [self.axiom] + [None] * (len(nodes) - 1)
-        told: list[tuple[tuple[int, ...], list[_Argument]]] = []
+        told: list[tuple[tuple[int, ...], list[Argument]]] = []
         for at, node in enumerate(nodes):
             found = best[at].get(rules[at])
             if found is None:
@@ -714,11 +715,16 @@ def _with_words(text: str, words: Iterable[str]) -> str:
     return front + "".join(_line(word) + "\n" for word in _listed(words))
 
 
-def _count_words(text: str) -> int:
-    """How many words stand behind the header of a job."""
+def _words_of(text: str) -> list[str]:
+    """The words that stand behind the header of a job."""
     found = _WORDS_LINE.search(text, text.find("\n") + 1)
-    behind = "" if found is None else text[found.end() + 1 :]
-    return behind.count("\n") + (behind != "" and not behind.endswith("\n"))
+    lines = [] if found is None else text[found.end() + 1 :].split("\n")
+    return [line.removesuffix("\r") for line in lines[: len(lines) - (lines[-1:] == [""])]]
+
+
+def _count_words(text: str) -> int:
+    """How many they are."""
+    return len(_words_of(text))
 
 
 def _launchers() -> list[str]:
