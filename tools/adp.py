@@ -35,8 +35,8 @@ from itertools import chain
 from typing import Any, Union
 
 __version__ = "1.3"
-__all__ = ["Candidate", "Fault", "Job", "Malformed", "Node", "Place", "Report", "find_program", "named", "places",
-           "quoted", "read_reports", "read_tree", "record_of", "solve", "solve_big", "solve_many",
+__all__ = ["Candidate", "Fault", "Job", "Malformed", "Node", "Place", "Report", "find_program", "letter_parts", "named",
+           "places", "quoted", "read_reports", "read_tree", "record_of", "solve", "solve_big", "solve_many",
            "write_job"]
 
 # (by the mode `lex` the scores of two algebras)
@@ -196,9 +196,9 @@ class _Mark(str):
 
 @dataclass
 class Candidate:
-    """A tree of a list, and its score."""
+    """A tree of a list, and its score; two scores where `tools/two-wishes` took them apart."""
 
-    score: int
+    score: Score
     tree: Node
 
 
@@ -265,6 +265,24 @@ def places(tree: Node) -> list[Place]:
         else:
             found[part].end = at
     return found
+
+
+def letter_parts(found: Sequence[Place]) -> list[list[tuple[int, int, int]]]:
+    """Of each node, as `places` tells them, the parts that are letters and not empty: the place of each among the
+    parts, and where in the word it begins and ends."""
+    ends: list[list[int]] = [[] for _ in found]
+    for place in found[1:]:
+        ends[place.parent or 0].append(place.end)
+    told: list[list[tuple[int, int, int]]] = []
+    for place, below in zip(found, map(iter, ends)):
+        at, own = place.start, []
+        for number, part in enumerate(place.node.parts):
+            end = next(below) if isinstance(part, Node) else at + len(part)
+            if isinstance(part, str) and part:
+                own.append((number, at, end))
+            at = end
+        told.append(own)
+    return told
 
 
 def quoted(letters: str) -> str:
@@ -344,9 +362,9 @@ def read_reports(text: str | Iterable[str]) -> Iterator[Report]:
 
 def _list_of(word: int, found: Sequence[tuple[Score, Node]], count: int) -> Report:
     """The report of a word whose first trees are listed."""
-    listed = [Candidate(score, tree) for score, tree in found if isinstance(score, int)]
-    if len(listed) != len(found) or count != len(found):
-        raise Malformed(f"word {word}: {len(found)} trees stand there, and {count} are told, each of one score")
+    listed = [Candidate(score, tree) for score, tree in found]
+    if count != len(found):
+        raise Malformed(f"word {word}: {len(found)} trees stand there, and {count} are told")
     first = listed[0] if listed else None
     return Report(word, first and first.score, first and first.tree, 0, listed=listed)
 
@@ -414,12 +432,12 @@ _SIZE = re.compile(r"\) *with +size\b[^\")]*$")
 _TIGHTNESS = {"+": 1, "-": 1, "*": 2}
 
 # The steps of a term, its sides before each operation: a number, the value of the argument of a number, an operation.
-_Steps = list["tuple[str, int]"]
+Steps = list["tuple[str, int]"]
 
 
-def _steps(words: Sequence[str], variables: Sequence[str]) -> _Steps:
+def _steps(words: Sequence[str], variables: Sequence[str]) -> Steps:
     """The steps of a term of either format."""
-    steps: _Steps = []
+    steps: Steps = []
     waiting: list[str] = []
 
     def reduce(least: int) -> None:
@@ -449,7 +467,7 @@ def _steps(words: Sequence[str], variables: Sequence[str]) -> _Steps:
     return steps
 
 
-def _worth_of(steps: _Steps, values: Sequence[int]) -> int:
+def worth_of(steps: Steps, values: Sequence[int]) -> int:
     """What a term is worth at the values of its arguments."""
     known: list[int] = []
     for what, number in steps:
@@ -465,7 +483,7 @@ def _worth_of(steps: _Steps, values: Sequence[int]) -> int:
 
 
 @dataclass
-class _Argument:
+class Argument:
     """An argument of an alternative: a rule, a literal, or letters of a class in a number between two bounds."""
 
     rule: str | None = None
@@ -474,13 +492,18 @@ class _Argument:
     low: int = 1
     high: int | None = 1
 
+    def is_spelled(self, or_one_letter: bool) -> bool:
+        """Whether it is a literal, or, where that is asked for, one letter of a class."""
+        return self.literal is not None or (or_one_letter and self.rule is None and self.low == self.high == 1)
+
 
 @dataclass
-class _Alternative:
-    """An alternative of a rule: its arguments, and how many letters it may cover."""
+class Alternative:
+    """An alternative of a rule: its sign, its arguments, and how many letters it may cover."""
 
     rule: str
-    arguments: list[_Argument]
+    sign: str
+    arguments: list[Argument]
     low: int = 0
     high: int | None = None
 
@@ -491,10 +514,12 @@ class Job:
 
     def __init__(self, text: str) -> None:
         self.axiom = ""
-        self._classes: dict[str, dict[str, int]] = {}
-        self._terms: dict[str, dict[str, _Steps]] = {}
-        self._is_least: dict[str, bool] = {}
-        self._by_sign: dict[str, list[_Alternative]] = {}
+        self.words = _words_of(text)
+        self.rules: dict[str, list[Alternative]] = {}
+        self.classes: dict[str, dict[str, int]] = {}
+        self.terms: dict[str, dict[str, Steps]] = {}
+        self.is_least: dict[str, bool] = {}
+        self._by_sign: dict[str, list[Alternative]] = {}
         self._hidden_rules = 0
         readers = {"class": self._read_class, "algebra": self._read_algebra, "let": self._read_let,
                    "rule": self._read_rule, "grammar": self._read_grammar}
@@ -506,13 +531,18 @@ class Job:
                     readers[tokens[0][0]](tokens)
                 except (IndexError, KeyError, ValueError) as error:
                     raise Malformed(f"this line of the job cannot be read: {line[:60]!r}") from error
-        if not self.axiom or not self._terms:
+        if not self.axiom or not self.terms:
             raise Malformed("this is no job: no line says its grammar, or no algebra")
 
     @property
     def algebras(self) -> list[str]:
         """The names of the algebras, in order."""
-        return list(self._terms)
+        return list(self.terms)
+
+    @property
+    def signs(self) -> list[str]:
+        """The names of the signs, as the first algebra has them."""
+        return list(next(iter(self.terms.values())))
 
     @staticmethod
     def _tokens(line: str) -> list[tuple[str, bool]]:
@@ -524,7 +554,7 @@ class Job:
         return found
 
     def _read_class(self, tokens: list[tuple[str, bool]]) -> None:
-        weights = self._classes.setdefault(tokens[1][0], {})
+        weights = self.classes.setdefault(tokens[1][0], {})
         at = 3
         while at < len(tokens):
             is_less = tokens[at + 1][0] == "-"
@@ -533,14 +563,14 @@ class Job:
             at += 2 + is_less
 
     def _read_algebra(self, tokens: list[tuple[str, bool]]) -> None:
-        self._terms[tokens[1][0]] = {}
-        self._is_least[tokens[1][0]] = tokens[2][0] == "min"
+        self.terms[tokens[1][0]] = {}
+        self.is_least[tokens[1][0]] = tokens[2][0] == "min"
 
     def _read_let(self, tokens: list[tuple[str, bool]]) -> None:
         words = [text for text, _ in tokens]
         close = words.index(")")
         variables = [word for word in words[3:close] if word != ","]
-        next(reversed(self._terms.values()))[words[1]] = _steps(words[close + 2 :], variables)
+        next(reversed(self.terms.values()))[words[1]] = _steps(words[close + 2 :], variables)
 
     def _read_rule(self, tokens: list[tuple[str, bool]]) -> None:
         at = 3
@@ -550,7 +580,7 @@ class Job:
                 at = self._read_size(tokens, at + 2, alternative)
             at += 1
 
-    def _read_alternative(self, tokens: list[tuple[str, bool]], at: int) -> tuple[_Alternative, int]:
+    def _read_alternative(self, tokens: list[tuple[str, bool]], at: int) -> tuple[Alternative, int]:
         """An alternative from a place of the tokens on, and the place behind it. One that stands as an argument is that
         of a hidden rule."""
         whole = self._added(tokens[1][0], tokens[at][0])
@@ -560,7 +590,7 @@ class Job:
             if tokens[at + 1] == ("(", False):
                 self._hidden_rules += 1
                 inner = self._added(f"h_{self._hidden_rules}", tokens[at][0])
-                unfinished[-1].arguments.append(_Argument(rule=inner.rule))
+                unfinished[-1].arguments.append(Argument(rule=inner.rule))
                 unfinished.append(inner)
                 at += 2
                 continue
@@ -573,13 +603,14 @@ class Job:
             at += bool(unfinished)
         return whole, at
 
-    def _added(self, rule: str, sign: str) -> _Alternative:
-        alternative = _Alternative(rule, [])
+    def _added(self, rule: str, sign: str) -> Alternative:
+        alternative = Alternative(rule, sign, [])
         self._by_sign.setdefault(sign, []).append(alternative)
+        self.rules.setdefault(rule, []).append(alternative)
         return alternative
 
     @staticmethod
-    def _read_size(tokens: list[tuple[str, bool]], at: int, alternative: _Alternative) -> int:
+    def _read_size(tokens: list[tuple[str, bool]], at: int, alternative: Alternative) -> int:
         alternative.low = int(tokens[at][0])
         if at + 2 >= len(tokens) or tokens[at + 2][0] == "|":
             return at + 2
@@ -590,29 +621,29 @@ class Job:
         self.axiom = tokens[1][0]
 
     @staticmethod
-    def _argument(tokens: list[tuple[str, bool]], at: int) -> tuple[_Argument, int]:
+    def _argument(tokens: list[tuple[str, bool]], at: int) -> tuple[Argument, int]:
         text, is_quoted = tokens[at]
         if is_quoted:
-            return _Argument(literal=text), at + 1
+            return Argument(literal=text), at + 1
         if text != "[":
-            return _Argument(rule=text), at + 1
+            return Argument(rule=text), at + 1
         close = tokens.index(("]", False), at)
         name, *bounds = (word for word, _ in tokens[at + 1 : close])
         if not bounds:
-            return _Argument(letters=name), close + 1
-        return _Argument(letters=name, low=int(bounds[0]), high=int(bounds[2]) if len(bounds) > 2 else None), close + 1
+            return Argument(letters=name), close + 1
+        return Argument(letters=name, low=int(bounds[0]), high=int(bounds[2]) if len(bounds) > 2 else None), close + 1
 
-    def _worth(self, letters: str, argument: _Argument) -> int | None:
+    def _worth(self, letters: str, argument: Argument) -> int | None:
         """What letters are worth as an argument; nothing where they do not match."""
         if argument.literal is not None:
             return 0 if letters == argument.literal else None
-        weights = self._classes.get(argument.letters)
+        weights = self.classes.get(argument.letters)
         if weights is None or len(letters) < argument.low or (argument.high or len(letters)) < len(letters):
             return None
         found = [weights.get(letter) for letter in letters]
         return None if None in found else sum(weight for weight in found if weight is not None)
 
-    def _value(self, place: list[Any], arguments: list[_Argument], term: _Steps, at: int) -> int | None:
+    def _value(self, place: list[Any], arguments: list[Argument], term: Steps, at: int) -> int | None:
         """The score of a node in one of the algebras, from those of its parts."""
         values = []
         for part, argument in zip(place, arguments):
@@ -624,21 +655,51 @@ class Job:
             if value is None:
                 return None
             values.append(value)
-        return _worth_of(term, values)
+        return worth_of(term, values)
 
     def scores(self, tree: Node, *algebras: str) -> list[Score] | None:
         """The score of each node of a tree, in preorder, by an algebra (the first one, where none is named), or by
         several of which the later ones judge what is equal by those before; None where the job derives no such tree.
         """
+        found = self._derivation(tree, algebras)
+        return None if found is None else [it if len(it) > 1 else it[0] for it, _ in found]
+
+    def pairs(self, tree: Node, *algebras: str, signs: Iterable[str] = (),
+              without: Iterable[str] = ()) -> list[tuple[int, int]] | None:
+        """The places of the letters that nodes pair, from 0; None where the job derives no such tree, by an algebra
+        (the first one, where none is named). A node pairs its first letters with its last ones where its rule spells
+        both and they are equally many; where `signs` are named those alone do, and a letter of a class is paired as a
+        letter is that the rule spells. Signs of `without` pair nothing."""
+        named, left_out = set(signs), set(without)
+        unknown = (named | left_out).difference(self.signs)
+        if unknown:
+            raise Malformed(f"the job has no sign {min(unknown)}")
+        derived = self._derivation(tree, algebras)
+        if derived is None:
+            return None
+        found: list[tuple[int, int]] = []
+        stands = places(tree)
+        for it, own, (_, arguments) in zip(stands, letter_parts(stands), derived):
+            if it.node.sign in left_out or (named and it.node.sign not in named) or len(own) < 2:
+                continue
+            (first, start, end), (last, back, behind) = own[0], own[-1]
+            is_spelled = all(arguments[at].is_spelled(bool(named)) for at in (first, last))
+            if is_spelled and end - start == behind - back:
+                found += zip(range(start, end), range(behind - 1, back - 1, -1))
+        return found
+
+    def _derivation(self, tree: Node,
+                    algebras: tuple[str, ...]) -> list[tuple[tuple[int, ...], list[Argument]]] | None:
+        """Of each node of a tree, in preorder, its scores and the arguments of its alternative."""
         names = algebras or (self.algebras[0],)
         for name in names:
-            if name not in self._terms:
+            if name not in self.terms:
                 raise Malformed(f"the job has no algebra {name}")
         stands = places(tree)
         nodes = [it.node for it in stands]
         number = {id(node): at for at, node in enumerate(nodes)}
         # of each node its best scores under each rule that derives it, with the alternative's arguments
-        best: list[dict[str, tuple[tuple[int, ...], list[_Argument]]]] = [{} for _ in nodes]
+        best: list[dict[str, tuple[tuple[int, ...], list[Argument]]]] = [{} for _ in nodes]
         for at in range(len(nodes) - 1, -1, -1):
             node = nodes[at]
             parts = [part if isinstance(part, str) else best[number[id(part)]] for part in node.parts]
@@ -647,7 +708,7 @@ class Job:
                 rule, arguments, most = alternative.rule, alternative.arguments, alternative.high
                 if len(arguments) != len(parts) or length < alternative.low or (most is not None and most < length):
                     continue
-                values = [self._value(parts, arguments, self._terms[name][node.sign], place)
+                values = [self._value(parts, arguments, self.terms[name][node.sign], place)
                           for place, name in enumerate(names)]
                 if None in values:
                     continue
@@ -655,7 +716,7 @@ class Job:
                 known = best[at].get(rule)
                 if known is None or self._order(names, found) < self._order(names, known[0]):
                     best[at][rule] = found, arguments
-        return self._told(nodes, number, best, len(names) == 1)
+        return self._told(nodes, number, best)
 
     def is_better(self, one: Score, other: Score, *algebras: str) -> bool:
         """Whether a score is better than another one, by an algebra (the first one, where none is named), or by several
@@ -665,22 +726,22 @@ class Job:
         return self._order(names, pair[0]) < self._order(names, pair[1])
 
     def _order(self, names: Sequence[str], values: tuple[int, ...]) -> list[int]:
-        return [value if self._is_least[name] else -value for name, value in zip(names, values)]
+        return [value if self.is_least[name] else -value for name, value in zip(names, values)]
 
-    def _told(self, nodes: list[Node], number: dict[int, int], best: list[dict[str, Any]],
-              is_one: bool) -> list[Score] | None:
-        """The scores of all nodes, by the rule that each one has under the one above it."""
+    def _told(self, nodes: list[Node], number: dict[int, int],
+              best: list[dict[str, Any]]) -> list[tuple[tuple[int, ...], list[Argument]]] | None:
+        """What is known of all nodes, by the rule that each one has under the one above it."""
         rules: list[Any] = [self.axiom] + [None] * (len(nodes) - 1)
-        scores: list[Score] = []
+        told: list[tuple[tuple[int, ...], list[Argument]]] = []
         for at, node in enumerate(nodes):
             found = best[at].get(rules[at])
             if found is None:
                 return None
-            scores.append(found[0][0] if is_one else found[0])
+            told.append(found)
             for part, argument in zip(node.parts, found[1]):
                 if isinstance(part, Node):
                     rules[number[id(part)]] = argument.rule
-        return scores
+        return told
 
 
 def _line(text: str) -> str:
@@ -754,10 +815,15 @@ def _with_words(text: str, words: Iterable[str]) -> str:
     return _header(text) + own + "\n" * (own != "" and own[-1] != "\n") + "".join(f"{it}\n" for it in _listed(words))
 
 
+def _words_of(text: str) -> list[str]:
+    """The words that stand behind the header of a job."""
+    lines = text[_header_end(text) :].split("\n")
+    return [line.removesuffix("\r") for line in lines[: len(lines) - (lines[-1:] == [""])]]
+
+
 def _count_words(text: str) -> int:
-    """How many words stand behind the header of a job."""
-    behind = text[_header_end(text) :]
-    return behind.count("\n") + (behind != "" and not behind.endswith("\n"))
+    """How many they are."""
+    return len(_words_of(text))
 
 
 def _launchers() -> list[str]:

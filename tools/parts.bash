@@ -1,16 +1,17 @@
 # What tools/test and the gate share: parts, which count what passes and fails. To be read by `.`, in bash.
 #
-# `room` is a folder that is gone at the end; `passed` and `failed` are the counts so far, `skipped` what was not tried,
-# for want of something.
+# `room` is a folder that is gone at the end, and the one for the temporary files of all parts; `passed` and `failed` are
+# the counts so far, `skipped` what was not tried, for want of something; `begun` of `parts` parts have begun.
 
-passed=0 failed=0 skipped=()
+passed=0 failed=0 skipped=() begun=0
 room=$(mktemp -d) || exit 1
+mkdir "$room/temporary" && export TMPDIR=$room/temporary || exit 1
 trap 'rm -rf "$room"' EXIT
 trap 'exit 1' INT TERM HUP
 
-# Says what a part tries.
+# Says what a part tries, and how far all is.
 heading() {
-  printf '\n-- %s: %s\n' "$1" "$2"
+  printf '\n-- %s of %s, after %s s: %s: %s\n' $((begun += 1)) "$parts" $SECONDS "$1" "$2"
 }
 
 # Says that something is not tried, and why.
