@@ -20,7 +20,7 @@ usage: adp MODE [OPTION VALUE].. [--explain] [FILE]..
 
 modes
   best               the report of each word of the job, by evaluators that share one table
-  serial             the same bytes, by one sweep over each word
+  serial             the same bytes, by one sweep over each word: most often the quickest, in the least memory
   wins               as best, and behind each report how many answers each evaluator put into the table
   replay             as wins, with evaluators that are stepped one by one, in the order of a schedule
   lex                the best by one algebra and, among equals, by a second one; as best, with both scores; of jobs in
@@ -67,6 +67,7 @@ a terminal a run of more than two seconds shows there at which word it is, and f
 
 How to write a job: docs/GUIDE.md, and exactly: docs/FORMAT.md. Jobs to begin with: jobs/, as ./adp best jobs/bar.adp
 Reports as JSON, trees, DOT or SVG: tools/report. A page that draws them: tools/view.html, opened in a browser.
+Words from a CSV table, and reports as one: tools/table. Words without end: tools/spread.
 The longest word that a job admits: tools/longest. Words from FASTA files: tools/fasta. From Python: tools/adp.py.
 A second opinion on a certificate, without this program: tools/check-certificate.
 All of this as a page: man -l docs/adp.1

@@ -1,7 +1,7 @@
 """What pip calls to install the module `adp` from the checkout (pyproject.toml). It needs nothing but Python.
 
-The package has the module, its types, and below `lib` the launcher with the program, where one was built from these
-sources; what `tools/longest` and `--explain` need stands there too. The same files give the same wheel, byte for byte.
+The package has the module, its types, the command `adp`, and below `lib` the launcher with the program, where one was
+built from these sources; what `tools/longest` and `--explain` need stands there too. The same files give the same wheel, byte for byte.
 """
 import base64
 import hashlib
@@ -51,6 +51,7 @@ def _write(folder, tag, contents):
                                     "Requires-Python: >=3.10\n").encode(), False
     contents[f"{info}/WHEEL"] = (f"Wheel-Version: 1.0\nGenerator: tools/pip_wheel.py\nRoot-Is-Purelib: {is_pure}\n"
                                  f"Tag: {tag}\n").encode(), False
+    contents[f"{info}/entry_points.txt"] = b"[console_scripts]\nadp = adp:main\n", False
     lines = []
     for name, (content, _) in contents.items():
         digest = base64.urlsafe_b64encode(hashlib.sha256(content).digest()).rstrip(b"=").decode()
@@ -73,6 +74,7 @@ def build_wheel(wheel_directory, config_settings=None, metadata_directory=None):
         path = os.path.join(TOP, path)
         with open(path, "rb") as file:
             contents[name] = file.read(), os.access(path, os.X_OK)
+    contents["adp/__main__.py"] = b"import sys\n\nfrom adp import main\n\nsys.exit(main())\n", False
     tag = "py3-none-linux_x86_64" if "adp/lib/adp" in contents else "py3-none-any"
     return _write(wheel_directory, tag, contents)
 
