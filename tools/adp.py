@@ -28,8 +28,8 @@ from dataclasses import dataclass, field
 from typing import Any, Union
 
 __version__ = "1.3"
-__all__ = ["Candidate", "Fault", "Job", "Malformed", "Node", "Place", "Report", "find_program", "letter_parts", "places",
-           "quoted", "read_reports", "read_tree", "record_of", "solve", "solve_big", "write_job"]
+__all__ = ["Candidate", "Fault", "Job", "Malformed", "Node", "Place", "Report", "find_program", "letter_parts",
+           "places", "quoted", "read_reports", "read_tree", "record_of", "solve", "solve_big", "write_job"]
 
 # (by the mode `lex` the scores of two algebras)
 Score = Union[int, "tuple[int, ...]"]
