@@ -838,6 +838,19 @@ def find_program() -> str:
     return os.environ.get("ADP") or [*_launchers(), "adp"][0]
 
 
+def called() -> str:
+    """The name by which this tool is called: one that is installed has another than in the checkout."""
+    name = os.path.basename(sys.argv[0])
+    return name if name.startswith("adp-") else f"tools/{name}"
+
+
+def as_called(text: str) -> str:
+    """A text that names the commands of the checkout as they are called here."""
+    if called().startswith("tools/"):
+        return text
+    return re.sub(r"\btools/([a-z-]+)\b(?!\.[a-z])", r"adp-\1", text).replace("./adp ", "adp ")
+
+
 def started_by(command: str) -> str:
     """What is started for a command: the program itself, where the command is a launcher that is installed with it; in
     a checkout the launcher, which looks whether the program is that of the sources."""
