@@ -6,6 +6,7 @@ use Rattle.std.specs.Io.KnownBytes.{Appends}
 use Rattle.verdicts.specs.declared.command.Mode.TheVariants.{Cert, Verify}
 use Rattle.verdicts.specs.CheckableJobs.{IsCheckableInput}
 use Rattle.verdicts.specs.Command.{Command, IsCommand}
+use Rattle.verdicts.specs.OneAlgebra.{NameOneAlgebra}
 use Rattle.verdicts.specs.Verdict.{Verdict, IsVerdict, greatest_length}
 use Rattle.verdicts.specs.Verdict as verdicts
 use Rattle.adp_main.specs.declared.status.Status.{Status}
@@ -17,7 +18,8 @@ use Rattle.adp_main.specs.Ending.{IsOfVerdict, ShowsVerdict, verdict_reports, ve
 abbrev pub WrittenAreAccepted : Type 0
 WrittenAreAccepted = (words others : List (List ℕ)) (bytes : List ℕ) (pieces : List (List ℕ)) (command other : Command)
     → IsCommand words command → command.mode ≡ Cert → IsCommand others other → other.mode ≡ Verify
-    → other.algebra ≡ command.algebra → IsCheckableInput words bytes → length (concat pieces) ≤ greatest_length
+    → NameOneAlgebra command other (concat pieces) → IsCheckableInput words bytes
+    → length (concat pieces) ≤ greatest_length
     → IsVerdict words bytes (verdicts.Reports pieces)
     → (reports : List (List ℕ)) × IsVerdict others (concat pieces) (verdicts.Reports reports)
 
@@ -36,13 +38,14 @@ reports_of (verdicts.Reports reports) e = refl
 
 written_accepted : WrittenAreAccepted → (words : List (List ℕ)) (bytes : List ℕ) → IsCheckableInput words bytes
     → (old new : Option (List ℕ)) → ShowsVerdict words bytes Done old new → WritesAccepted words old new
-written_accepted law words bytes checks old new shows = λ command before text is certifies began ended short others other other_is verifies same.
+written_accepted law words bytes checks old new shows = λ command before text is certifies began ended short others other other_is verifies one.
     let pieces : List (List ℕ) = verdict_reports shows.verdict in
     let grown : Appends (Some before) (Some (before ++ text)) (concat pieces) =
     subst (λ (held : Option (List ℕ) × Option (List ℕ)). Appends held.0 held.1 (concat pieces))
     (λ i. (began i, ended i)) shows.written in
     let whole : text ≡ concat pieces = append_cancel_left before text (concat pieces) grown in
-    let found = law words others bytes pieces command other is certifies other_is verifies same checks
+    let found = law words others bytes pieces command other is certifies other_is verifies
+    (subst (NameOneAlgebra command other) whole one) checks
     (subst (λ (x : List ℕ). length x ≤ greatest_length) whole short)
     (subst (IsVerdict words bytes) (reports_of shows.verdict shows.status_is) shows.is_verdict) in
     (found.0, subst (λ (x : List ℕ). IsVerdict others x (verdicts.Reports found.0)) (sym whole) found.1)

@@ -368,10 +368,10 @@ runs_left : (words : List (List ℕ)) (left : Option (List ℕ)) (came bytes : L
     → ShowsRuns words (Some bytes) status old new held held' → ShowsRuns words left status old new held held'
 runs_left words left came bytes status old new held held' whole same (inl none) = inl none
 runs_left words left came bytes status old new held held' whole same (inr (inr made)) = inr (inr made)
-runs_left words None came bytes status old new held held' whole same (inr (inl (all, is, runs))) =
-    inr (inl (all, tt, runs))
-runs_left words (Some told) came bytes status old new held held' whole same (inr (inl (all, is, runs))) =
-    inr (inl (all, is ∙ same ∙ whole, runs))
+runs_left words None came bytes status old new held held' whole same (inr (inl (finds, all, is, runs))) =
+    inr (inl (finds, all, tt, runs))
+runs_left words (Some told) came bytes status old new held held' whole same (inr (inl (finds, all, is, runs))) =
+    inr (inl (finds, all, is ∙ same ∙ whole, runs))
 
 -- the words are taken, the input is read, and then the reports are written
 pub ends : {S K G : Type 0} (left : S → Option (List ℕ)) (read_faults : S → ℕ) (calls asked : S → Option ℕ)

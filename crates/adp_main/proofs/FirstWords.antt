@@ -7,6 +7,7 @@ use Rattle.std.proofs.Math.Seq.{take-nil}
 use Rattle.std.proofs.lemmas.List.{append-nil, take_more, length-take-le, take-append-le, get_or_append_left, get_or-drop, get_or-map, get_or_default, length-map, drop-map}
 use Rattle.std.proofs.lemmas.List.Folds.{concat-append}
 use Rattle.std.proofs.lemmas.List.Sums.{sum_by_push}
+use Rattle.adp_model.specs.Bounds.{IsNodeBound}
 use Rattle.adp_model.specs.Cells.{IsCellBound}
 use Rattle.adp_model.specs.PosedProblem.{PosedProblem}
 use Rattle.adp_model.specs.declared.grammar.Grammar.{Grammar}
@@ -25,7 +26,7 @@ use Rattle.adp_main.specs.declared.status.Status.TheVariants.{Done}
 use Rattle.adp_main.specs.declared.lex.Compiled.{Compiled}
 use Rattle.adp_main.specs.Faults.{status_of}
 use Rattle.adp_main.specs.FirstWords.{AreFirstEnding, AreReported, IsReportedUpTo}
-use Rattle.adp_main.specs.Groups.{HaveCells, IsGrouped, IsSolvedFor, common_of}
+use Rattle.adp_main.specs.Groups.{HaveCells, HaveNodes, IsGrouped, IsSolvedFor, common_of}
 use Rattle.adp_main.specs.Reporting.{AreReportsOf, HasWritten}
 use Rattle.adp_main.specs.RunNotes.{AreNoted, IsRunOf}
 use Rattle.adp_main.specs.Writing.{IsRunWith, IsWordEnding}
@@ -113,6 +114,24 @@ cells_more ps p cells count (counts, each, is) bound = (
   zip_more (λ (it : PosedProblem) (number : ℕ). IsCellBound it.grammar (length it.word) number) ps counts p count each bound,
   ap (λ n. n + count) is ∙ sym (sum_by_push (λ n. n) counts count),
 )
+
+pub nodes_more : (grammar : Grammar) (words : List (List ℕ)) (word : List ℕ) (nodes count : ℕ)
+    → HaveNodes grammar words nodes → IsNodeBound grammar (length word) count
+    → HaveNodes grammar (words ++ word ∷ []) (nodes + count)
+nodes_more grammar words word nodes count (counts, each, is) bound = (
+  counts ++ count ∷ [],
+  zip_more (λ (it : List ℕ) (number : ℕ). IsNodeBound grammar (length it) number) words counts word count each bound,
+  ap (λ n. n + count) is ∙ sym (sum_by_push (λ n. n) counts count),
+)
+
+-- one more of the words from a place on
+pub one_more_word : (words : List (List ℕ)) (place count : ℕ) (word : List ℕ) → place + count < length words
+    → word ≡ get_or words (place + count) word
+    → take (count + 1) (drop place words) ≡ take count (drop place words) ++ word ∷ []
+one_more_word words place count word inside is =
+    take_more (drop place words) count word (omega (arith, inside, length-drop place words))
+    ∙ ap (λ (last : List ℕ). take count (drop place words) ++ last ∷ [])
+    (get_or-drop place words count word ∙ sym is)
 
 -- ---- what the problems of a group have in common
 

@@ -16,19 +16,25 @@ use Rattle.evaluators.specs.Ends.{IsRunToEnd}
 use Rattle.evaluators.specs.Schedules.{HasKeptSchedule}
 use Rattle.report.specs.declared.fault.Fault.{Fault}
 use Rattle.report.specs.declared.fault.Fault.TheVariants as faults
-use Rattle.adp_main.specs.RunNotes.{AddsNotes, HaveRun, IsNoteFor}
-use Rattle.adp_main.specs.Writing.{IsReportWritten, IsRunFor, IsRunWith, IsWordEnding, IsWrittenWith}
+use Rattle.adp_main.specs.RunNotes.{AddsNotes, HasRun, HaveRun, IsNoteFor, IsRunFor}
+use Rattle.adp_main.specs.Writing.{IsReportWritten, IsRunWith, IsWordEnding, IsWrittenWith}
 
 -- a problem has one number of demanded cells
 abbrev pub CountsAgree : Type 0
 CountsAgree = (p : PosedProblem) (a b : ℕ) → IsDemandedCount p a → IsDemandedCount p b → a ≡ b
 
 -- machines that have all ended have run as each mode runs them that follows no schedule
-all_ended : (mode : Mode) → (mode ≡ Replay → ⊥) → (schedule wins moves : List ℕ) (finished : Finished)
-    → HaveAllEnded finished → HaveRun mode schedule wins moves (map ended_of finished.machines.items)
-all_ended Replay free schedule wins moves finished all = absurd (free refl)
-all_ended mode free schedule wins moves finished all =
-    All-map (λ end. end ≡ true) ended_of finished.machines.items all
+all_ended : (mode : Mode) → (mode ≡ Replay → ⊥) → (schedule : List ℕ) (finished : Finished) → HaveAllEnded finished
+    → HasRun mode schedule finished
+all_ended Replay free schedule finished all = absurd (free refl)
+all_ended mode free schedule finished all = all
+
+-- what a run left tells how far its machines came
+have_run : (mode : Mode) (schedule : List ℕ) (finished : Finished) → HasRun mode schedule finished
+    → HaveRun mode schedule finished.wins.items (map moves_of finished.machines.items)
+    (map ended_of finished.machines.items)
+have_run Replay schedule finished kept = kept
+have_run mode schedule finished all = All-map (λ end. end ≡ true) ended_of finished.machines.items all
 
 -- what is known of a call that ran evaluators
 pub ran_freely : {E : Type 0} (command : Command) (p : PosedProblem) (seed workers : ℕ)
@@ -39,8 +45,7 @@ pub ran_freely : {E : Type 0} (command : Command) (p : PosedProblem) (seed worke
 ran_freely command p seed workers free seeded each (Ok finished) done machines all = record {
   is_finished = subst (λ (seed : ℕ). IsFinished p seed finished) seeded done;
   machines = machines ∙ each;
-  run = all_ended command.mode free command.schedule finished.wins.items (map moves_of finished.machines.items) finished
-      all;
+  run = all_ended command.mode free command.schedule finished all;
 }
 ran_freely command p seed workers free seeded each (Err error) done machines all = tt
 
@@ -60,8 +65,7 @@ pub followed : {E : Type 0} (command : Command) (p : PosedProblem) (seed workers
 followed command p seed workers schedule replay seeded each same (Ok finished) done machines kept = record {
   is_finished = subst (λ (seed : ℕ). IsFinished p seed finished) seeded done;
   machines = machines ∙ each;
-  run = subst (λ (it : Mode × List ℕ). HaveRun it.0 it.1 finished.wins.items (map moves_of finished.machines.items)
-      (map ended_of finished.machines.items)) (λ i. (sym replay i, same i)) kept;
+  run = subst (λ (it : Mode × List ℕ). HasRun it.0 it.1 finished) (λ i. (sym replay i, same i)) kept;
 }
 followed command p seed workers schedule replay seeded each same (Err error) done machines kept = tt
 
@@ -72,6 +76,9 @@ module _ (agree : CountsAgree) (command : Command) (p : PosedProblem) (finished 
 
   note_for : (note : RunNote) → IsNoteOf p command.seed finished note → IsNoteFor command p note
   note_for note is = record {
+    finished = finished;
+    ran = ran;
+    is_note = is;
     word = is.word;
     algebra = is.algebra;
     seed = is.seed_is;
@@ -83,7 +90,8 @@ module _ (agree : CountsAgree) (command : Command) (p : PosedProblem) (finished 
     moves_each = ap length is.moves ∙ length-map finished.machines.items moves_of ∙ machines;
     ended_each = ap length is.ended ∙ length-map finished.machines.items ended_of ∙ machines;
     run = subst (λ (it : List ℕ × List ℕ × List Bool). HaveRun command.mode command.schedule it.0 it.1 it.2)
-        (λ i. (sym is.wins i, sym is.moves i, sym is.ended i)) ran.run;
+        (λ i. (sym is.wins i, sym is.moves i, sym is.ended i))
+        (have_run command.mode command.schedule finished ran.run);
   }
 
   -- what was written with the note of the run

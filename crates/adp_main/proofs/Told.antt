@@ -80,14 +80,14 @@ checkable_whole words bytes other checks = by
     by text (inr (verifies, before, parted)) = absurd (other verifies)
 
 pub runs_of : (words : List (List ℕ)) (bytes : List ℕ) (command : Command) (checked : CheckedJob)
-    → IsCheckedJob words bytes command checked → TellsNested command bytes checked
+    → (AsksToVerify words → ⊥) → IsCheckedJob words bytes command checked → TellsNested command bytes checked
     → (status : Status) (old new : Option (List RunNote)) (held held' : Option (List ℕ))
     → IsJobNoted command (posed_words checked.checked.grammar checked.checked.algebra checked.words)
     (behind_reports command.mode (length checked.words) bytes) status old new held held'
     → ShowsRuns words (Some bytes) status old new held held'
-runs_of words bytes command checked asked tells status old new held held' (inl (same, none)) =
+runs_of words bytes command checked finds asked tells status old new held held' (inl (same, none)) =
     inl (same, λ done. absurd (none done))
-runs_of words bytes command checked asked tells status old new held held' (inr noted) =
+runs_of words bytes command checked finds asked tells status old new held held' (inr noted) =
     let problems : posed_words checked.checked.grammar checked.checked.algebra checked.words
     ≡ posed_words asked.0.grammar checked.checked.algebra asked.0.words =
     λ i. posed_words (asked.3 i) checked.checked.algebra (asked.4 i) in
@@ -96,6 +96,7 @@ runs_of words bytes command checked asked tells status old new held held' (inr n
     (λ i. (problems i, length (asked.4 i)))
     (tells.noted (behind_reports command.mode (length checked.words) bytes) status old new held held' noted) in
     inr (inl (
+      finds,
       bytes,
       refl,
       record {

@@ -3,6 +3,8 @@ use Rattle.std.specs.Prelude.{◌≡◌, ℕ, suc, ◌<◌, ◌≤◌, ◌⊎◌
 use Rattle.std.specs.Option.{option_copied}
 use Rattle.std.specs.List.{AllZip}
 use Rattle.adp_model.specs.PosedProblem.{PosedProblem}
+use Rattle.adp_model.specs.declared.grammar.Grammar.{Grammar}
+use Rattle.adp_model.specs.Bounds.{IsNodeBound}
 use Rattle.adp_model.specs.Cells.{IsCellBound}
 use Rattle.adp_model.specs.ProblemFields.{most_cells, most_nodes}
 use Rattle.evaluators.specs.declared.finished.Finished.{Finished}
@@ -17,7 +19,7 @@ use Rattle.verdicts.specs.Verdict.{IsReportWith}
 use Rattle.adp_main.specs.declared.lex.Compiled.{Compiled}
 use Rattle.adp_main.specs.CompiledWords.{IsCompiledFor, ServesItsLength, compiled_word}
 use Rattle.adp_main.specs.SharedWords.{IsSharedOf}
-use Rattle.adp_main.specs.Writing.{IsRunFor}
+use Rattle.adp_main.specs.RunNotes.{IsRunFor}
 use Rattle.adp_main.specs.declared.slot.Slot.{Slot}
 use Rattle.adp_main.specs.declared.slot.Told.{Told}
 
@@ -44,6 +46,12 @@ abbrev pub HaveCells : List PosedProblem → ℕ → Type 0
 HaveCells problems cells =
     (counts : List ℕ) × AllZip (λ p count. IsCellBound p.grammar (length p.word) count) problems counts
     × (cells ≡ sum counts)
+
+-- the trees of these words have so many nodes at most together
+abbrev pub HaveNodes : Grammar → List (List ℕ) → ℕ → Type 0
+HaveNodes grammar words nodes =
+    (counts : List ℕ) × AllZip (λ word count. IsNodeBound grammar (length word) count) words counts
+    × (nodes ≡ sum counts)
 
 -- what is compiled for words of a group: by two algebras in order, what serves words of one length; else nothing
 abbrev pub IsMadeFor : Command → CheckedGrammar → Option Compiled → Type 0

@@ -1,5 +1,5 @@
 -- What a gate was told of the evaluators that ran, beside what was written.
-use Rattle.std.specs.Prelude.{◌≡◌, ℕ, ◌+◌, ◌≤◌, ◌⊎◌, Bool, true, List, [], ◌∷◌, ◌++◌, length, take, sum, All, Option, None, Some, IfSome}
+use Rattle.std.specs.Prelude.{◌≡◌, ℕ, ◌+◌, ◌≤◌, ◌⊎◌, Bool, true, List, [], ◌∷◌, ◌++◌, length, take, sum, vec_len, All, Option, None, Some, IfSome}
 use Rattle.std.specs.List.{concat}
 use Rattle.std.specs.Io.KnownBytes.{Appends}
 use Rattle.adp_model.specs.declared.job.Job.{Job}
@@ -16,8 +16,10 @@ use Rattle.verdicts.specs.SecondAlgebra.{IsSecond}
 use Rattle.verdicts.specs.Verdict.{AsksUnder, IsReportWith}
 use Rattle.nested_jobs.specs.NestedJob.{hidden_in}
 use Rattle.lex_product.specs.CompiledGrammar.{compiled_problem, multiplier_of}
+use Rattle.evaluators.specs.declared.finished.Finished.{Finished}
 use Rattle.evaluators.specs.declared.finished.RunNote.{RunNote}
-use Rattle.evaluators.specs.Schedules.{AreScheduled}
+use Rattle.evaluators.specs.Runs.{HaveAllEnded, IsFinished, IsNoteOf}
+use Rattle.evaluators.specs.Schedules.{AreScheduled, HasKeptSchedule}
 use Rattle.adp_main.specs.declared.status.Status.{Status}
 use Rattle.adp_main.specs.declared.status.Status.TheVariants.{Done}
 use Rattle.verdicts.specs.Posed.{posed_words}
@@ -28,8 +30,23 @@ abbrev pub HaveRun : Mode → List ℕ → List ℕ → List ℕ → List Bool �
 HaveRun Replay schedule wins moves ended = AreScheduled schedule wins moves ended
 HaveRun mode schedule wins moves ended = All (λ end. end ≡ true) ended
 
+-- the same of what a run left
+abbrev pub HasRun : Mode → List ℕ → Finished → Type 0
+HasRun Replay schedule finished = HasKeptSchedule schedule finished
+HasRun mode schedule finished = HaveAllEnded finished
+
+-- what evaluators left that a command ran for this problem
+pub record IsRunFor (command : Command) (p : PosedProblem) (finished : Finished) : Type 0 where
+  pub is_finished : IsFinished p command.seed finished
+  pub machines : vec_len finished.machines ≡ command.workers
+  pub run : HasRun command.mode command.schedule finished
+
 -- the note of the run for a problem that a command asks for
 pub record IsNoteFor (command : Command) (p : PosedProblem) (note : RunNote) : Type 0 where
+  -- behind the note stands what the run left: a closed table, and the machines
+  pub finished : Finished
+  pub ran : IsRunFor command p finished
+  pub is_note : IsNoteOf p command.seed finished note
   pub word : note.word ≡ p.word
   pub algebra : note.algebra ≡ p.algebra
   pub seed : note.seed ≡ command.seed
@@ -122,11 +139,12 @@ pub record RunOfMade (words : List (List ℕ)) (old new : Option (List RunNote))
   pub is_note : IsNoteFor command (made_problem command.seed command.size) note
   pub noted : AddsNotes old new (note ∷ [])
 
--- what a run with this status told its gate: nothing, which is not done then, or checked a certificate; notes of the
--- words of the job that its input spells; or, where it is done, the note of the word that is made
+-- what a run with this status told its gate: nothing, which is not done then, or checked a certificate; where it checks
+-- none, notes of the words of the job that its input spells; or, where it is done, the note of the word that is made
 abbrev pub ShowsRuns : List (List ℕ) → Option (List ℕ) → Status → Option (List RunNote) → Option (List RunNote)
     → Option (List ℕ) → Option (List ℕ) → Type 0
 ShowsRuns words left status old new held held' =
     ((new ≡ old) × (status ≡ Done → AsksToVerify words))
-    ⊎ (((bytes : List ℕ) × IfSome left (λ told. bytes ≡ told) × RunsOfJob words bytes status old new held held')
+    ⊎ (((AsksToVerify words → ⊥) × (bytes : List ℕ) × IfSome left (λ told. bytes ≡ told)
+    × RunsOfJob words bytes status old new held held')
     ⊎ ((status ≡ Done) × RunOfMade words old new))

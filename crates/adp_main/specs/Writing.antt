@@ -1,22 +1,14 @@
 -- How one word was reported.
-use Rattle.std.specs.Prelude.{◌≡◌, ℕ, ◌⊎◌, List, [], ◌∷◌, Option, Result, Ok, Err, map, vec_len}
+use Rattle.std.specs.Prelude.{◌≡◌, ℕ, ◌⊎◌, List, [], ◌∷◌, Option, Result, Ok, Err}
 use Rattle.std.specs.Io.KnownBytes.{Appends}
 use Rattle.adp_io.specs.Streams.{AppendsProperPrefix}
 use Rattle.adp_model.specs.PosedProblem.{PosedProblem}
 use Rattle.verdicts.specs.Command.{Command}
 use Rattle.evaluators.specs.declared.finished.Finished.{Finished}
 use Rattle.evaluators.specs.declared.finished.RunNote.{RunNote}
-use Rattle.evaluators.specs.Runs.{IsFinished, ended_of, moves_of}
 use Rattle.report.specs.declared.fault.Fault.{Fault}
 use Rattle.report.specs.declared.fault.Fault.TheVariants as faults
-use Rattle.adp_main.specs.RunNotes.{AddsNotes, HaveRun, IsNoteFor}
-
--- what evaluators left that a command ran for this problem
-pub record IsRunFor (command : Command) (p : PosedProblem) (finished : Finished) : Type 0 where
-  pub is_finished : IsFinished p command.seed finished
-  pub machines : vec_len finished.machines ≡ command.workers
-  pub run : HaveRun command.mode command.schedule finished.wins.items (map moves_of finished.machines.items)
-      (map ended_of finished.machines.items)
+use Rattle.adp_main.specs.RunNotes.{AddsNotes, IsNoteFor}
 
 -- the bytes are this report, and what is noted is the note of this run
 abbrev pub IsRunWith : Command → PosedProblem → Finished → List ℕ → List ℕ → List RunNote → Type 0

@@ -5,8 +5,8 @@ ghost use Rattle.adp_io.specs.Streams.{SameTold};
 ghost use Rattle.adp_model.specs.BigReport.{IsBigReport, made_problem, pairs_grammar};
 ghost use Rattle.verdicts.specs.declared.command.Mode.TheVariants.{Big};
 ghost use Rattle.adp_main.specs.Faults.{status_after};
-ghost use Rattle.adp_main.specs.RunNotes.{IsBigRun};
-ghost use Rattle.adp_main.specs.Writing.{IsRunFor, IsWordEnding};
+ghost use Rattle.adp_main.specs.RunNotes.{IsBigRun, IsRunFor};
+ghost use Rattle.adp_main.specs.Writing.{IsWordEnding};
 ghost use Rattle.adp_main.specs.declared.status.Status.TheVariants.{WriteFault};
 
 use crate::admitting::admitted;

@@ -9,7 +9,8 @@ ghost use Rattle.evaluators.specs.Runs.{IsFinished};
 ghost use Rattle.split_lines.specs.Shared.{without_word};
 ghost use Rattle.adp_main.specs.Faults.{status_after};
 ghost use Rattle.adp_main.specs.SharedWords.{IsSharedOf};
-ghost use Rattle.adp_main.specs.Writing.{IsRunFor, IsRunWith, IsWordEnding, IsWrittenWith};
+ghost use Rattle.adp_main.specs.RunNotes.{IsRunFor};
+ghost use Rattle.adp_main.specs.Writing.{IsRunWith, IsWordEnding, IsWrittenWith};
 ghost use Rattle.adp_main.specs.declared.status.Status.TheVariants.{WriteFault};
 
 use crate::preparing::prepare;
@@ -20,7 +21,7 @@ use adp_model::Problem;
 use adp_model::laws::demand::demanded_cells_are_unique;
 use command_words::schedule_entries;
 use evaluators::{
-    Door, Finished, Gate, RunNote, run_in_turn, run_prepared, run_schedule, run_workers,
+    Door, Finished, Gate, NotedRun, run_in_turn, run_prepared, run_schedule, run_workers,
 };
 use report::{Fault, push_wins};
 use split_lines::{Prepared, Shared};
@@ -150,7 +151,7 @@ pub(crate) fn write_run<K: Sink, G: Gate>(
 /// Writes a report by one `write_whole`, and hands this note to the gate once it is written.
 pub(crate) fn write_noted<K: Sink, G: Gate>(
     report: &[u8],
-    note: RunNote,
+    note: NotedRun,
     out: &mut K,
     gate: &mut G,
 ) -> Result<(), Fault>

@@ -1,18 +1,18 @@
 //! Groups of words: solved and told side by side, each on one thread, and written in order.
-ghost use Rattle.std.specs.Prelude.{◌≡◌, ◌↔◌, ◌++◌, ◌+◌, ◌<◌, ◌≤◌, [], List, ℕ, All, IfOk, IfSome, IsTrue, drop, length, map};
+ghost use Rattle.std.specs.Prelude.{◌≡◌, ◌↔◌, ◌++◌, ◌+◌, ◌<◌, ◌≤◌, [], List, ℕ, All, IfOk, IfSome, IsTrue, drop, length, map, take};
 ghost use Rattle.std.specs.List.{AllZip};
 ghost use Rattle.std.specs.Option.{option_copied};
 ghost use Rattle.adp_io.specs.Causes.{RisesWhere};
 ghost use Rattle.adp_io.specs.Streams.{SameTold};
 ghost use Rattle.adp_model.specs.PosedProblem.{PosedProblem};
-ghost use Rattle.adp_model.specs.ProblemFields.{most_cells};
+ghost use Rattle.adp_model.specs.ProblemFields.{most_cells, most_nodes};
 ghost use Rattle.split_lines.specs.Shared.{without_word};
 ghost use Rattle.verdicts.specs.Command.{Command};
 ghost use Rattle.verdicts.specs.Posed.{posed_word, posed_words};
 ghost use Rattle.verdicts.specs.SecondAlgebra.{IsAdmissibleWith};
 ghost use Rattle.adp_main.specs.CompiledWords.{ServesItsLength};
 ghost use Rattle.adp_main.specs.FirstWords.{AreFirstEnding, IsWriteFault};
-ghost use Rattle.adp_main.specs.Groups.{AreAlike, AreTold, HasItsLength, HasRoom, HaveCells, IsGrouped, IsMadeFor, IsSolvedFor, IsTold, TakesGroups, common_of, post_of, posts_from};
+ghost use Rattle.adp_main.specs.Groups.{AreAlike, AreTold, HasItsLength, HasRoom, HaveCells, HaveNodes, IsGrouped, IsMadeFor, IsSolvedFor, IsTold, TakesGroups, common_of, post_of, posts_from};
 ghost use Rattle.adp_main.specs.JudgedWords.{AreJudged};
 ghost use Rattle.adp_main.specs.KeptLengths.{HasKept};
 ghost use Rattle.adp_main.specs.Seconds.{AreJobRows};
@@ -181,6 +181,8 @@ fn next_group<'a>(
     requires made { IsMadeFor command.now job.now.checked (option_copied made) }
     ensures few { length result.items ≤ 1024 }
     ensures small { (cells : ℕ) × HaveCells result.items cells × (cells ≤ most_cells) }
+    ensures light { (nodes : ℕ) × HaveNodes job.now.checked.grammar (take (length result.items)
+        (drop place job.now.words)) nodes × (nodes ≤ most_nodes) }
     ensures first { (asked : List PosedProblem) × (rest : List PosedProblem)
         × AllZip (IsSolvedFor command.now (option_copied made.entry)) asked result.items × (asked ++ rest
         ≡ drop place (posed_words job.now.checked.grammar job.now.checked.algebra job.now.words)) }

@@ -5,13 +5,13 @@ ghost use Rattle.adp_model.specs.PosedProblem.{PosedProblem};
 ghost use Rattle.verdicts.specs.declared.command.Mode.TheVariants.{Lex};
 ghost use Rattle.verdicts.specs.Verdict.{IsReportWith};
 ghost use Rattle.adp_main.specs.Groups.{IsGrouped, IsPosted, IsSolvedFor, IsTold, post_of};
-ghost use Rattle.adp_main.specs.Writing.{IsRunFor};
+ghost use Rattle.adp_main.specs.RunNotes.{IsRunFor};
 
 use crate::cert::block_report;
 use crate::evaluating::{plain_report, run_alone};
 use crate::lex::{Compiled, report_of_both};
 use adp_model::Problem;
-use evaluators::{Door, Finished, Gate, RunNote, Way};
+use evaluators::{Door, Finished, Gate, NotedRun, Way};
 use split_lines::Sharing;
 use std::alloc::{AllocError, Global};
 use verdicts::Command;
@@ -21,7 +21,7 @@ use word_groups::Fill;
 #[derive(Drop)]
 pub(crate) struct Told {
     pub(crate) report: Vec<u8>,
-    pub(crate) note: RunNote,
+    pub(crate) note: NotedRun,
 }
 
 /// A word of a group, with what its problem shares with the others, and what is told of it: nothing before its evaluators

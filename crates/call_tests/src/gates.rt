@@ -1,6 +1,6 @@
 //! Gates at which workers can meet: one that counts how often each of them passes, and one for those of two words.
 
-use evaluators::{Gate, LogGate, RunNote};
+use evaluators::{Gate, LogGate, NotedRun};
 use std::alloc::{AllocError, Global};
 use std::sync::atomic::{AtomicU64, Ordering};
 
@@ -31,7 +31,7 @@ impl CountingGate {
     }
 
     /// The notes of runs, in order.
-    pub(crate) fn notes(&self) -> &[RunNote] {
+    pub(crate) fn notes(&self) -> &[NotedRun] {
         self.notes.notes()
     }
 
@@ -80,7 +80,7 @@ impl Gate for CountingGate {
         }
     }
 
-    fn finished(&mut self, note: RunNote) -> Result<(), AllocError> {
+    fn finished(&mut self, note: NotedRun) -> Result<(), AllocError> {
         self.notes.finished(note)
     }
 }
@@ -108,7 +108,7 @@ impl WordsGate {
     }
 
     /// The notes of runs, in order.
-    pub(crate) fn notes(&self) -> &[RunNote] {
+    pub(crate) fn notes(&self) -> &[NotedRun] {
         self.notes.notes()
     }
 
@@ -147,7 +147,7 @@ impl Gate for WordsGate {
         }
     }
 
-    fn finished(&mut self, note: RunNote) -> Result<(), AllocError> {
+    fn finished(&mut self, note: NotedRun) -> Result<(), AllocError> {
         self.notes.finished(note)
     }
 }

@@ -7,7 +7,7 @@ use crate::sinks::PieceSink;
 use adp_io::CleanSource;
 use adp_main::{Status, run};
 use adp_model::push_quoted;
-use evaluators::{Gate, RunNote};
+use evaluators::{Gate, NotedRun, RunNote};
 use std::alloc::{AllocError, Global};
 use std::thread::Threads;
 
@@ -66,7 +66,7 @@ fn push_met(gate: &CountingGate, in_step: bool, out: &mut Vec<u8>) -> Result<(),
         push_list(out, ", passes", &gate.passes())?;
     }
     for note in gate.notes() {
-        push_flag(out, ", moves fit", moves_fit(&gate.passes(), note))?;
+        push_flag(out, ", moves fit", moves_fit(&gate.passes(), note.note()))?;
     }
     Ok(())
 }
@@ -120,9 +120,9 @@ fn push_written(
 }
 
 /// Appends the notes of runs.
-fn push_notes(notes: &[RunNote], out: &mut Vec<u8>) -> Result<(), AllocError> {
+fn push_notes(notes: &[NotedRun], out: &mut Vec<u8>) -> Result<(), AllocError> {
     for note in notes {
-        push_note(note, out)?;
+        push_note(note.note(), out)?;
     }
     Ok(())
 }

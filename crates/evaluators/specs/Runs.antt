@@ -58,6 +58,16 @@ pub record IsNoteOf (p : PosedProblem) (seed : ℕ) (finished : Finished) (note 
   pub moves : note.moves ≡ map moves_of finished.machines.items
   pub ended : note.ended ≡ map ended_of finished.machines.items
 
+-- evaluators ran for this problem under this seed, and this is the note of what they left
+pub record IsOfRun (p : PosedProblem) (seed : ℕ) (note : RunNote) : Type 0 where
+  pub finished : Finished
+  pub is_finished : IsFinished p seed finished
+  pub is_note : IsNoteOf p seed finished note
+
+-- evaluators ran for some problem under some seed, and this is the note of what they left
+abbrev pub IsOfSomeRun : RunNote → Type 0
+IsOfSomeRun note = (p : PosedProblem) × (seed : ℕ) × IsOfRun p seed note
+
 -- told notes grew by this one; where there was no memory they are as before
 abbrev pub GrowsByNote : {E : Type 0} → RunNote → Result (Unit {0}) E → Option (List RunNote) → Option (List RunNote)
     → Type 0

@@ -6,6 +6,7 @@ use adp_model::{Answer, Problem, Sequence, Text};
 use cell_core::Machine;
 use memo_table::{Closed, Table};
 use std::alloc::{AllocError, Global};
+use std::marker::Model;
 
 /// What is left when the evaluators of a problem have run: the closed table, the machines by their numbers, how many
 /// answers each of them put into the table, and the answer of the axiom's cell.
@@ -34,7 +35,7 @@ impl Finished<'_> {
         sum_of(&self.wins)
     }
 
-    /// The note of this run, which was of the problem and under the seed.
+    /// The note of this run, which was of the problem and under the seed. No other call makes one.
     ///
     /// # Errors
     ///
@@ -44,7 +45,16 @@ impl Finished<'_> {
         alloc: Global,
         problem: &Problem<'_>,
         seed: u64,
-    ) -> Result<RunNote, AllocError>
+    ) -> Result<NotedRun, AllocError>
+        requires { IsFinished problem.now seed self.now }
+        ensures { IfOk result (IsNoteOf problem.now seed self.now) }
+    {
+        let note = self.told(alloc, problem, seed)?;
+        Ok(NotedRun { note })
+    }
+
+    /// What is told of this run.
+    fn told(&self, alloc: Global, problem: &Problem<'_>, seed: u64) -> Result<RunNote, AllocError>
         requires { IsFinished problem.now seed self.now }
         ensures { IfOk result (IsNoteOf problem.now seed self.now) }
     {
@@ -97,4 +107,34 @@ pub struct RunNote {
     pub wins: Sequence<u64>,
     pub moves: Sequence<u64>,
     pub ended: Sequence<bool>,
+}
+
+/// The note of evaluators that ran, made of what they left and of nothing else. Contracts see what it tells.
+#[derive(Drop)]
+pub struct NotedRun {
+    note: RunNote,
+}
+
+impl Model for NotedRun {
+    ghost use Rattle.evaluators.specs.declared.finished.RunNote.{RunNote as Note};
+
+    ghost Value = { Note };
+
+    ghost use Rattle.evaluators.specs.Runs.{IsOfSomeRun};
+
+    ghost view = { λ run. run.note };
+
+    ghost invariant = { λ run. IsOfSomeRun run.note };
+}
+
+impl NotedRun {
+    ghost use Rattle.evaluators.specs.Runs.{IsOfSomeRun};
+
+    /// What it tells. Takes no memory.
+    pub fn note(&self) -> &RunNote
+        ensures note { result.now ≡ self.now }
+        ensures run { IsOfSomeRun self.now }
+    {
+        &self.note
+    }
 }

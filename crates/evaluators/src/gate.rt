@@ -3,7 +3,7 @@
 ghost use Rattle.std.specs.Prelude.{◌≡◌, [], List};
 ghost use Rattle.evaluators.specs.declared.finished.RunNote.{RunNote as Note};
 
-use crate::finished::RunNote;
+use crate::finished::NotedRun;
 use std::alloc::{AllocError, Global};
 use std::marker::Model;
 
@@ -19,12 +19,12 @@ pub trait Gate: Sync {
     /// Called before a worker loads a record word. Nothing is promised but that it returns.
     fn pass(&self, worker: u32);
 
-    /// Told of a run once it has ended.
+    /// Told of a run once it has ended, by the note that is made of what it left.
     ///
     /// # Errors
     ///
     /// Where there is no memory for the note; its notes are then as before.
-    fn finished(&mut self, note: RunNote) -> Result<(), AllocError>
+    fn finished(&mut self, note: NotedRun) -> Result<(), AllocError>
         ensures noted { GrowsByNote note result (runs self.old) (runs self.new) };
 }
 
@@ -39,7 +39,7 @@ impl Gate for OpenGate {
 
     fn pass(&self, _worker: u32) {}
 
-    fn finished(&mut self, _note: RunNote) -> Result<(), AllocError>
+    fn finished(&mut self, _note: NotedRun) -> Result<(), AllocError>
         ensures { IsOk result }
     {
         Ok(())
@@ -49,7 +49,7 @@ impl Gate for OpenGate {
 /// A gate that is always open and keeps a note of each run. Contracts see the list of its notes.
 #[derive(Drop)]
 pub struct LogGate {
-    notes: Vec<RunNote>,
+    notes: Vec<NotedRun>,
 }
 
 impl Model for LogGate {
@@ -69,7 +69,7 @@ impl LogGate {
     }
 
     /// The notes, in order. Takes no memory.
-    pub fn notes(&self) -> &[RunNote]
+    pub fn notes(&self) -> &[NotedRun]
         ensures { result.now ≡ self.now }
     {
         &self.notes
@@ -83,7 +83,7 @@ impl Gate for LogGate {
 
     fn pass(&self, _worker: u32) {}
 
-    fn finished(&mut self, note: RunNote) -> Result<(), AllocError> {
+    fn finished(&mut self, note: NotedRun) -> Result<(), AllocError> {
         self.notes.push(note)?;
         Ok(())
     }

@@ -14,7 +14,7 @@ mod worker;
 
 pub use crew::{run_prepared, run_workers};
 pub use driving::Door;
-pub use finished::{Finished, RunNote};
+pub use finished::{Finished, NotedRun, RunNote};
 pub use gate::{Gate, LogGate, OpenGate};
 pub use gated::Way;
 pub use in_turn::run_in_turn;

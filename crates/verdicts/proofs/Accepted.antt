@@ -1,5 +1,5 @@
 -- What is written as a certificate with its job is accepted.
-use Rattle.std.proofs.Common.{◌≡◌, ℕ, ◌+◌, ◌^◌, ◌<◌, ◌≤◌, ◌==◌, inl, inr, Bool, true, false, if◌then◌else◌, IsNone, IsSome, Option, None, Some, unwrap_or, List, [], ◌∷◌, ◌++◌, codes, length, refl, sym, ap, subst, ◌∙◌, arith}
+use Rattle.std.proofs.Common.{◌≡◌, ℕ, ◌+◌, ◌^◌, ◌<◌, ◌≤◌, ◌==◌, inl, inr, Bool, true, false, if◌then◌else◌, IsNone, IsSome, Option, None, Some, List, [], ◌∷◌, ◌++◌, codes, length, refl, sym, ap, subst, ◌∙◌, arith}
 use Rattle.std.specs.List.{All, concat}
 use Rattle.std.proofs.lemmas.List.{append-nil, append_assoc, length-append, length-map}
 use Rattle.std.proofs.lemmas.List.Elements.{All-cons, All-nil}
@@ -7,7 +7,6 @@ use Rattle.std.proofs.lemmas.List.Folds.{concat-append}
 use Rattle.std.proofs.lemmas.Bool.Decides.{nat_tests}
 use Rattle.adp_model.specs.Checks.{IsChecked}
 use Rattle.adp_model.specs.GrammarFaults.{IsFaultless}
-use Rattle.adp_model.specs.Parts.{algebra_at}
 use Rattle.adp_model.specs.PosedProblem.{PosedProblem}
 use Rattle.adp_model.specs.ProblemFields.{IsAdmissible, KeepsLimits}
 use Rattle.adp_model.specs.Report.{line}
@@ -23,10 +22,11 @@ use Rattle.verdicts.specs.declared.command.Mode.TheVariants.{Lex, Cert, Verify, 
 use Rattle.verdicts.specs.Certificates.{before_block, behind_blocks, behind_reports, IsBlockReport, IsRightFor}
 use Rattle.verdicts.specs.CheckableJobs.{IsCheckableInput}
 use Rattle.verdicts.specs.Command.{Command, IsCommand, ReadsJob, AsksToVerify}
+use Rattle.verdicts.specs.OneAlgebra.{NameOneAlgebra}
 use Rattle.verdicts.specs.Posed.{posed_word, posed_words}
 use Rattle.verdicts.specs.SecondAlgebra.{IsAdmissibleWith, KeepsLimitsWith, MakesPairWith}
 use Rattle.verdicts.specs.WordReport.{HidesAlternatives}
-use Rattle.verdicts.specs.Verdict.{AreReports, AskForReports, AsksUnder, AsksWithin, greatest_length, IsReportIn, IsReportWith, IsVerdict, Reports}
+use Rattle.verdicts.specs.Verdict.{AreReports, AskForReports, AsksUnder, AsksWithin, asked_name, greatest_length, IsReportIn, IsReportWith, IsVerdict, Reports}
 use Rattle.verdicts.specs.WordLimits.{KeepLimits}
 use Rattle.verdicts.proofs.OneVerdict.{command_unique, no_second, no_trees, some_workers}
 
@@ -157,7 +157,8 @@ none_is (Some name) is = cc
 
 module _ (laws : AcceptLaws) (words others : List (List ℕ)) (bytes : List ℕ) (pieces : List (List ℕ))
     (command other : Command) (is : IsCommand words command) (certifies : command.mode ≡ Cert)
-    (other_is : IsCommand others other) (verifies : other.mode ≡ Verify) (same_algebra : other.algebra ≡ command.algebra)
+    (other_is : IsCommand others other) (verifies : other.mode ≡ Verify)
+    (one_algebra : NameOneAlgebra command other (concat pieces))
     (checks : IsCheckableInput words bytes) (short : length (concat pieces) ≤ greatest_length) where
   alone : other.second ≡ None
   alone = none_is other.second (no_second others other other_is (λ lex. (let e = sym verifies ∙ lex in cc)))
@@ -201,8 +202,8 @@ module _ (laws : AcceptLaws) (words others : List (List ℕ)) (bytes : List ℕ)
       let parted : IsSplitAtJob (concat pieces) text bytes =
       subst (λ (input : List ℕ). IsSplitAtJob input text bytes) (sym total)
       (laws.split (posed_words job.grammar algebra job.words) job.grammar text bytes right) in
-      let name : asked.command.algebra ≡ other.algebra =
-      ap (λ (c : Command). c.algebra) same ∙ sym same_algebra in
+      let name : asked_name asked.command job.grammar ≡ asked_name other job.grammar =
+      ap (λ (c : Command). asked_name c job.grammar) same ∙ one_algebra text bytes job parted asked.asks.is_text in
       let reads : ReadsJob other.mode = λ big. (let e = sym verifies ∙ big in cc) in
       let under : AsksUnder others bytes job algebra = record {
         command = other;
@@ -212,8 +213,7 @@ module _ (laws : AcceptLaws) (words others : List (List ℕ)) (bytes : List ℕ)
           short_enough = asked.asks.short_enough;
           is_text = asked.asks.is_text;
         };
-        faultless = subst (λ (named : Option (List ℕ)).
-            IsFaultless job.grammar (unwrap_or named (algebra_at job.grammar 0).name) algebra) name asked.faultless;
+        faultless = subst (λ (named : List ℕ). IsFaultless job.grammar named algebra) name asked.faultless;
         pair = subst (λ second. MakesPairWith second job.grammar algebra) (sym alone) tt;
       } in
       let within : AsksWithin others bytes = record {

@@ -3,6 +3,7 @@ pub mod Command
 pub mod CommandFields
 pub mod SecondAlgebra
 pub mod NestedScores
+pub mod OneAlgebra
 pub mod WordReport
 pub mod WordLimits
 pub mod Posed

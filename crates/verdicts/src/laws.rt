@@ -13,6 +13,7 @@ ghost use Rattle.verdicts.specs.NestedScores.{IsNestedScoreReport};
 ghost use Rattle.nested_trees.specs.HiddenRules.{AreNestedAlternatives};
 ghost use Rattle.table_certificate.specs.ScoreReports.{IsScoreReport};
 ghost use Rattle.verdicts.specs.CheckableJobs.{IsCheckableInput};
+ghost use Rattle.verdicts.specs.OneAlgebra.{NameOneAlgebra};
 ghost use Rattle.verdicts.specs.Command.{Command, IsCommand, ReadsJob, greatest_size, most_trees};
 ghost use Rattle.verdicts.specs.declared.command.Mode.TheVariants.{Best, Cert, KBest, Lex, Verify};
 ghost use Rattle.first_trees.specs.ListReport.{TellOneCandidate};
@@ -164,7 +165,8 @@ pub fn words_have_reports()
 pub fn written_certificates_are_accepted()
     ensures { (words others : List (List ℕ)) (bytes : List ℕ) (pieces : List (List ℕ)) (command other : Command)
         → IsCommand words command → command.mode ≡ Cert → IsCommand others other → other.mode ≡ Verify
-        → other.algebra ≡ command.algebra → IsCheckableInput words bytes → length (concat pieces) ≤ greatest_length
+        → NameOneAlgebra command other (concat pieces) → IsCheckableInput words bytes
+        → length (concat pieces) ≤ greatest_length
         → IsVerdict words bytes (Reports pieces)
         → (reports : List (List ℕ)) × IsVerdict others (concat pieces) (Reports reports) }
 {

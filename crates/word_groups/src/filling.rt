@@ -1,6 +1,6 @@
 //! Slots that are filled side by side: their list is cut for so many threads, and each thread fills its part in order.
 
-ghost use Rattle.std.specs.Prelude.{◌≡◌, ◌<◌, ◌≤◌, All, map};
+ghost use Rattle.std.specs.Prelude.{◌≡◌, ◌+◌, ◌*◌, ◌/◌, ◌%◌, ◌<◌, ◌≤◌, min, All, map};
 ghost use Rattle.std.specs.Thread.{IsSync};
 
 use std::thread::{Threads, join_mut};
@@ -68,14 +68,15 @@ fn fill_all<S: Fill, R: Threads + Sync>(rt: &R, threads: usize, slots: &mut [S])
     );
 }
 
-/// How many of so many slots the first of so many threads take, which are `low` ones.
+/// How many of so many slots the first `low` of so many threads take, where each thread takes as many as one behind it, or
+/// one more.
 fn share(slots: usize, threads: usize, low: usize) -> usize
-    requires { 0 < threads }
-    ensures { result ≤ slots }
+    requires some { 0 < threads }
+    requires low { low ≤ threads }
+    ensures inside { result ≤ slots }
+    ensures even { result ≡ slots / threads * low + min (slots % threads) low }
 {
-    let each = (slots / threads).saturating_mul(low);
-    let more = (slots % threads).min(low);
-    each.saturating_add(more).min(slots)
+    slots / threads * low + (slots % threads).min(low)
 }
 
 /// Fills all, one after the other.

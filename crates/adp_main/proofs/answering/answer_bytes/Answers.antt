@@ -58,7 +58,8 @@ returns-clause-passed g c = λ words is _.
 pub returns-clause-noted : goal.returns-clause-noted
 returns-clause-noted g c = λ words is.
     let asked = c.in_ok-job.ensures.job words is in
-    runs_of _ _ c.args.command.now c.in_ok-job.job asked
+    runs_of _ _ c.args.command.now c.in_ok-job.job
+    (finds_answers c.command_is_unique.ensures.command _ _ is c.requires.finds) asked
     (tells_nested c.texts_hide_alternatives.ensures c.nested_reports_are_the_plain_ones.ensures _ _ _ _ asked
     (_, _, _, c.passes.ensures.found)) _ _ _ _ _ c.write_job.ensures.noted
 

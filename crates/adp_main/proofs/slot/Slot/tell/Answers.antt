@@ -4,7 +4,7 @@ use Rattle.adp_model.specs.PosedProblem.{PosedProblem}
 use Rattle.evaluators.specs.Runs.{IsNoteOf}
 use Rattle.verdicts.specs.Command.{Command}
 use Rattle.adp_main.specs.Groups.{IsSolvedFor}
-use Rattle.adp_main.specs.Writing.{IsRunFor}
+use Rattle.adp_main.specs.RunNotes.{IsRunFor}
 use Rattle.adp_main.proofs.slot.Slot.tell.Goals as goal
 
 pub returns : goal.returns

@@ -1,6 +1,6 @@
 use Rattle.std.proofs.Common.{◌≡◌, map, take}
 use Rattle.evaluators.specs.Runs.{moves_of, ended_of}
-use Rattle.evaluators.proofs.finished.Finished.note.Given as goal
+use Rattle.evaluators.proofs.finished.Finished.told.Given as goal
 
 abbrev pub invariant-loop-machine : goal.invariant-loop-machine
 invariant-loop-machine l = record {
