@@ -26,7 +26,7 @@ use Rattle.adp_main.specs.declared.status.Status.TheVariants.{Done}
 use Rattle.adp_main.specs.declared.lex.Compiled.{Compiled}
 use Rattle.adp_main.specs.Faults.{status_of}
 use Rattle.adp_main.specs.FirstWords.{AreFirstEnding, AreReported, IsReportedUpTo}
-use Rattle.adp_main.specs.Groups.{HaveCells, HaveNodes, IsGrouped, IsSolvedFor, common_of}
+use Rattle.adp_main.specs.Groups.{HaveCells, HaveNodes, IsEvaluated, IsGrouped, IsSolvedFor, common_of}
 use Rattle.adp_main.specs.Reporting.{AreReportsOf, HasWritten}
 use Rattle.adp_main.specs.RunNotes.{AreNoted, IsRunOf}
 use Rattle.adp_main.specs.Writing.{IsRunWith, IsWordEnding}
@@ -179,21 +179,32 @@ of_each common shared problems each is = λ k d inside. is ∙ sym (each k d ins
 
 -- ---- modes
 
--- a mode that takes groups follows no schedule and makes no sweep
-pub grouped : (mode other : Mode) → IsGrouped mode → (IsGrouped other → ⊥) → mode ≡ other → ⊥
-grouped mode other is none same = none (subst IsGrouped same is)
+-- a mode whose words evaluators solve in groups follows no schedule and makes no sweep
+pub grouped : (mode other : Mode) → IsEvaluated mode → (IsEvaluated other → ⊥) → mode ≡ other → ⊥
+grouped mode other is none same = none (subst IsEvaluated same is)
 
 -- there are two of them that have one algebra
-pub best_or_cert : (mode : Mode) → IsGrouped mode → (mode ≡ Lex → ⊥) → (mode ≡ Cert → ⊥) → mode ≡ Best
+pub best_or_cert : (mode : Mode) → IsEvaluated mode → (mode ≡ Lex → ⊥) → (mode ≡ Cert → ⊥) → mode ≡ Best
 best_or_cert Best is single other = refl
 best_or_cert Cert is single other = absurd (other refl)
 best_or_cert Lex is single other = absurd (single refl)
 best_or_cert mode is single other = absurd is
 
+-- a mode that takes groups makes one sweep, or runs evaluators
+pub evaluated : (mode : Mode) → IsGrouped mode → (mode ≡ Serial → ⊥) → IsEvaluated mode
+evaluated Serial is other = absurd (other refl)
+evaluated mode is other = is
+
 -- ---- what is solved for a word
 
+-- with one algebra that is the word's own problem
+pub solved_itself : (command : Command) (made : Option Compiled) (asked problem : PosedProblem)
+    → (command.mode ≡ Lex → ⊥) → IsSolvedFor command made asked problem → problem ≡ asked
+solved_itself command None asked problem single (other, is) = is
+solved_itself command (Some made) asked problem single (lex, for, is) = absurd (single lex)
+
 module _ (command : Command) (number : ℕ) (asked problem : PosedProblem) (finished : Finished) (report bytes : List ℕ)
-    (mode : IsGrouped command.mode)
+    (mode : IsEvaluated command.mode)
     (is : IsReportWith command.mode command None number asked finished.wins.items report) (same : bytes ≡ report)
     (result : Result (Unit {0}) Fault) (old new : Option (List RunNote)) (held held' : Option (List ℕ)) where
   -- the word ended as the run for it did

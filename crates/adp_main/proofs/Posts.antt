@@ -1,5 +1,5 @@
 -- Words of a group: their slots, and what is told of them.
-use Rattle.std.proofs.Common.{◌≡◌, ℕ, zero, suc, ◌+◌, ◌<◌, Option, None, Some, IfSome, Result, List, [], ◌∷◌, ◌++◌, length, map, take, get_or, All, refl, sym, ap, subst, ◌∙◌, arith}
+use Rattle.std.proofs.Common.{◌≡◌, ℕ, zero, suc, ◌+◌, ◌<◌, Option, None, Some, IfSome, Result, inl, List, [], ◌∷◌, ◌++◌, length, map, take, get_or, All, refl, sym, ap, subst, ◌∙◌, arith}
 use Rattle.std.specs.List.{AllZip}
 use Rattle.std.proofs.lemmas.List.{take_more, map-append}
 use Rattle.std.proofs.lemmas.List.Elements.{All-head, All-tail}
@@ -9,9 +9,10 @@ use Rattle.adp_main.specs.declared.lex.Compiled.{Compiled}
 use Rattle.adp_main.specs.declared.slot.Told.{Told}
 use Rattle.evaluators.specs.declared.finished.RunNote.{RunNote}
 use Rattle.report.specs.declared.fault.Fault.{Fault}
-use Rattle.adp_main.specs.Groups.{AreTold, IsGrouped, IsPosted, IsSolvedFor, IsTold, Post, posts_from}
+use Rattle.adp_main.specs.Groups.{AreTold, IsGrouped, IsNotedOf, IsPosted, IsSolvedFor, IsTold, IsWrittenAs, Post, notes_of, posts_from}
 use Rattle.adp_main.specs.RunNotes.{IsRunOf}
-use Rattle.adp_main.specs.Writing.{IsWordEnding, IsWrittenWith}
+use Rattle.verdicts.specs.Verdict.{IsReportWith}
+use Rattle.adp_main.specs.Writing.{IsWordEnding}
 use Rattle.adp_main.proofs.FirstWords.{solved_word, zip_length}
 use Rattle.adp_main.proofs.Noting.{CountsAgree, run_noted}
 use Rattle.adp_main.proofs.Running.{ending_of}
@@ -115,6 +116,28 @@ module _ (command : Command) (made : Option Compiled) where
       let at = told_in (suc number) asked ps all solved.1 told.1 k it (omega (arith, inside)) is n (omega (arith, numbered)) in
       (at.0, at.1, omega (arith, at.2), at.3, at.4, at.5)
 
+module _ (agree : CountsAgree) (command : Command) (made : Option Compiled) (number : ℕ) (p q : PosedProblem)
+    (solved : IsSolvedFor command made p q) (report wins : List ℕ)
+    (is : IsReportWith command.mode command None number p wins report)
+    (result : Result (Unit {0}) Fault) (old new : Option (List RunNote)) (held held' : Option (List ℕ)) where
+  -- a word ended as its report was written, with what is noted of it
+  told_ending : (note : Option RunNote)
+      → IsNotedOf (record { command = command; made = made; number = number; problem = q }) wins note
+      → IsWordEnding (λ bytes noted. (bytes ≡ report) × (noted ≡ notes_of note)) result old new held held'
+      → IsWordEnding (IsRunOf command None number p) result old new held held'
+  told_ending None (serial, none) ending =
+      ending_of (λ (bytes : List ℕ) (noted : List RunNote) (w : (bytes ≡ report) × (noted ≡ [])). inl (
+        inl serial,
+        w.1,
+        subst (λ (it : List ℕ × List ℕ). IsReportWith command.mode command None number p it.0 it.1)
+            (λ i. (none i, sym w.0 i)) is,
+      )) result old new held held' ending
+  told_ending (Some note) (mode, finished, run, is_note, wins_are) ending =
+      solved_word command number p q finished report report mode
+      (subst (λ (it : List ℕ). IsReportWith command.mode command None number p it report) wins_are is) refl result old new
+      held held' made solved
+      (ending_of (run_noted agree command q finished run report note is_note) result old new held held' ending)
+
 module _ (agree : CountsAgree) (command : Command) (number : ℕ) (asked : List PosedProblem) (all : List (Option Told))
     (told : AreTold command number asked all) where
   pub told_length : length all ≡ length asked
@@ -126,7 +149,7 @@ module _ (agree : CountsAgree) (command : Command) (number : ℕ) (asked : List 
   -- the word at a place ended as what is told of it was written
   pub told_word : (k : ℕ) (it : Told) → k < length all → Some it ≡ get_or all k (Some it)
       → (result : Result (Unit {0}) Fault) (old new : Option (List RunNote)) (held held' : Option (List ℕ))
-      → IsWordEnding (IsWrittenWith it.report.items it.note) result old new held held'
+      → IsWordEnding (IsWrittenAs it) result old new held held'
       → (p : PosedProblem) × (k < length asked) × (p ≡ get_or asked k p)
       × IsWordEnding (IsRunOf command None (number + k) p) result old new held held'
   told_word k it inside is result old new held held' ending =
@@ -135,8 +158,6 @@ module _ (agree : CountsAgree) (command : Command) (number : ℕ) (asked : List 
         at.0,
         at.2,
         at.3,
-        solved_word command (number + k) at.0 at.1 its.finished it.report.items it.report.items told.mode
-            (its.report at.0 at.4) refl result old new held held' told.made at.4
-            (ending_of (run_noted agree command at.1 its.finished its.run it.report.items it.note its.note) result old new
-            held held' ending),
+        told_ending agree command told.made (number + k) at.0 at.1 at.4 it.report.items its.wins (its.report at.0 at.4)
+            result old new held held' it.note its.noted ending,
       )

@@ -225,23 +225,29 @@ pub in_mode : (command : Command) (mode : Mode) (number : ℕ) (p : PosedProblem
 in_mode command mode number p report asked is =
     subst (λ it. IsReportWith it command None number p [] report) (sym asked) is
 
+-- a report that is written, with nothing noted beside it
+pub unnoted : (A : List ℕ → List RunNote → Type 0) (report : List ℕ) → A report []
+    → (result : Result (Unit {0}) Fault) (runs : Option (List RunNote)) (held held' : Option (List ℕ))
+    → IsReportWritten result held held' report → IsWordEnding A result runs runs held held'
+unnoted A report is (Ok written) runs held held' whole = (report, [], is, adds_none runs, whole)
+unnoted A report is (Err faults.Write) runs held held' part = (refl, report, [], is, part)
+unnoted A report is (Err faults.Usage) runs held held' h = absurd h
+unnoted A report is (Err faults.Read) runs held held' h = absurd h
+unnoted A report is (Err faults.TooLong) runs held held' h = absurd h
+unnoted A report is (Err (faults.Text fault)) runs held held' h = absurd h
+unnoted A report is (Err (faults.Grammar fault)) runs held held' h = absurd h
+unnoted A report is (Err (faults.Limit word fault)) runs held held' h = absurd h
+unnoted A report is (Err (faults.Rejected line)) runs held held' h = absurd h
+unnoted A report is (Err faults.Memory) runs held held' h = absurd h
+
 -- a report by one sweep
 pub swept_word : (command : Command) (number : ℕ) (p : PosedProblem) (report bytes : List ℕ)
     → SweepsOnce command.mode → IsReportWith command.mode command None number p [] report → bytes ≡ report → (result : Result (Unit {0}) Fault)
     (runs : Option (List RunNote)) (held held' : Option (List ℕ)) → IsReportWritten result held held' bytes
     → IsWordEnding (IsRunOf command None number p) result runs runs held held'
-swept_word command number p report bytes sweeps is same (Ok written) runs held held' whole =
-    (report, [], inl (sweeps, refl, is), adds_none runs, subst (Appends held held') same whole)
-swept_word command number p report bytes sweeps is same (Err faults.Write) runs held held' part =
-    (refl, report, [], inl (sweeps, refl, is), subst (AppendsProperPrefix held held') same part)
-swept_word command number p report bytes sweeps is same (Err faults.Usage) runs held held' h = absurd h
-swept_word command number p report bytes sweeps is same (Err faults.Read) runs held held' h = absurd h
-swept_word command number p report bytes sweeps is same (Err faults.TooLong) runs held held' h = absurd h
-swept_word command number p report bytes sweeps is same (Err (faults.Text fault)) runs held held' h = absurd h
-swept_word command number p report bytes sweeps is same (Err (faults.Grammar fault)) runs held held' h = absurd h
-swept_word command number p report bytes sweeps is same (Err (faults.Limit word fault)) runs held held' h = absurd h
-swept_word command number p report bytes sweeps is same (Err (faults.Rejected line)) runs held held' h = absurd h
-swept_word command number p report bytes sweeps is same (Err faults.Memory) runs held held' h = absurd h
+swept_word command number p report bytes sweeps is same result runs held held' written =
+    unnoted (IsRunOf command None number p) report (inl (sweeps, refl, is)) result runs held held'
+    (subst (λ (it : List ℕ). IsReportWritten result held held' it) same written)
 
 -- a mode that is none of those runs evaluators
 runs_them : (mode : Mode) → (mode ≡ Serial → ⊥) → (mode ≡ KBest → ⊥) → SweepsOnce mode → ⊥

@@ -8,11 +8,12 @@ use Rattle.adp_model.specs.Bounds.{IsNodeBound}
 use Rattle.adp_model.specs.Cells.{IsCellBound}
 use Rattle.adp_model.specs.ProblemFields.{most_cells, most_nodes}
 use Rattle.evaluators.specs.declared.finished.Finished.{Finished}
+use Rattle.evaluators.specs.declared.finished.RunNote.{RunNote}
 use Rattle.evaluators.specs.Runs.{IsNoteOf}
 use Rattle.grammar_check.specs.CheckedGrammar.{CheckedGrammar}
 use Rattle.split_lines.specs.Shared.{without_word}
 use Rattle.verdicts.specs.declared.command.Mode.{Mode}
-use Rattle.verdicts.specs.declared.command.Mode.TheVariants.{Best, Cert, Lex}
+use Rattle.verdicts.specs.declared.command.Mode.TheVariants.{Best, Cert, Lex, Serial}
 use Rattle.verdicts.specs.Command.{Command}
 use Rattle.verdicts.specs.Posed.{posed_word}
 use Rattle.verdicts.specs.Verdict.{IsReportWith}
@@ -23,12 +24,17 @@ use Rattle.adp_main.specs.RunNotes.{IsRunFor}
 use Rattle.adp_main.specs.declared.slot.Slot.{Slot}
 use Rattle.adp_main.specs.declared.slot.Told.{Told}
 
--- the mode's words are solved in groups: its reports tell nothing of evaluators
+-- the mode's words are solved in groups by evaluators, of which its reports tell nothing
+abbrev pub IsEvaluated : Mode → Type 0
+IsEvaluated Best = Unit {0}
+IsEvaluated Cert = Unit {0}
+IsEvaluated Lex = Unit {0}
+IsEvaluated mode = ⊥
+
+-- or they are so by one sweep each
 abbrev pub IsGrouped : Mode → Type 0
-IsGrouped Best = Unit {0}
-IsGrouped Cert = Unit {0}
-IsGrouped Lex = Unit {0}
-IsGrouped mode = ⊥
+IsGrouped Serial = Unit {0}
+IsGrouped mode = IsEvaluated mode
 
 -- there are workers enough for groups
 abbrev pub TakesGroups : Command → Type 0
@@ -105,13 +111,27 @@ abbrev pub IsPosted : Post → Type 0
 IsPosted post =
     IsGrouped post.command.mode × (asked : PosedProblem) × IsSolvedFor post.command post.made asked post.problem
 
--- what is told of it: the note of a run for its problem, and the report of the word that it is solved for
+-- what is noted of it, and the wins that its report may tell: of one sweep nothing; else the note of a run for its problem
+abbrev pub IsNotedOf : Post → List ℕ → Option RunNote → Type 0
+IsNotedOf post wins None = (post.command.mode ≡ Serial) × (wins ≡ [])
+IsNotedOf post wins (Some note) =
+    IsEvaluated post.command.mode × (finished : Finished) × IsRunFor post.command post.problem finished
+    × IsNoteOf post.problem post.command.seed finished note × (wins ≡ finished.wins.items)
+
+-- what is told of it: what is noted, and the report of the word that it is solved for
 pub record IsTold (post : Post) (told : Told) : Type 0 where
-  pub finished : Finished
-  pub run : IsRunFor post.command post.problem finished
-  pub note : IsNoteOf post.problem post.command.seed finished told.note
+  pub wins : List ℕ
+  pub noted : IsNotedOf post wins told.note
   pub report : (asked : PosedProblem) → IsSolvedFor post.command post.made asked post.problem
-      → IsReportWith post.command.mode post.command None post.number asked finished.wins.items told.report.items
+      → IsReportWith post.command.mode post.command None post.number asked wins told.report.items
+
+abbrev pub notes_of : Option RunNote → List RunNote
+notes_of None = []
+notes_of (Some note) = note ∷ []
+
+-- the bytes are the report that is told, and what is noted is its note, where it has one
+abbrev pub IsWrittenAs : Told → List ℕ → List RunNote → Type 0
+IsWrittenAs told bytes noted = (bytes ≡ told.report.items) × (noted ≡ notes_of told.note)
 
 -- what is told of words that are asked for, in order, the first of which has this number
 pub record AreTold (command : Command) (number : ℕ) (asked : List PosedProblem) (all : List (Option Told)) : Type 0 where

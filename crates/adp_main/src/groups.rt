@@ -11,12 +11,15 @@ ghost use Rattle.verdicts.specs.Command.{Command};
 ghost use Rattle.verdicts.specs.Posed.{posed_word, posed_words};
 ghost use Rattle.verdicts.specs.SecondAlgebra.{IsAdmissibleWith};
 ghost use Rattle.adp_main.specs.CompiledWords.{ServesItsLength};
+ghost use Rattle.adp_main.specs.Faults.{status_after};
 ghost use Rattle.adp_main.specs.FirstWords.{AreFirstEnding, IsWriteFault};
-ghost use Rattle.adp_main.specs.Groups.{AreAlike, AreTold, HasItsLength, HasRoom, HaveCells, HaveNodes, IsGrouped, IsMadeFor, IsSolvedFor, IsTold, TakesGroups, common_of, post_of, posts_from};
+ghost use Rattle.adp_main.specs.Groups.{AreAlike, AreTold, HasItsLength, HasRoom, HaveCells, HaveNodes, IsGrouped, IsMadeFor, IsSolvedFor, IsTold, IsWrittenAs, TakesGroups, common_of, post_of, posts_from};
 ghost use Rattle.adp_main.specs.JudgedWords.{AreJudged};
 ghost use Rattle.adp_main.specs.KeptLengths.{HasKept};
 ghost use Rattle.adp_main.specs.Seconds.{AreJobRows};
 ghost use Rattle.adp_main.specs.SharedWords.{IsSharedOf};
+ghost use Rattle.adp_main.specs.Writing.{IsWordEnding};
+ghost use Rattle.adp_main.specs.declared.status.Status.TheVariants.{WriteFault};
 
 use crate::admitting::{admitted, nodes_of};
 use crate::checking::CheckedJob;
@@ -24,7 +27,7 @@ use crate::evaluating::write_noted;
 use crate::lex::{Compiled, keep_for};
 use crate::limits::Judged;
 use crate::slot::{Slot, Told};
-use crate::writing::is_admitted;
+use crate::writing::{is_admitted, write_report};
 use adp_io::Sink;
 use adp_model::laws::demand::demanded_cells_are_unique;
 use adp_model::{Problem, Text};
@@ -54,7 +57,7 @@ fn takes_groups(command: &Command<'_>) -> bool
     ensures { IsTrue result ↔ TakesGroups command.now }
 {
     match command.mode {
-        Mode::Best | Mode::Cert | Mode::Lex => command.workers > 1,
+        Mode::Best | Mode::Serial | Mode::Cert | Mode::Lex => command.workers > 1,
         _ => false,
     }
 }
@@ -411,11 +414,25 @@ fn write_told<K: Sink, G: Gate>(
     demanded_cells_are_unique();
     let mut written = 0;
     for word in all {
-        let Some(Told { report, note }) = word else {
+        let Some(told) = word else {
             break;
         };
-        write_noted(&report, note, out, gate)?;
+        write_one(told, out, gate)?;
         written += 1;
     }
     Ok(written)
+}
+
+/// Writes what is told of a word by one `write_whole`, and hands the gate its note, where it has one.
+fn write_one<K: Sink, G: Gate>(told: Told, out: &mut K, gate: &mut G) -> Result<(), Fault>
+    ensures told { SameTold (K.held out.old) (K.held out.new) }
+    ensures faults { RisesWhere (K.faults out.old) (K.faults out.new) (status_after result ≡ WriteFault) }
+    ensures ending { IsWordEnding (IsWrittenAs told) result
+        (G.runs gate.old) (G.runs gate.new) (K.held out.old) (K.held out.new) }
+{
+    let Told { report, note } = told;
+    match note {
+        Some(note) => write_noted(&report, note, out, gate),
+        None => write_report(out, &report),
+    }
 }

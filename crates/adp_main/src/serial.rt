@@ -21,7 +21,7 @@ use adp_io::Sink;
 use adp_model::Problem;
 use report::Fault;
 use seq_reference::solve_prepared;
-use split_lines::Shared;
+use split_lines::{Prepared, Shared};
 use std::alloc::{AllocError, Global};
 
 /// Solves the word on one thread, over what it shares with other words where there is something, and writes its report
@@ -39,21 +39,21 @@ pub(crate) fn report_word<K: Sink>(
     ensures ending { (command : Command) (runs : Option (List RunNote)) → command.mode ≡ Serial
         → IsWordEnding (IsRunOf command None number problem.now) result runs runs (K.held out.old) (K.held out.new) }
 {
-    let report = swept_report(alloc, number, problem, shared)?;
+    let prepared = prepare(alloc, problem, shared)?;
+    let report = swept_report(alloc, number, problem, prepared)?;
     write_report(out, &report)
 }
 
-/// The report of a word.
-fn swept_report(
+/// The report of a word, of its prepared problem.
+pub(crate) fn swept_report<'a>(
     alloc: Global,
     number: u32,
     problem: &Problem<'_>,
-    shared: Option<&Shared<'_>>,
+    prepared: Prepared<'a>,
 ) -> Result<Vec<u8>, AllocError>
-    requires { IsSharedOf (without_word problem.now) (option_copied shared) }
+    requires { prepared ≡ problem.now }
     ensures { IfOk result (λ report. IsReport number problem.now report.items) }
 {
-    let prepared = prepare(alloc, problem, shared)?;
     let solved = solve_prepared(alloc, prepared)?;
     answered_report(alloc, number, problem, &solved, solved.cells())
 }

@@ -2,30 +2,31 @@
 ghost use Rattle.std.specs.Prelude.{◌≡◌, ℕ, IfOk, IfSome, None};
 ghost use Rattle.std.specs.Option.{option_copied};
 ghost use Rattle.adp_model.specs.PosedProblem.{PosedProblem};
-ghost use Rattle.verdicts.specs.declared.command.Mode.TheVariants.{Lex};
+ghost use Rattle.verdicts.specs.declared.command.Mode.TheVariants.{Lex, Serial};
 ghost use Rattle.verdicts.specs.Verdict.{IsReportWith};
-ghost use Rattle.adp_main.specs.Groups.{IsGrouped, IsPosted, IsSolvedFor, IsTold, post_of};
+ghost use Rattle.adp_main.specs.Groups.{IsEvaluated, IsPosted, IsSolvedFor, IsTold, post_of};
 ghost use Rattle.adp_main.specs.RunNotes.{IsRunFor};
 
 use crate::cert::block_report;
 use crate::evaluating::{plain_report, run_alone};
 use crate::lex::{Compiled, report_of_both};
+use crate::serial::swept_report;
 use adp_model::Problem;
 use evaluators::{Door, Finished, Gate, NotedRun, Way};
 use split_lines::Sharing;
 use std::alloc::{AllocError, Global};
-use verdicts::Command;
+use verdicts::{Command, Mode};
 use word_groups::Fill;
 
-/// What is told of a word that evaluators solved: its report, and the note of their run.
+/// What is told of a word: its report, and the note of the run where evaluators solved it.
 #[derive(Drop)]
 pub(crate) struct Told {
     pub(crate) report: Vec<u8>,
-    pub(crate) note: NotedRun,
+    pub(crate) note: Option<NotedRun>,
 }
 
-/// A word of a group, with what its problem shares with the others, and what is told of it: nothing before its evaluators
-/// ran, and where there was no memory.
+/// A word of a group, with what its problem shares with the others, and what is told of it: nothing before it is solved,
+/// and where there was no memory.
 #[derive(Drop)]
 pub(crate) struct Slot<'a, 'g, G> {
     pub(crate) alloc: Global,
@@ -56,9 +57,34 @@ impl<'a, 'g, G: Gate> Fill for Slot<'a, 'g, G> {
 }
 
 impl<'a, 'g, G> Slot<'a, 'g, G> {
-    /// What is told of the word, whose evaluators run here, one after the other. Nothing else is left of them.
+    /// What is told of the word, which is solved here. Nothing else is left of what solved it.
     fn tell<D: Door>(&self, door: &D) -> Result<Told, AllocError>
         requires { IsPosted (post_of self.now) }
+        ensures { IfOk result (IsTold (post_of self.now)) }
+    {
+        let command = self.command;
+        match command.mode {
+            Mode::Serial => self.sweep(),
+            _ => self.evaluate(door),
+        }
+    }
+
+    /// What is told of the word, by one sweep.
+    fn sweep(&self) -> Result<Told, AllocError>
+        requires posted { IsPosted (post_of self.now) }
+        requires mode { (post_of self.now).command.mode ≡ Serial }
+        ensures { IfOk result (IsTold (post_of self.now)) }
+    {
+        let problem = self.sharing.problem();
+        let prepared = self.sharing.prepared(self.alloc)?;
+        let report = swept_report(self.alloc, self.number, problem, prepared)?;
+        Ok(Told { report, note: None })
+    }
+
+    /// What is told of the word, by evaluators that run one after the other.
+    fn evaluate<D: Door>(&self, door: &D) -> Result<Told, AllocError>
+        requires posted { IsPosted (post_of self.now) }
+        requires mode { (post_of self.now).command.mode ≡ Serial → ⊥ }
         ensures { IfOk result (IsTold (post_of self.now)) }
     {
         let command = self.command;
@@ -74,7 +100,10 @@ impl<'a, 'g, G> Slot<'a, 'g, G> {
             &finished,
         )?;
         let note = finished.note(self.alloc, problem, command.seed)?;
-        Ok(Told { report, note })
+        Ok(Told {
+            report,
+            note: Some(note),
+        })
     }
 }
 
@@ -87,7 +116,7 @@ fn report_of<'a>(
     problem: &'a Problem<'a>,
     finished: &Finished<'a>,
 ) -> Result<Vec<u8>, AllocError>
-    requires mode { IsGrouped command.now.mode }
+    requires mode { IsEvaluated command.now.mode }
     requires asked { (asked : PosedProblem) × IsSolvedFor command.now (option_copied made) asked problem.now }
     requires run { IsRunFor command.now problem.now finished.now }
     ensures { IfOk result (λ report. (asked : PosedProblem)
@@ -108,7 +137,7 @@ fn own_report<'a>(
     problem: &'a Problem<'a>,
     finished: &Finished<'a>,
 ) -> Result<Vec<u8>, AllocError>
-    requires mode { IsGrouped command.now.mode }
+    requires mode { IsEvaluated command.now.mode }
     requires single { command.now.mode ≡ Lex → ⊥ }
     requires run { IsRunFor command.now problem.now finished.now }
     ensures { IfOk result (λ report. IsReportWith command.now.mode command.now None number problem.now

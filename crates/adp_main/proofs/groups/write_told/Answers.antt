@@ -6,7 +6,6 @@ use Rattle.adp_model.specs.PosedProblem.{PosedProblem}
 use Rattle.verdicts.specs.Command.{Command}
 use Rattle.adp_main.specs.declared.slot.Told.{Told}
 use Rattle.adp_main.specs.Groups.{AreTold}
-use Rattle.adp_main.specs.Writing.{IsWordEnding, IsWrittenWith}
 use Rattle.adp_main.proofs.FirstWords.{one_reported}
 use Rattle.adp_main.proofs.Posts.{behind_inside, told_length, told_word}
 use Rattle.adp_main.proofs.groups.write_told.Goals as goal
@@ -16,18 +15,15 @@ loop-word-preserved g c =
     let word = c.in-Some.word in
     let yielded = c.loop-word.yielded in
     let written = c.loop-word.written in
-    let e = c.in_ok-write_noted.ensures in
+    let e = c.in_ok-write_one.ensures in
     let next = ap (λ items. yielded ++ items) c.in-Some.ensures.steps.0 in
     let whole = sym c.loop-word.invariant.left ∙ next in
-    let it : Told = c.in-Some-word.field-0 in
+    let it : Told = c.in-Some-word.told in
     let inside : written < length c.args.all.items =
     omega (arith, behind_inside yielded (into_iter_items c.next.new.self) word, ap length whole, c.loop-word.invariant.count) in
     let here : Some it ≡ get_or c.args.all.items written (Some it) =
     sym c.in-Some-word.is ∙ sym (get_or_at yielded word (into_iter_items c.next.new.self) (Some it) written (sym c.loop-word.invariant.count))
     ∙ ap (λ (items : List (Option Told)). get_or items written (Some it)) (sym whole) in
-    let ending = subst (λ (report : List ℕ). IsWordEnding (IsWrittenWith report it.note) (Ok tt)
-    (g.G.Gate.runs c.loop-word.gate) (g.G.Gate.runs c.write_noted.new.gate) (g.K.Sink.held c.loop-word.out)
-    (g.K.Sink.held c.write_noted.new.out)) c.deref.ensures.value e.ending in
     record {
       left = append_assoc yielded (word ∷ []) (into_iter_items c.next.new.self) ∙ sym next ∙ c.loop-word.invariant.left;
       count = omega (arith, c.loop-word.invariant.count, length-append yielded (word ∷ []));
@@ -35,28 +31,26 @@ loop-word-preserved g c =
       faults = e.faults.stands (λ failed. cc) ∙ c.loop-word.invariant.faults;
       ran = λ (command : Command) (number : ℕ) (asked : List PosedProblem) (are : AreTold command number asked c.args.all.items).
           let at = told_word c.demanded_cells_are_unique.ensures.count command number asked c.args.all.items are written it
-          inside here (Ok tt) _ _ _ _ ending in
+          inside here (Ok tt) _ _ _ _ e.ending in
           one_reported command number asked written at.0 at.1 at.2 tt _ _ _ _ _ _
           (c.loop-word.invariant.ran command number asked are) at.3;
     }
 
-pub returns-in_err-write_noted-clause-ending : goal.returns-in_err-write_noted-clause-ending
-returns-in_err-write_noted-clause-ending g c =
+pub returns-in_err-write_one-clause-ending : goal.returns-in_err-write_one-clause-ending
+returns-in_err-write_one-clause-ending g c =
     let p = err_from_is_err_and c.from_residual.result c.from_residual.ensures.1 in
     let word = c.in-Some.word in
     let yielded = c.loop-word.yielded in
     let written = c.loop-word.written in
     let whole = sym c.loop-word.invariant.left ∙ ap (λ items. yielded ++ items) c.in-Some.ensures.steps.0 in
-    let it : Told = c.in-Some-word.field-0 in
+    let it : Told = c.in-Some-word.told in
     let inside : written < length c.args.all.items =
     omega (arith, behind_inside yielded (into_iter_items c.next.new.self) word, ap length whole, c.loop-word.invariant.count) in
     let here : Some it ≡ get_or c.args.all.items written (Some it) =
     sym c.in-Some-word.is ∙ sym (get_or_at yielded word (into_iter_items c.next.new.self) (Some it) written (sym c.loop-word.invariant.count))
     ∙ ap (λ (items : List (Option Told)). get_or items written (Some it)) (sym whole) in
-    let fault = c.in_err-write_noted.field-0.0 in
-    let ending = subst (λ (report : List ℕ). IsWordEnding (IsWrittenWith report it.note) (Err fault)
-    (g.G.Gate.runs c.loop-word.gate) (g.G.Gate.runs c.write_noted.new.gate) (g.K.Sink.held c.loop-word.out)
-    (g.K.Sink.held c.write_noted.new.out)) c.deref.ensures.value c.in_err-write_noted.ensures.ending in
+    let fault = c.in_err-write_one.field-0.0 in
+    let ending = c.in_err-write_one.ensures.ending in
     λ (command : Command) (number : ℕ) (asked : List PosedProblem) (are : AreTold command number asked c.args.all.items).
     let at = told_word c.demanded_cells_are_unique.ensures.count command number asked c.args.all.items are written it inside
     here (Err fault) _ _ _ _ ending in

@@ -6,6 +6,11 @@ use Rattle.adp_main.proofs.serial.report_word.Goals as goal
 
 pub returns-in_err-report-clause-ending : goal.returns-in_err-report-clause-ending
 returns-in_err-report-clause-ending g c =
+    let p = err_from_is_err_and c.from_residual-in_err-report.result c.from_residual-in_err-report.ensures.1 in
+    rw (p.1, p.2) (λ command runs serial. not_written runs _)
+
+pub returns-in_err-prepared-clause-ending : goal.returns-in_err-prepared-clause-ending
+returns-in_err-prepared-clause-ending g c =
     let p = err_from_is_err_and c.from_residual.result c.from_residual.ensures.1 in
     rw (p.1, p.2) (λ command runs serial. not_written runs _)
 

@@ -1,11 +1,12 @@
-use Rattle.std.proofs.Common.{ℕ, ap, sym, subst}
+use Rattle.std.proofs.Common.{ℕ, refl, ap, sym, subst}
 use Rattle.std.specs.Option.{option_copied}
 use Rattle.adp_model.specs.PosedProblem.{PosedProblem}
 use Rattle.evaluators.specs.Runs.{IsNoteOf}
 use Rattle.verdicts.specs.Command.{Command}
 use Rattle.adp_main.specs.Groups.{IsSolvedFor}
 use Rattle.adp_main.specs.RunNotes.{IsRunFor}
-use Rattle.adp_main.proofs.slot.Slot.tell.Goals as goal
+use Rattle.adp_main.proofs.FirstWords.{evaluated}
+use Rattle.adp_main.proofs.slot.Slot.evaluate.Goals as goal
 
 pub returns : goal.returns
 returns g c =
@@ -16,9 +17,14 @@ returns g c =
     let seeded = subst (λ (seed : ℕ). IsNoteOf c.problem-problem.result.now seed finished note)
     (ap (λ (it : Command). it.seed) c.command.view_is) c.in_ok-note.ensures in
     record {
-      finished = finished;
-      run = subst (λ (p : PosedProblem). IsRunFor command p finished) c.in_ok-prepared.ensures c.in_ok-finished.ensures;
-      note = subst (λ (p : PosedProblem). IsNoteOf p command.seed finished note) c.problem-problem.ensures seeded;
+      wins = finished.wins.items;
+      noted = (
+        evaluated command.mode c.requires.posted.0 c.requires.mode,
+        finished,
+        subst (λ (p : PosedProblem). IsRunFor command p finished) c.in_ok-prepared.ensures c.in_ok-finished.ensures,
+        subst (λ (p : PosedProblem). IsNoteOf p command.seed finished note) c.problem-problem.ensures seeded,
+        refl,
+      );
       report = λ asked solved. c.in_ok-report.ensures asked
           (subst (λ (p : PosedProblem). IsSolvedFor command made asked p) (sym c.problem-problem.ensures) solved);
     }
