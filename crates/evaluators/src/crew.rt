@@ -79,36 +79,31 @@ pub fn run_prepared<'a, R: Threads + Sync, G: Gate>(
     ensures machines { IfOk result (λ finished. vec_len finished.machines ≡ workers) }
     ensures ended { IfOk result HaveAllEnded }
 {
+    let shared = shared_by_all(alloc, prepared)?;
+    run_sharing(rt, alloc, &shared, workers, seed, gate)
+}
+
+/// The same of a prepared problem that is shared.
+fn run_sharing<'a, R: Threads + Sync, G: Gate>(
+    rt: &R,
+    alloc: Global,
+    prepared: &Arc<Prepared<'a>, Global>,
+    workers: u32,
+    seed: u64,
+    gate: &G,
+) -> Result<Finished<'a>, AllocError>
+    requires number { (1 ≤ workers) × (workers ≤ 32) }
+    requires admissible { IsAdmissible (arc_value prepared.now) }
+    ensures finished { IfOk result (IsFinished (arc_value prepared.now) seed) }
+    ensures machines { IfOk result (λ finished. vec_len finished.machines ≡ workers) }
+    ensures ended { IfOk result HaveAllEnded }
+{
     let problem = prepared.problem();
     let (table, pass) = Table::new(alloc, problem, workers)?;
-    let mut crew = team_for(alloc, &table, prepared, gate, pass, workers, seed)?;
+    let mut crew = team(alloc, &table, prepared, gate, pass, workers, seed)?;
     run_all(rt, &table, crew.as_mut_slice());
     let left = join_all(alloc, &table, seed, workers, crew)?;
     Ok(finish(table, problem, seed, left))
-}
-
-/// A team that works on the prepared problem.
-pub(crate) fn team_for<'a, 'g, G>(
-    alloc: Global,
-    table: &Table,
-    prepared: Prepared<'a>,
-    gate: &'g G,
-    pass: Pass,
-    count: u32,
-    seed: u64,
-) -> Result<Vec<GatedWorker<'g, TableWorker<'a>, G>>, AllocError>
-    requires same { problem_of table.now ≡ prepared }
-    requires own { IsPassOf table.now pass }
-    requires first { view_of pass ≡ first_view (plan_of table.now) }
-    requires unmarked { marks_of pass ≡ [] }
-    requires seats { (plan_of table.now).seats ≡ count }
-    requires some { 1 ≤ count }
-    ensures ready { IfOk result (λ team. All (λ gated. IsReady table.now gated.worker) team.items) }
-    ensures posts { IfOk result (λ team. map (λ gated. post_of gated.worker) team.items
-        ≡ posts_of prepared.entry seed count) }
-{
-    let shared = shared_by_all(alloc, prepared)?;
-    team(alloc, table, &shared, gate, pass, count, seed)
 }
 
 /// The prepared problem, shared by all workers.

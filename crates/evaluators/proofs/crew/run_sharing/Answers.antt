@@ -14,12 +14,12 @@ use Rattle.cell_core.proofs.SharedParts.{machine_send}
 use Rattle.evaluators.proofs.SentProbes.{probe_send}
 use Rattle.evaluators.proofs.Listed.{map_after, map_written_back}
 use Rattle.evaluators.proofs.Finishing.{all_ended, first_of_ended}
-use Rattle.evaluators.proofs.crew.run_prepared.Goals as goal
+use Rattle.evaluators.proofs.crew.run_sharing.Goals as goal
 
 pub join_all-requires-clause-posts : goal.join_all-requires-clause-posts
 join_all-requires-clause-posts g c =
     let crew = c.in_ok-crew.crew in
-    let same = sym ((c.in_ok-table.ensures {u = tt}).problem ∙ c.problem-problem.ensures) in
+    let same = sym ((c.in_ok-table.ensures {u = tt}).problem ∙ (c.problem-problem.ensures ∙ c.deref.ensures)) in
     map_written_back (λ (gated : GatedWorker TableWorker _). post_of gated.worker) crew.items c.run_all.new.workers
     crew.len crew.ok.0
     (c.run_all.ensures.posts
@@ -38,12 +38,12 @@ join_all-requires-clause-first g c =
     (first_of_ended (λ (gated : GatedWorker TableWorker _). gated.worker) c.in_ok-table.table left
     (problem_of c.in_ok-table.table) c.args.seed c.args.workers c.run_all.ensures.done
     (posts ∙ (c.in_ok-crew.ensures {u = tt}).posts
-    ∙ ap (λ p. posts_of p c.args.seed c.args.workers) (sym ((c.in_ok-table.ensures {u = tt}).problem ∙ c.problem-problem.ensures)))
-    c.requires.0)
+    ∙ ap (λ p. posts_of p c.args.seed c.args.workers) (sym ((c.in_ok-table.ensures {u = tt}).problem ∙ (c.problem-problem.ensures ∙ c.deref.ensures))))
+    c.requires.number.0)
 
 pub returns-clause-finished : goal.returns-clause-finished
 returns-clause-finished g c =
-    subst (λ (p : PosedProblem). IsFinished p c.args.seed c.finish.result) c.problem-problem.ensures c.finish.ensures.finished
+    subst (λ (p : PosedProblem). IsFinished p c.args.seed c.finish.result) (c.problem-problem.ensures ∙ c.deref.ensures) c.finish.ensures.finished
 
 pub returns-clause-ended : goal.returns-clause-ended
 returns-clause-ended g c =
