@@ -61,7 +61,7 @@ pub fn run_in_turn<'a, D: Door>(
 type Visitor<'a, 'd, D> = GatedWorker<'d, TableWorker<'a>, D>;
 
 /// What workers have in common that run one after the other.
-#[derive(Clone, Copy)]
+#[derive(Drop)]
 struct Turns<'r, 'a, 'd, D> {
     alloc: Global,
     table: &'r Table,
