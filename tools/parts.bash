@@ -4,8 +4,9 @@
 # the counts so far, `skipped` what was not tried, for want of something; `begun` of `parts` parts have begun.
 
 passed=0 failed=0 skipped=() begun=0
-room=$(mktemp -d) || exit 1
-mkdir "$room/temporary" && export TMPDIR=$room/temporary || exit 1
+# (short names, since the gate's room has that of tools/test in it, and a Chromium's socket a path of some 100 bytes)
+room=$(mktemp -d "${TMPDIR:-/tmp}/adp.XXXXXX") || exit 1
+mkdir "$room/t" && export TMPDIR=$room/t || exit 1
 trap 'rm -rf "$room"' EXIT
 trap 'exit 1' INT TERM HUP
 
