@@ -1,12 +1,11 @@
 -- The grammar of a text without a fault is one of the text's format: linear terms and no sizes in the first, wide terms
 -- in the second.
-use Rattle.std.proofs.Common.{◌≡◌, ℕ, Bool, true, false, cond, ◌||◌, not, nat_eq, Option, Some, None, is_none, IfSome, List, [], ◌∷◌, ◌++◌, map, refl, sym, ◌∙◌, subst}
+use Rattle.std.proofs.Common.{◌≡◌, ℕ, Bool, true, false, cond, ◌||◌, nat_eq, Option, Some, None, is_none, IfSome, List, [], ◌∷◌, ◌++◌, map, refl, sym, ◌∙◌}
 use Rattle.std.specs.Prelude.{codes}
 use Rattle.std.specs.List.{list_all, filter_map, position_or_len, AllByRecursion}
 use Rattle.std.specs.Option.{option_map, option_and_then}
 use Rattle.std.proofs.lemmas.Bool.{and_parts, and_from, not-false}
 use lib.Pointwise.{pointwise}
-use Rattle.adp_model.specs.declared.grammar.Goal.{Goal}
 use Rattle.adp_model.specs.declared.grammar.Linear as Linears
 use Rattle.adp_model.specs.WideForm.{WideForm}
 use Rattle.adp_model.specs.declared.grammar.Term.{Term}
@@ -14,7 +13,7 @@ use Rattle.adp_model.specs.declared.grammar.Term.TheVariants.{Linear, Wide}
 use Rattle.adp_model.specs.declared.grammar.Algebra as algebras
 use Rattle.adp_model.specs.declared.grammar.Alt.{Alt}
 use Rattle.adp_model.specs.declared.grammar.Rule as rules
-use Rattle.adp_model.specs.WellFormed.{has_linear_terms, has_no_sizes, has_wide_terms, is_of_version}
+use Rattle.adp_model.specs.WellFormed.{has_linear_terms, has_no_sizes, is_of_version}
 use Rattle.job_texts.specs.LineTokens.{Token, Word, Equals, OpenBracket}
 use Rattle.job_texts.specs.TermText.{Part, is_among, is_word, linear_of}
 use Rattle.job_texts.specs.TermParts.{parts_of}

@@ -15,6 +15,7 @@ pub mod Headings
 pub mod Judging
 pub mod LetLines
 pub mod Lets
+pub mod Leaves
 pub mod Letters
 pub mod Members
 pub mod Nothing

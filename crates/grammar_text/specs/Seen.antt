@@ -5,7 +5,7 @@ use Rattle.std.specs.Option.{option_map, option_and_then, option_copied}
 use Rattle.std.specs.Global.{Global}
 use Rattle.std.specs.declared.boxed.Box.{Box}
 use Rattle.job_texts.specs.LetTerms.{LetTerm, Parts, term_of_text}
-use Rattle.job_texts.specs.LineTokens.{Token, QuotedRest, Bar, CloseBracket, CloseSquare, Comma, Dots, Word}
+use Rattle.job_texts.specs.LineTokens.{Token, QuotedRest, CloseBracket, CloseSquare, Comma, Dots, Word}
 use Rattle.job_texts.specs.Declarations as forms
 use Rattle.algebra_terms.specs.declared.symbols.Symbol.{Symbol}
 use Rattle.algebra_terms.specs.Tokens.{letters_behind, symbol_of}

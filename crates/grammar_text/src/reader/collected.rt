@@ -12,7 +12,7 @@ use crate::reader::shape::header_line;
 use std::alloc::{AllocError, Global};
 
 /// What a header line is, but for what it says.
-#[derive(Clone, Copy, Debug, PartialEq, Eq)]
+#[derive(Clone, Copy)]
 pub(crate) enum LineSort {
     Skipped,
     Unprintable,

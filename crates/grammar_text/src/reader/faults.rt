@@ -16,7 +16,7 @@ use algebra_terms::WideError;
 use std::alloc::{AllocError, Global};
 
 /// What stands wrong at a line by what it declares, its own words aside.
-#[derive(Clone, Copy, Debug, PartialEq, Eq)]
+#[derive(Clone, Copy)]
 pub(crate) struct FormTests {
     pub(crate) repeats: bool,
     pub(crate) misletters: bool,
@@ -31,7 +31,7 @@ pub(crate) struct FormTests {
 }
 
 /// What a declaration shows by its own words.
-#[derive(Clone, Copy, Debug, PartialEq, Eq)]
+#[derive(Clone, Copy)]
 pub(crate) enum OwnWords {
     Misnamed,
     Misnumbered,

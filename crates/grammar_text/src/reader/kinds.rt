@@ -10,7 +10,7 @@ use adp_model::TextFault;
 /// What stands wrong at a line, by the numbers of the kinds. Where a name is wrong, what follows it says nothing, and
 /// so where a number is; so do the count of a line that uses an unknown name and what follows it, and `twice` where a
 /// count passes its limit.
-#[derive(Clone, Copy, Debug, PartialEq, Eq)]
+#[derive(Clone, Copy)]
 pub(crate) struct LineTests {
     pub(crate) other_first_line: bool,
     pub(crate) unprintable: bool,

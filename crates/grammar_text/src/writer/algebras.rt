@@ -1,7 +1,9 @@
 //! Algebras with their terms.
 
-ghost use Rattle.std.specs.Prelude.{◌≡◌, ◌++◌, OnOk, codes};
+ghost use Rattle.std.specs.Prelude.{◌≡◌, ◌+◌, ◌++◌, ◌∷◌, OnOk, codes};
+ghost use Rattle.std.specs.Fmt.{decimal};
 ghost use Rattle.std.specs.List.{flat_map, zip};
+ghost use Rattle.adp_model.specs.Ascii.{small_x};
 ghost use Rattle.adp_model.specs.WideTerms.{form_of};
 ghost use Rattle.job_texts.specs.Spelling.{algebra_lines, factor_text, factors_text, goal_text, let_line, linear_text, part_text, separated, term_text, variables, wide_text};
 
@@ -53,13 +55,21 @@ fn push_lets(out: &mut Vec<u8>, signs: &[Sign], terms: &[Term]) -> Result<(), Al
 fn push_let(out: &mut Vec<u8>, sign: &Sign, term: &Term) -> Result<(), AllocError>
     ensures { OnOk result (out.new.items ≡ out.old.items ++ let_line (sign.now, term.now)) }
 {
+    push_head(out, sign)?;
+    push_term(out, term)?;
+    out.extend_from_slice(b"\n")
+}
+
+/// `let NAME(x1, x2) = `
+fn push_head(out: &mut Vec<u8>, sign: &Sign) -> Result<(), AllocError>
+    ensures { OnOk result (out.new.items ≡ out.old.items ++ (codes "let " ++ sign.now.name
+        ++ codes "(" ++ separated (λ name. name) (codes ", ") (variables 1 sign.now.kinds) ++ codes ") = ")) }
+{
     out.extend_from_slice(b"let ")?;
     out.extend_from_slice(sign.name.bytes())?;
     out.extend_from_slice(b"(")?;
     push_variables(out, sign.kinds.as_slice())?;
-    out.extend_from_slice(b") = ")?;
-    push_term(out, term)?;
-    out.extend_from_slice(b"\n")
+    out.extend_from_slice(b") = ")
 }
 
 /// A variable for each kind: `x1, x2` and so on.
@@ -97,6 +107,7 @@ fn push_wide(out: &mut Vec<u8>, term: &Wide) -> Result<(), AllocError>
 }
 
 /// Two parts with a mark between them.
+#[cycle(part)]
 fn push_between(out: &mut Vec<u8>, left: &Wide, mark: &[u8], right: &Wide) -> Result<(), AllocError>
     ensures { OnOk result (out.new.items ≡ out.old.items
         ++ (part_text (form_of left.now) ++ mark.now ++ part_text (form_of right.now))) }
@@ -107,51 +118,43 @@ fn push_between(out: &mut Vec<u8>, left: &Wide, mark: &[u8], right: &Wide) -> Re
 }
 
 /// A wide term as a part of another: `x1`, `(1 + x1)` or `max(x1, x2)`.
+#[cycle(part)]
 fn push_part(out: &mut Vec<u8>, term: &Wide) -> Result<(), AllocError>
     ensures { OnOk result (out.new.items ≡ out.old.items ++ part_text (form_of term.now)) }
 {
     match term {
         Wide::Number(number) => push_signed(out, *number),
-        Wide::Value(place) => {
-            out.extend_from_slice(b"x")?;
-            push_decimal(out, u64::from(*place) + 1)
-        }
-        Wide::Sum(left, right) => {
-            out.extend_from_slice(b"(")?;
-            push_part(out, left)?;
-            out.extend_from_slice(b" + ")?;
-            push_part(out, right)?;
-            out.extend_from_slice(b")")
-        }
-        Wide::Difference(left, right) => {
-            out.extend_from_slice(b"(")?;
-            push_part(out, left)?;
-            out.extend_from_slice(b" - ")?;
-            push_part(out, right)?;
-            out.extend_from_slice(b")")
-        }
-        Wide::Product(left, right) => {
-            out.extend_from_slice(b"(")?;
-            push_part(out, left)?;
-            out.extend_from_slice(b" * ")?;
-            push_part(out, right)?;
-            out.extend_from_slice(b")")
-        }
-        Wide::Greater(left, right) => {
-            out.extend_from_slice(b"max(")?;
-            push_part(out, left)?;
-            out.extend_from_slice(b", ")?;
-            push_part(out, right)?;
-            out.extend_from_slice(b")")
-        }
-        Wide::Lesser(left, right) => {
-            out.extend_from_slice(b"min(")?;
-            push_part(out, left)?;
-            out.extend_from_slice(b", ")?;
-            push_part(out, right)?;
-            out.extend_from_slice(b")")
-        }
+        Wide::Value(place) => push_value(out, *place),
+        Wide::Sum(left, right) => push_pair(out, b"(", left, b" + ", right),
+        Wide::Difference(left, right) => push_pair(out, b"(", left, b" - ", right),
+        Wide::Product(left, right) => push_pair(out, b"(", left, b" * ", right),
+        Wide::Greater(left, right) => push_pair(out, b"max(", left, b", ", right),
+        Wide::Lesser(left, right) => push_pair(out, b"min(", left, b", ", right),
     }
+}
+
+fn push_value(out: &mut Vec<u8>, place: u32) -> Result<(), AllocError>
+    ensures { OnOk result (out.new.items ≡ out.old.items ++ small_x ∷ decimal (place + 1)) }
+{
+    out.extend_from_slice(b"x")?;
+    push_decimal(out, u64::from(place) + 1)
+}
+
+/// Two parts with a mark between them, from an opening bracket to the closing one.
+#[cycle(part)]
+fn push_pair(
+    out: &mut Vec<u8>,
+    open: &[u8],
+    left: &Wide,
+    mark: &[u8],
+    right: &Wide,
+) -> Result<(), AllocError>
+    ensures { OnOk result (out.new.items ≡ out.old.items
+        ++ (open.now ++ part_text (form_of left.now) ++ mark.now ++ part_text (form_of right.now) ++ codes ")")) }
+{
+    out.extend_from_slice(open)?;
+    push_between(out, left, mark, right)?;
+    out.extend_from_slice(b")")
 }
 
 fn push_linear(out: &mut Vec<u8>, term: &Linear) -> Result<(), AllocError>

@@ -1,6 +1,5 @@
-use Rattle.std.proofs.Common.{◌≡◌, true, false, sym, ◌∙◌, arith}
+use Rattle.std.proofs.Common.{◌≡◌, sym, ◌∙◌, arith}
 use Rattle.std.proofs.lemmas.Grind.{common_steps}
-use Rattle.job_texts.specs.LetTerms.{is_second}
 use Rattle.grammar_text.specs.Seen.{words_seen}
 use Rattle.grammar_text.proofs.AllNames.{name_at}
 use Rattle.grammar_text.proofs.Judging.{judged_linear, judged_wide}
