@@ -6,7 +6,7 @@ ghost use Rattle.adp_model.specs.Demand.{IsDemanded};
 ghost use Rattle.cell_tables.specs.Marks.{IsMarkedInRow};
 ghost use Rattle.seq_reference.specs.Sweeping.{AreRanked};
 ghost use Rattle.seq_reference.specs.Filling.{IsFromStart, IsShorterWithin, IsWithin};
-ghost use Rattle.k_best.specs.ListTables.{AreListed, HasList};
+ghost use Rattle.k_best.specs.ListTables.{AreListed, HasList, IsLaidOut};
 
 use crate::cell_list::fill_list;
 use crate::entry::Entry;
@@ -89,6 +89,52 @@ fn fill_start<'s, 'a>(
     Ok(())
 }
 
+/// Makes the lists of all demanded cells, by falling starts.
+fn fill_all<'s, 'a>(
+    alloc: Global,
+    sweep: Sweep<'s, 'a>,
+    table: &mut ListTable<'a>,
+) -> Result<(), AllocError>
+    requires ranked { AreRanked sweep.lines.now sweep.rules.now }
+    requires marked { (cell : CellValue) → IsMarkedInRow sweep.marks.now cell ↔ IsDemanded sweep.lines.now cell }
+    requires small { sweep.k ≤ 64 }
+    requires laid { IsLaidOut sweep.lines.now table.old }
+    ensures { IfOk result (λ _. AreListed sweep.entry.lines.now sweep.entry.k table.new
+        (IsDemanded sweep.entry.lines.now)) }
+{
+    let problem = sweep.lines.problem();
+    problem.admissible();
+    demanded_cells_are_counted();
+    let mut list = Vec::with_capacity(alloc, sweep.k + 1)?;
+    for from in (0..problem.letters().len() as u16 + 1).rev() {
+        fill_start(sweep, from, table, &mut list)?;
+    }
+    Ok(())
+}
+
+/// Makes the lists of all demanded cells, the rules by rising ranks.
+fn fill_by_rank<'s, 'a>(
+    alloc: Global,
+    lines: &'s Lines<'a>,
+    marks: &'s Marks<'a>,
+    k: usize,
+    table: &mut ListTable<'a>,
+) -> Result<(), AllocError>
+    requires marked { (cell : CellValue) → IsMarkedInRow marks.now cell ↔ IsDemanded lines.now cell }
+    requires small { k ≤ 64 }
+    requires laid { IsLaidOut lines.now table.old }
+    ensures { IfOk result (λ _. AreListed lines.now k table.new (IsDemanded lines.now)) }
+{
+    let rules = rules_by_rank(alloc, lines.problem())?;
+    let sweep = Sweep {
+        lines,
+        marks,
+        rules: &rules,
+        k,
+    };
+    fill_all(alloc, sweep, table)
+}
+
 /// The lists of the demanded cells, which are marked in their rows. Fails for want of memory alone.
 pub fn filled_lists<'s, 'a>(
     alloc: Global,
@@ -102,20 +148,7 @@ pub fn filled_lists<'s, 'a>(
     requires small { k ≤ 64 }
     ensures { IfOk result (λ table. AreListed lines.now k table (IsDemanded lines.now)) }
 {
-    let problem = lines.problem();
-    problem.admissible();
-    demanded_cells_are_counted();
-    let rules = rules_by_rank(alloc, problem)?;
-    let sweep = Sweep {
-        lines,
-        marks,
-        rules: &rules,
-        k,
-    };
-    let mut table = ListTable::new(alloc, problem, layout)?;
-    let mut list = Vec::with_capacity(alloc, k + 1)?;
-    for from in (0..problem.letters().len() as u16 + 1).rev() {
-        fill_start(sweep, from, &mut table, &mut list)?;
-    }
+    let mut table = ListTable::new(alloc, lines.problem(), layout)?;
+    fill_by_rank(alloc, lines, marks, k, &mut table)?;
     Ok(table)
 }

@@ -58,6 +58,39 @@ impl<'a> Lists<'a> {
     }
 }
 
+/// The entries of the first `k` trees of the demanded cells, by the problem's lines and its layout.
+fn lists_over<'a>(
+    alloc: Global,
+    lines: &Lines<'a>,
+    layout: &Layout<'a>,
+    k: u32,
+) -> Result<Lists<'a>, AllocError>
+    requires layout { layout.now ≡ lines.now }
+    requires few { k ≤ most_first_trees }
+    ensures problem { IfOk result (λ lists. lists.problem ≡ lines.now) }
+    ensures k { IfOk result (λ lists. lists.k ≡ k) }
+{
+    let problem = lines.problem();
+    let marks = demanded_marks(alloc, lines, layout)?;
+    let table = filled_lists(alloc, lines, &marks, layout, k as usize)?;
+    Ok(Lists {
+        problem,
+        k,
+        marks,
+        table,
+    })
+}
+
+/// The same by the problem's lines.
+fn lists_by_lines<'a>(alloc: Global, lines: &Lines<'a>, k: u32) -> Result<Lists<'a>, AllocError>
+    requires { k ≤ most_first_trees }
+    ensures problem { IfOk result (λ lists. lists.problem ≡ lines.now) }
+    ensures k { IfOk result (λ lists. lists.k ≡ k) }
+{
+    let layout = Layout::new(alloc, lines.problem())?;
+    lists_over(alloc, lines, &layout, k)
+}
+
 /// The entries of the first `k` trees of the problem's demanded cells. Fails for want of memory alone.
 pub fn solve_lists<'a>(
     alloc: Global,
@@ -69,13 +102,5 @@ pub fn solve_lists<'a>(
     ensures k { IfOk result (λ lists. lists.k ≡ k) }
 {
     let lines = Lines::new(alloc, problem)?;
-    let layout = Layout::new(alloc, problem)?;
-    let marks = demanded_marks(alloc, &lines, &layout)?;
-    let table = filled_lists(alloc, &lines, &marks, &layout, k as usize)?;
-    Ok(Lists {
-        problem,
-        k,
-        marks,
-        table,
-    })
+    lists_by_lines(alloc, &lines, k)
 }

@@ -1,5 +1,5 @@
 use Rattle.std.proofs.Common.{arith}
-use Rattle.k_best.proofs.filling.filled_lists.Goals as goal
+use Rattle.k_best.proofs.filling.fill_all.Goals as goal
 
 pub returns : goal.returns
 returns c = record {
