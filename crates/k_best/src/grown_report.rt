@@ -19,7 +19,7 @@ use adp_model::Problem;
 use cell_layouts::{Layout, Places};
 use first_trees::laws::{cells_have_first_trees, first_trees_are_unique};
 use report::push_number_line;
-use seq_reference::{Solved, solve};
+use seq_reference::Solved;
 use split_lines::Lines;
 use std::alloc::{AllocError, Global};
 
@@ -166,8 +166,9 @@ fn report_by_lines(
     report_over(alloc, number, lines, solved, &layout, k)
 }
 
-/// The report of a word with its first `k` trees, by its best scores.
-fn report_by_scores(
+/// The report of a word with its first `k` trees, by its best scores and lists that grow as far as they are asked for,
+/// where they grow as far.
+pub fn grown_report(
     alloc: Global,
     number: u32,
     problem: &Problem<'_>,
@@ -181,20 +182,4 @@ fn report_by_scores(
 {
     let lines = Lines::new(alloc, problem)?;
     report_by_lines(alloc, number, &lines, solved, k)
-}
-
-/// The report of a word with its first `k` trees, by lists that grow as far as they are asked for, where they grow as
-/// far.
-pub fn grown_report(
-    alloc: Global,
-    number: u32,
-    problem: &Problem<'_>,
-    k: u32,
-) -> Result<Option<Vec<u8>>, AllocError>
-    requires some { 0 < k }
-    requires few { k ≤ most_first_trees }
-    ensures { IfOk result (λ report. IfSome report (λ report. IsListReport number problem.now k report.items)) }
-{
-    let solved = solve(alloc, problem)?;
-    report_by_scores(alloc, number, problem, &solved, k)
 }

@@ -1,6 +1,6 @@
 //! The report of a word's first trees.
 
-ghost use Rattle.std.specs.Prelude.{◌≡◌, ◌++◌, ◌≤◌, ◌⊎◌, ℕ, List, IfOk, OnOk, length};
+ghost use Rattle.std.specs.Prelude.{◌≡◌, ◌++◌, ◌<◌, ◌≤◌, ◌⊎◌, ℕ, List, IfOk, IfSome, OnOk, length};
 ghost use Rattle.adp_model.specs.Answers.{HasNoTree};
 ghost use Rattle.adp_model.specs.Demand.{IsDemanded};
 ghost use Rattle.adp_model.specs.PosedProblem.{axiom_cell};
@@ -155,16 +155,40 @@ fn solved_report(
     Ok(out)
 }
 
-/// The report of a word with its preferred tree alone.
-fn preferred_report(
+/// The report of a word with its first `k` trees, where its best scores and lists that grow from them tell it.
+fn report_by_scores(
     alloc: Global,
     number: u32,
     problem: &Problem<'_>,
-) -> Result<Vec<u8>, AllocError>
-    ensures { IfOk result (λ report. IsListReport number problem.now 1 report.items) }
+    solved: &Solved<'_>,
+    k: u32,
+) -> Result<Option<Vec<u8>>, AllocError>
+    requires some { 0 < k }
+    requires few { k ≤ most_first_trees }
+    requires solved { solved.now ≡ problem.now }
+    ensures { IfOk result (λ report. IfSome report (λ report. IsListReport number problem.now k report.items)) }
+{
+    if k > 1 {
+        return grown_report(alloc, number, problem, solved, k);
+    }
+    let report = solved_report(alloc, number, problem, solved)?;
+    Ok(Some(report))
+}
+
+/// The same, where the word is not solved yet. What is solved costs each function that owns it much to prove, so that
+/// this one alone does.
+fn unlisted_report(
+    alloc: Global,
+    number: u32,
+    problem: &Problem<'_>,
+    k: u32,
+) -> Result<Option<Vec<u8>>, AllocError>
+    requires some { 0 < k }
+    requires few { k ≤ most_first_trees }
+    ensures { IfOk result (λ report. IfSome report (λ report. IsListReport number problem.now k report.items)) }
 {
     let solved = solve(alloc, problem)?;
-    solved_report(alloc, number, problem, &solved)
+    report_by_scores(alloc, number, problem, &solved, k)
 }
 
 /// The report of a word with its first `k` trees, by whole lists.
@@ -195,11 +219,8 @@ pub fn first_trees_report(
     requires { k ≤ most_first_trees }
     ensures { IfOk result (λ report. IsListReport number problem.now k report.items) }
 {
-    if k == 1 {
-        return preferred_report(alloc, number, problem);
-    }
-    if k > 1 {
-        if let Some(report) = grown_report(alloc, number, problem, k)? {
+    if k > 0 {
+        if let Some(report) = unlisted_report(alloc, number, problem, k)? {
             return Ok(report);
         }
     }

@@ -1,7 +1,7 @@
 use Rattle.std.proofs.Common.{IfOk, IfSome, subst}
 use Rattle.adp_model.specs.PosedProblem.{PosedProblem}
 use Rattle.first_trees.specs.ListReport.{IsListReport}
-use Rattle.k_best.proofs.grown_report.report_by_scores.Goals as goal
+use Rattle.k_best.proofs.grown_report.grown_report.Goals as goal
 
 pub returns : goal.returns
 returns c =
