@@ -1,5 +1,5 @@
-// What the programs share. Words come on standard input, a line each; of each word they write what a report of `adp`
-// says of it, but for the count of cells.
+// What the programs share. Words come on standard input, a line each; of each word, which has a tree, they write what a
+// report of `adp` says of it, but for the count of cells.
 #pragma once
 
 #include <algorithm>

@@ -1,5 +1,6 @@
-// A text is parted into words of a dictionary at least cost: dictionary WORDS. Each line has a word's cost and the word;
-// a letter in none of them costs PLAIN. Words stand in rules of 62, each of which goes on with the next one.
+// A text is parted into words of a dictionary at least cost: dictionary WORDS. Each line has a word's cost and the word,
+// those come first that are preferred; a letter in none of them costs PLAIN. Words stand in rules of 62, each of which
+// goes on with the next one.
 #include "common.hpp"
 
 constexpr int PLAIN = 20;
@@ -33,19 +34,16 @@ struct Trie {
 
 static void answer(const std::vector<Entry>& entries, const Trie& trie, const Word& text) {
   const int letters = text.size();
-  std::vector<int> costs(letters + 1, 0), choices(letters, -1);
+  std::vector<int> costs(letters + 1, 0), choices(letters);
   for (int start = letters - 1; start >= 0; start--) {
-    // of equal ones a word is preferred to a letter, and the shortest word to others
-    int least = INT32_MAX, choice = -1;
+    int least = PLAIN + costs[start + 1], choice = entries.size();
     for (int at = start, node = 0; at < letters && (node = trie.nodes[node].next[text[at] - 'a']); at++) {
       const int entry = trie.nodes[node].entry;
-      if (entry < 0 || entries[entry].cost + costs[at + 1] >= least) continue;
-      least = entries[entry].cost + costs[at + 1];
+      if (entry < 0) continue;
+      const int cost = entries[entry].cost + costs[at + 1];
+      if (cost > least || (cost == least && entry > choice)) continue;
+      least = cost;
       choice = entry;
-    }
-    if (PLAIN + costs[start + 1] < least) {
-      least = PLAIN + costs[start + 1];
-      choice = -1;
     }
     costs[start] = least;
     choices[start] = choice;
@@ -53,16 +51,16 @@ static void answer(const std::vector<Entry>& entries, const Trie& trie, const Wo
   std::string tree;
   int depth = 0;
   for (int at = 0; at < letters; depth++) {
-    if (choices[at] < 0) {
+    if (choices[at] == static_cast<int>(entries.size())) {
       ((tree += "plain(\"") += text[at++]) += "\",";
       continue;
     }
     const Entry& entry = entries[choices[at]];
-    const int rule = choices[at] / IN_A_RULE;
     tree += "entry(";
-    for (int further = 0; further < rule; further++) tree += "further(";
+    for (int rule = choices[at] / IN_A_RULE; rule > 0; rule--, depth++) tree += "further(";
     (((tree += "bits_") += std::to_string(entry.cost)) += "(\"") += entry.word;
-    (tree += "\")").append(rule, ')') += ',';
+    tree += "\",";
+    depth++;
     at += entry.word.size();
   }
   write_report(costs[0], (tree += "end(\"\")").append(depth, ')'));

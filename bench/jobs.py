@@ -114,17 +114,17 @@ def folding_header():
 
 
 def markov(states, length):
-    """States with up to 63 steps each, which show twenty letters; 64 of them may come first."""
-    draws, steps = Draws(11), 63
+    """States with up to 31 steps each, which show twenty letters; 64 of them may come first."""
+    draws = Draws(11)
     letters = LETTERS[:20]
-    classes = [[10 + draws.below(90) for _ in letters] for _ in range(steps)]
+    classes = [[10 + draws.below(90) for _ in letters] for _ in range(63)]
     nexts = []
     for _ in range(states):
         others = list(range(states))
         for at in range(states):
             other = at + draws.below(states - at)
             others[at], others[other] = others[other], others[at]
-        nexts.append([(draws.below(100), other) for other in others[:steps]])
+        nexts.append([(draws.below(100), other) for other in others[:31]])
     lines = ["adp 1"]
     lines += [f"class c{at} = " + " ".join(map('"{}" {}'.format, letters, costs)) for at, costs in enumerate(classes)]
     lines += ["sign first(score)", "sign last(token)", *(f"sign step_{cost}(token, score)" for cost in range(100))]
@@ -133,7 +133,7 @@ def markov(states, length):
     lines.append("rule way = " + " | ".join(f"first(s{state})" for state in range(min(states, 64))))
     table = []
     for state, others in enumerate(nexts):
-        shown = state % steps
+        shown = state % len(classes)
         alternatives = [f"last([c{shown}])", *(f"step_{cost}([c{shown}], s{other})" for cost, other in others)]
         lines.append(f"rule s{state} = " + " | ".join(alternatives))
         numbers = itertools.chain(classes[shown], ["|"], *others)
@@ -151,15 +151,15 @@ def dictionary(rules, count, length):
         known["".join(syllables) + draws.word("lnrst", draws.below(2))] = None
     known = list(known)
     costs = [4 + min(12, at.bit_length()) for at in range(len(known))]
-    lines = ["adp 1", f'class letter = "{LETTERS}" 0', "sign end(token)", "sign entry(score, score)"]
-    lines += ["sign plain(token, score)", "sign further(score)", *(f"sign bits_{cost}(token)" for cost in range(4, 17))]
-    lines += ["algebra bits min", "let end(nothing) = 0", "let entry(one, rest) = one + rest"]
-    lines += ["let plain(letter, rest) = 20 + rest", "let further(one) = one"]
-    lines += [f"let bits_{cost}(letters) = {cost}" for cost in range(4, 17)]
-    lines.append('rule text = end("") | entry(words_0, text) | plain([letter], text)')
+    lines = ["adp 1", f'class letter = "{LETTERS}" 0', "sign end(token)", "sign entry(score)"]
+    lines += ["sign plain(token, score)", "sign further(score)", *(f"sign bits_{cost}(token, score)" for cost in range(4, 17))]
+    lines += ["algebra bits min", "let end(nothing) = 0", "let entry(rest) = rest"]
+    lines += ["let plain(letter, rest) = 20 + rest", "let further(rest) = rest"]
+    lines += [f"let bits_{cost}(word, rest) = {cost} + rest" for cost in range(4, 17)]
+    lines.append('rule text = end("") | entry(words_0) | plain([letter], text)')
     for rule in range(rules):
         places = range(rule * size, rule * size + size)
-        alternatives = [f'bits_{costs[at]}("{known[at]}")' for at in places]
+        alternatives = [f'bits_{costs[at]}("{known[at]}", text)' for at in places]
         alternatives += [f"further(words_{rule + 1})"] * (rule + 1 < rules)
         lines.append(f"rule words_{rule} = " + " | ".join(alternatives))
     lines.append("grammar text\n")
@@ -235,6 +235,7 @@ def jobs(is_quick):
         drawn_words("pairs-words", "pairs", PAIRS, "pqrs", size(5, 200), size(60, 300)),
         drawn_words("pairs-short", "pairs", PAIRS, "pqrs", size(100, 65536), 10),
         drawn_words("folding", "folding", folding_header(), "acgu", 1, size(100, 500)),
+        drawn_words("nussinov", "nussinov", folding_header(), "acgu", 1, size(100, 500)),
         markov(size(16, 126), size(100, 4000)),
         dictionary(size(4, 126), size(10, 1000), 60),
         ordinary(size(100, 65000)),

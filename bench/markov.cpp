@@ -14,8 +14,6 @@ struct Model {
   int states = 0;
   std::vector<std::vector<int>> letters;
   std::vector<std::vector<Step>> steps;
-  // of each state a row with the cost of the step to each other one
-  std::vector<std::int32_t> costs;
 };
 
 static std::vector<int> numbers_of(const std::string& text) {
@@ -31,24 +29,22 @@ static std::vector<int> numbers_of(const std::string& text) {
 static Model model_of(const std::vector<std::string>& lines) {
   Model model;
   model.states = lines.size();
-  model.costs.assign(lines.size() * lines.size(), NONE);
   for (const std::string& line : lines) {
     const std::size_t bar = line.find('|');
     const std::vector<int> numbers = numbers_of(line.substr(bar + 1));
     std::vector<Step> steps;
     for (std::size_t at = 0; at + 1 < numbers.size(); at += 2) steps.push_back({numbers[at], numbers[at + 1]});
-    for (const Step& step : steps) model.costs[model.steps.size() * model.states + step.next] = step.cost;
     model.letters.push_back(numbers_of(line.substr(0, bar)));
     model.steps.push_back(steps);
   }
   return model;
 }
 
-static std::int32_t least_sum(const std::int32_t* one, const std::int32_t* other, int count) {
+static std::int32_t least_rest(const std::vector<Step>& steps, const std::int32_t* later) {
   std::int32_t least = NONE;
-  for (int at = 0; at < count; at++) {
-    const std::int32_t sum = one[at] + other[at];
-    least = sum < least ? sum : least;
+  for (const Step& step : steps) {
+    const std::int32_t rest = step.cost + later[step.next];
+    least = rest < least ? rest : least;
   }
   return least;
 }
@@ -61,7 +57,7 @@ static void answer(const Model& model, const Word& word) {
     for (int state = 0; state < states; state++) {
       const bool is_last = at == letters - 1;
       const std::int32_t* const later = is_last ? nullptr : &rests[(at + 1) * states];
-      const std::int32_t rest = is_last ? 0 : least_sum(&model.costs[state * states], later, states);
+      const std::int32_t rest = is_last ? 0 : least_rest(model.steps[state], later);
       rests[at * states + state] = model.letters[state][word[at] - 'a'] + rest;
     }
   }

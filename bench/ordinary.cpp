@@ -3,8 +3,6 @@
 // each state.
 #include "common.hpp"
 
-#include <cstring>
-
 constexpr int BEGINS = 10;
 constexpr int STATES = 64;
 constexpr int LETTERS = 26;
@@ -71,10 +69,6 @@ class Parser {
     int state = 0;
     for (int other = 1; other < BEGINS; other++) {
       if (rest(0, other).cost < rest(0, state).cost) state = other;
-    }
-    if (rest(0, state).cost >= NONE) {
-      std::puts("none");
-      return;
     }
     const int score = rest(0, state).cost;
     std::string tree = "go(";
