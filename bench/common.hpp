@@ -44,7 +44,7 @@ inline void write_report(long long score, const std::string& tree) {
   std::putchar('\n');
 }
 
-// A score for each span of a word: a row for each start, of the ends from the start on. Rows stand one behind the other.
+// A score for each span of a word: a row for each start, of the ends from there on. Rows stand one behind the other.
 template <class Score>
 class Spans {
  public:

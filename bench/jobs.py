@@ -152,7 +152,8 @@ def dictionary(rules, count, length):
     known = list(known)
     costs = [4 + min(12, at.bit_length()) for at in range(len(known))]
     lines = ["adp 1", f'class letter = "{LETTERS}" 0', "sign end(token)", "sign entry(score)"]
-    lines += ["sign plain(token, score)", "sign further(score)", *(f"sign bits_{cost}(token, score)" for cost in range(4, 17))]
+    lines += ["sign plain(token, score)", "sign further(score)"]
+    lines += [f"sign bits_{cost}(token, score)" for cost in range(4, 17)]
     lines += ["algebra bits min", "let end(nothing) = 0", "let entry(rest) = rest"]
     lines += ["let plain(letter, rest) = 20 + rest", "let further(rest) = rest"]
     lines += [f"let bits_{cost}(word, rest) = {cost} + rest" for cost in range(4, 17)]

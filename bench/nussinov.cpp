@@ -1,5 +1,5 @@
-// The grammar of jobs/folding.adp by one table (Nussinov): from three bases on `within` is worth what `strand` is, and a
-// fold 1 more than what is within.
+// The grammar of jobs/folding.adp by one table (Nussinov): from three bases on `within` is worth what `strand` is. A
+// fold is worth 1 more than what is within.
 #include "common.hpp"
 
 using Most = Spans<std::int16_t>;

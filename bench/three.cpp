@@ -44,8 +44,9 @@ static void add_mark(const Word& word, const Most& marks, int start, int end, st
     tree += "mark(\"q\")";
     return;
   }
+  const std::int16_t* const row = marks[start];
   int at = start + 1;
-  while (word[at] != 'r' || marks[start][at] < 0 || 1 + marks[start][at] + marks[at + 1][end] != marks[start][end]) at++;
+  while (word[at] != 'r' || row[at] < 0 || 1 + row[at] + marks[at + 1][end] != row[end]) at++;
   tree += "both(";
   add_mark(word, marks, start, at, tree);
   tree += ",\"r\",";
