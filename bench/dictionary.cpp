@@ -1,6 +1,6 @@
-// A text is parted into words of a dictionary at least cost: dictionary WORDS. Each line has a word's cost and the word,
-// and of equal ways the first word is preferred. A letter in none of them costs PLAIN. Words stand in rules of 62, each
-// of which goes on with the next one.
+// A text is parted into words of a dictionary at least cost: dictionary WORDS. Each line has the cost of a word and the
+// word, and of equal ways that with the first one is preferred. A letter in none of them costs PLAIN. Words stand in
+// rules of 62, each of which goes on with the next one.
 #include "common.hpp"
 
 constexpr int PLAIN = 20;
