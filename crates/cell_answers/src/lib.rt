@@ -16,7 +16,7 @@ mod tails;
 mod term_along;
 
 pub use answer_cuts::{cell_answer, cell_answer_noting, first_cuts, kept_answer};
-pub use argument_values::argument_value;
+pub use argument_values::{argument_value, token_value};
 pub use filling::{Best, cell_best, cell_score, cell_score_noting};
-pub use scores::Scores;
+pub use scores::{Packed, Scores};
 pub use tails::{KeptEnds, Tails};

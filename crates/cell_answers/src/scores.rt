@@ -11,6 +11,7 @@ ghost use Rattle.cell_tables.specs.Spans.{value_at};
 ghost use Rattle.cell_tables.specs.Tables.{in_row, spans_of};
 ghost use Rattle.cell_answers.specs.Entries.{HasEntry};
 ghost use Rattle.cell_answers.specs.ArgumentEntries.{AreProperNumbers, entries_of};
+ghost use Rattle.cell_answers.specs.ScoresFields.{IsPacked, table_of};
 
 use crate::argument_values::{Entries, Numbers};
 use adp_model::laws::bounds::words_keep_their_score_bound;
@@ -113,6 +114,14 @@ impl<'a> Scores<'a> {
             goal: problem.goal(),
             packed,
         })
+    }
+
+    /// The scores that numbers of one width stand for, turned for this goal.
+    pub fn of(goal: Goal, packed: Packed<'a>) -> Scores<'a>
+        requires { IsPacked packed }
+        ensures { result ≡ table_of goal packed.entry }
+    {
+        Scores { goal, packed }
     }
 
     /// The entry of a counted cell. Takes constant time and no memory.

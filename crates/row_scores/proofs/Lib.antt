@@ -1,0 +1,11 @@
+pub mod Alternatives
+pub mod CellNumbers
+pub mod Pushed
+pub mod RowOrders
+pub mod RowSweeps
+pub mod RuleLists
+pub mod RuleSteps
+pub mod Starting
+pub mod StepLoops
+pub mod Stepping
+pub mod TokenSteps

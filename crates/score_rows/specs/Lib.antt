@@ -1,0 +1,4 @@
+pub mod Numbers
+pub mod Raised
+pub mod TotalsFields
+pub mod Windows
