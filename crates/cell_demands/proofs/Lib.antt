@@ -6,6 +6,8 @@ pub mod MarkSteps
 pub mod OneEnds
 pub mod PlaceBits
 pub mod RisingPositions
+pub mod RowLengths
+pub mod RowMarks
 pub mod RunEnds
 pub mod Splitting
 pub mod TailNotes

@@ -355,25 +355,30 @@ module _ (p : PosedProblem) (cell : Cell) where
       (cases_lt alternative count))
       marked
 
-  pub all_alternatives : (few : (alternative : ℕ) → length (arguments_of p.grammar cell.rule alternative) ≤ 4)
-      (begin : ℕ) (first second : CellMarks)
-      → AreMarkedFrom begin first second (DemandsByFirst p cell (length (alternatives_of p.grammar cell.rule)))
-      → AreMarkedFrom begin first second (IsDemandedChild p cell)
-  all_alternatives few begin first second marked =
-      marked_like begin first second (DemandsByFirst p cell (length (alternatives_of p.grammar cell.rule))) (IsDemandedChild p cell)
-      (λ child (alternative, l, demands). child_of_demands p cell alternative child l (few alternative) demands)
-      (λ child (alternative, cuts, viable, stands). (
-        alternative,
-        viable.in_range,
-        (
-          viable.allowed,
-          demands_of_child p cell alternative cuts child
-              (some_arguments (arguments_of p.grammar cell.rule alternative) cell.from (ends_by cell cuts) stands)
-              (few alternative) viable stands,
-        ),
-      ))
-      marked
-    where
-      some_arguments : {it : Placed} (arguments : List Arg) (from : ℕ) (ends : List ℕ) → Contains (place arguments from ends) it → 1 ≤ length arguments
-      some_arguments [] from ends (k, l, e) = absurd (omega arith)
-      some_arguments (argument ∷ arguments) from ends stands = omega arith
+  -- what all alternatives demand are the children
+  module _ (few : (alternative : ℕ) → length (arguments_of p.grammar cell.rule alternative) ≤ 4) where
+    some_arguments : {it : Placed} (arguments : List Arg) (from : ℕ) (ends : List ℕ) → Contains (place arguments from ends) it → 1 ≤ length arguments
+    some_arguments [] from ends (k, l, e) = absurd (omega arith)
+    some_arguments (argument ∷ arguments) from ends stands = omega arith
+
+    pub child_of_first : (child : Cell) → DemandsByFirst p cell (length (alternatives_of p.grammar cell.rule)) child → IsDemandedChild p cell child
+    child_of_first child (alternative, l, demands) = child_of_demands p cell alternative child l (few alternative) demands
+
+    pub first_of_child : (child : Cell) → IsDemandedChild p cell child → DemandsByFirst p cell (length (alternatives_of p.grammar cell.rule)) child
+    first_of_child child (alternative, cuts, viable, stands) = (
+      alternative,
+      viable.in_range,
+      (
+        viable.allowed,
+        demands_of_child p cell alternative cuts child
+            (some_arguments (arguments_of p.grammar cell.rule alternative) cell.from (ends_by cell cuts) stands)
+            (few alternative) viable stands,
+      ),
+    )
+
+    pub all_alternatives : (begin : ℕ) (first second : CellMarks)
+        → AreMarkedFrom begin first second (DemandsByFirst p cell (length (alternatives_of p.grammar cell.rule)))
+        → AreMarkedFrom begin first second (IsDemandedChild p cell)
+    all_alternatives begin first second =
+        marked_like begin first second (DemandsByFirst p cell (length (alternatives_of p.grammar cell.rule))) (IsDemandedChild p cell)
+        child_of_first first_of_child

@@ -1,14 +1,15 @@
 -- Bits for positions of a word: those of one number from a place on and up to it.
-use Rattle.std.proofs.Common.{◌≡◌, ◌↔◌, ◌⊎◌, ℕ, ◌+◌, ◌-◌, ◌*◌, ◌/◌, ◌%◌, ◌^◌, ◌<◌, ◌≤◌, List, length, get_or, set, inl, inr, ⊎_elim, ap, sym, subst, ◌∙◌, arith}
+use Rattle.std.proofs.Common.{◌≡◌, ◌↔◌, ℕ, ◌+◌, ◌-◌, ◌*◌, ◌/◌, ◌%◌, ◌^◌, ◌<◌, ◌≤◌, List, length, get_or, replicate, set, inl, inr, ⊎_elim, ap, sym, subst, ◌∙◌, arith}
 use Rattle.std.specs.Prelude.{bit_and, bit_or}
 use Rattle.std.specs.Int.{bit_at, bit_not, w64, leading_zeros, trailing_zeros}
 use Rattle.std.proofs.lemmas.Bool.{cases_lt, cases_eq}
+use Rattle.std.proofs.lemmas.List.{get_or-replicate, get_or_past, length-replicate}
 use Rattle.std.proofs.lemmas.Nat.Bits.{bit_at-lt, bit_at-zero, bit_at_not, ones_shl, ones_shr, bit_at_ones}
 use Rattle.std.proofs.lemmas.Nat.Bits.{bit_at_ones_above, bit_at_mask_inside, bit_at_mask_below}
 use Rattle.cell_tables.specs.Bits.{IsBitIn, IsBitOf}
 use Rattle.cell_tables.proofs.NumberBits.{one_word_set, shifted_bit}
 use Rattle.cell_tables.proofs.SetBits.{both_bits, first_place, last_place}
-use Rattle.cell_demands.specs.PlaceBits.{HasBit, IsAhead, IsBehind, IsFirstAhead, IsLastBehind, IsLastBit}
+use Rattle.cell_demands.specs.PlaceBits.{HasBit, HaveBitsToo, IsAhead, IsBehind, IsFirstAhead, IsLastBehind, IsLastBit}
 
 -- ---- the bits of a number that a mask leaves
 
@@ -101,18 +102,77 @@ module _ (word place : ℕ) where
       let most = last_place behind (place / 64) found (omega arith) fits is in
       record { set = (behind_bit found).0 most.0; last = λ other its. most.1 other ((behind_bit other).1 its) }
 
+-- ---- no bit
+
+one_is_set : (a : ℕ) → a ≡ 0 → a ≡ 1 → ⊥
+one_is_set a zero one = omega arith
+
+pub none_set : (bits : List ℕ) (count : ℕ) → bits ≡ replicate count 0 → (place : ℕ) → HasBit bits place → ⊥
+none_set bits count are place has =
+    let number = place / 64 in
+    let none : get_or (replicate count 0) number 0 ≡ 0 = elim (cases_lt number count) [
+      | inl inside ↦ get_or-replicate count number 0 0 inside
+      | inr past ↦ get_or_past (replicate count 0) number 0 (omega (arith, past, length-replicate {A = ℕ} count 0))
+    ] in
+    let read : get_or bits number 0 ≡ 0 = ap (λ words. get_or words number 0) are ∙ none in
+    let bit : bit_at (get_or bits number 0) (place % 64) ≡ 0 = ap (λ n. bit_at n (place % 64)) read ∙ bit_at-zero (place % 64) in
+    one_is_set _ bit has
+
 -- ---- one more bit
 
-pub one_more : (bits : List ℕ) (place : ℕ) → place / 64 < length bits → (other : ℕ)
-    → HasBit (set bits (place / 64) (bit_or (get_or bits (place / 64) 0) (1 * 2 ^ (place % 64) % 2 ^ 64))) other
-    ↔ (HasBit bits other ⊎ (other ≡ place))
-one_more bits place within other =
+pub one_more : (bits : List ℕ) (place : ℕ) → place / 64 < length bits → HaveBitsToo bits
+    (set bits (place / 64) (bit_or (get_or bits (place / 64) 0) (1 * 2 ^ (place % 64) % 2 ^ 64))) (λ other. other ≡ place)
+one_more bits place within =
     let more = one_word_set bits (place / 64) (1 * 2 ^ (place % 64) % 2 ^ 64) within in
-    let told = shifted_bit (place % 64) (other % 64) (omega arith) in
-    let each = more.exact (other / 64) (other % 64) (omega arith) in (
-      λ one. ⊎_elim (λ was. inl was) (λ (number, bit). let k = told.0 bit in inr (omega (arith, number, k))) (each.0 one),
-      λ either. each.1 (⊎_elim (λ was. inl was) (λ same. inr (omega (arith, same), told.1 (omega (arith, same)))) either),
-    )
+    record {
+      as_many = more.as_many;
+      exact = λ other.
+          let told = shifted_bit (place % 64) (other % 64) (omega arith) in
+          let each = more.exact (other / 64) (other % 64) (omega arith) in (
+            λ one. ⊎_elim (λ was. inl was) (λ (number, bit). let k = told.0 bit in inr (omega (arith, number, k))) (each.0 one),
+            λ either. each.1 (⊎_elim (λ was. inl was) (λ same. inr (omega (arith, same), told.1 (omega (arith, same)))) either),
+          );
+    }
+
+-- ---- the bits from a place on and before another one, of one number
+
+module _ (bits : List ℕ) (first past : ℕ) (some : first < past) (one : (past - 1) / 64 ≡ first / 64)
+    (there : first / 64 < length bits) where
+  abbrev low_ones : ℕ
+  low_ones = (2 ^ 64 - 1) * 2 ^ (first % 64) % 2 ^ 64
+
+  abbrev high_ones : ℕ
+  high_ones = (2 ^ 64 - 1) / 2 ^ (63 - (past - 1) % 64)
+
+  ones_between : (other : ℕ) → IsBitIn (bit_and low_ones high_ones) (first / 64) other
+      ↔ ((other / 64 ≡ first / 64) × (first ≤ other) × (other < past))
+  ones_between other =
+      let both = both_bits low_ones high_ones (first / 64) other in
+      let low = from_place 0 first other in
+      let high = up_to_place 0 (past - 1) other in
+      let H : ℕ → Type 0 = λ number. IsBitIn high_ones number other in (
+        λ bit.
+            let parts = both.0 bit in
+            let l = low.0 parts.0 in
+            let h = high.0 (subst H (sym one) parts.1) in
+            (l.0, l.1, omega (arith, h.1, some)),
+        λ (same, l, h). both.1 (low.1 (same, l), subst H one (high.1 (omega (arith, same, one), omega (arith, h)))),
+      )
+
+  pub one_word_more : HaveBitsToo bits (set bits (first / 64) (bit_or (get_or bits (first / 64) 0) (bit_and low_ones high_ones)))
+      (λ other. (first ≤ other) × (other < past))
+  one_word_more =
+      let more = one_word_set bits (first / 64) (bit_and low_ones high_ones) there in
+      record {
+        as_many = more.as_many;
+        exact = λ other.
+            let told = ones_between other in
+            let each = more.exact (other / 64) (other % 64) (omega arith) in (
+              λ bit. ⊎_elim (λ was. inl was) (λ (number, its). let t = told.0 (record { number_is = number; bit = its }) in inr (t.1, t.2)) (each.0 bit),
+              λ either. each.1 (⊎_elim (λ was. inl was)
+                  (λ (l, h). let its = told.1 (omega (arith, l, h, one), l, h) in inr (its.number_is, its.bit)) either),
+            );
+      }
 
 -- ---- among bits for all places
 

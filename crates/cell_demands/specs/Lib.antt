@@ -1,4 +1,5 @@
 pub mod PlaceBits
+pub mod Rows
 pub mod Runs
 pub mod TailNotes
 pub mod Tails

@@ -1,11 +1,21 @@
 -- Bits for positions of a word, 64 in a number.
-use Rattle.std.specs.Prelude.{◌≡◌, ℕ, ◌/◌, ◌%◌, ◌≤◌, List, slice_index}
+use Rattle.std.specs.Prelude.{◌≡◌, ◌↔◌, ◌⊎◌, ℕ, ◌+◌, ◌*◌, ◌/◌, ◌%◌, ◌≤◌, List, length, slice_index}
 use Rattle.std.specs.Int.{bit_at}
+use Rattle.adp_model.specs.PosedProblem.{PosedProblem}
 use Rattle.cell_tables.specs.Bits.{IsBitIn, IsBitOf}
 
 -- the bit of the place is set, among bits for the places from 0 on, 64 in a number
 abbrev pub HasBit : List ℕ → ℕ → Type 0
 HasBit bits place = bit_at (slice_index bits (place / 64)) (place % 64) ≡ 1
+
+-- there is a bit for each position of the word
+abbrev pub HaveBits : PosedProblem → List ℕ → Type 0
+HaveBits p bits = length p.word + 1 ≤ 64 * length bits
+
+-- the bits of the places of which it holds are set too, and of the others those that were
+pub record HaveBitsToo (old new : List ℕ) (Holds : ℕ → Type 0) : Type 0 where
+  pub as_many : length new ≡ length old
+  pub exact : (place : ℕ) → HasBit new place ↔ (HasBit old place ⊎ Holds place)
 
 -- of the 64 places of the number with this place, one from it on whose bit is set
 abbrev pub IsAhead : ℕ → ℕ → ℕ → Type 0

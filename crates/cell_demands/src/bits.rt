@@ -1,9 +1,9 @@
 //! Bits for positions of a word, 64 in a number.
 
-ghost use Rattle.std.specs.Prelude.{◌≡◌, ◌⊎◌, ◌↔◌, ◌+◌, ◌/◌, ◌<◌, ◌≤◌, ℕ, IfOk, MatchOption};
+ghost use Rattle.std.specs.Prelude.{◌≡◌, ◌↔◌, ◌+◌, ◌-◌, ◌*◌, ◌/◌, ◌<◌, ◌≤◌, ℕ, IfOk, MatchOption};
 ghost use Rattle.std.specs.Prelude.{length, slice_index, vec_len};
 ghost use Rattle.cell_tables.specs.Bits.{IsBitOf};
-ghost use Rattle.cell_demands.specs.PlaceBits.{HasBit, IsFirstAhead, IsLastBehind, IsAhead, IsBehind, IsLastBit};
+ghost use Rattle.cell_demands.specs.PlaceBits.{HasBit, HaveBitsToo, IsFirstAhead, IsLastBehind, IsAhead, IsBehind, IsLastBit};
 
 use cell_tables::WORD;
 use std::alloc::{AllocError, Global};
@@ -14,6 +14,14 @@ pub fn clear_bits(alloc: Global, positions: usize) -> Result<Vec<u64>, AllocErro
     ensures clear { IfOk result (λ bits. (place : ℕ) → HasBit bits.items place → ⊥) }
 {
     vec![in alloc; 0; positions / WORD as usize + 1]
+}
+
+/// Leaves no bit set.
+pub fn clear(bits: &mut [u64])
+    ensures as_many { length bits.new ≡ length bits.old }
+    ensures clear { (place : ℕ) → HasBit bits.new place → ⊥ }
+{
+    bits.fill(0);
 }
 
 /// The number that has the bit of a position; 0 where there is none.
@@ -28,9 +36,37 @@ fn word_at(bits: &[u64], place: u16) -> u64
 #[inline(always)]
 pub fn set_bit(bits: &mut [u64], place: u16)
     requires { place / 64 < length bits.old }
-    ensures { (other : ℕ) → HasBit bits.new other ↔ (HasBit bits.old other ⊎ (other ≡ place)) }
+    ensures { HaveBitsToo bits.old bits.new (λ other. other ≡ place) }
 {
     bits[(place / WORD) as usize] |= 1 << (place % WORD);
+}
+
+/// Sets the bits of the positions from `first` on and before `past`, which are among the 64 of one number.
+#[inline(always)]
+fn set_within(bits: &mut [u64], first: u16, past: u16)
+    requires some { first < past }
+    requires one { (past - 1) / 64 ≡ first / 64 }
+    requires there { first / 64 < length bits.old }
+    ensures { HaveBitsToo bits.old bits.new (λ other. (first ≤ other) × (other < past)) }
+{
+    let ahead = u64::MAX << (first % WORD);
+    let behind = u64::MAX >> (WORD - 1 - (past - 1) % WORD);
+    bits[(first / WORD) as usize] |= ahead & behind;
+}
+
+/// Sets the bits of the positions from `first` on and before `past`.
+pub fn set_between(bits: &mut [u64], first: u16, past: u16)
+    requires order { first ≤ past }
+    requires few { past ≤ 4096 }
+    requires there { past ≤ 64 * length bits.old }
+    ensures { HaveBitsToo bits.old bits.new (λ other. (first ≤ other) × (other < past)) }
+{
+    let mut place = first;
+    while place < past {
+        let next = past.min((place / WORD + 1) * WORD);
+        set_within(bits, place, next);
+        place = next;
+    }
 }
 
 /// The first position from `place` on, of the 64 of a number, whose bit is set.

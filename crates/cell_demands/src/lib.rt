@@ -4,9 +4,11 @@
 mod bits;
 mod laws;
 mod marking;
+mod rows;
 mod runs;
 mod tails;
 
 pub use laws::notes_stay_true;
 pub use marking::{mark_children, mark_children_noting};
+pub use rows::{RowRoom, mark_row_children};
 pub use tails::Tails;
