@@ -16,7 +16,7 @@ Counted p cell = IsCounted p.grammar (length p.word) cell
 
 -- ---- what is settled stays settled
 
-settled_later : (first second : CellMarks) (Holds : Cell → Type 0) → AreMarkedToo first second Holds → (cell : Cell) → IsSettled first cell → IsSettled second cell
+pub settled_later : (first second : CellMarks) (Holds : Cell → Type 0) → AreMarkedToo first second Holds → (cell : Cell) → IsSettled first cell → IsSettled second cell
 settled_later first second Holds more cell settled = record {
   marked = more.rows_stay cell settled.marked;
   children = λ child is. (more.exact child).1 (inl (settled.children child (subst (λ p. IsDemandedChild p cell child) more.problem is)));

@@ -1,5 +1,6 @@
--- The sweep that marks the demanded cells: by starts upwards, then by ends downwards, then by ranks downwards.
-use Rattle.std.specs.Prelude.{◌≡◌, ℕ, ◌+◌, ◌<◌, ◌≤◌, ◌⊎◌, List, length, slice_index}
+-- The sweep that marks the demanded cells: by starts upwards, and at a start by rows, or by ends downwards and then by
+-- ranks downwards.
+use Rattle.std.specs.Prelude.{◌≡◌, ℕ, ◌+◌, ◌<◌, ◌≤◌, ◌⊎◌, Some, List, length, slice_get, slice_index}
 use Rattle.std.specs.List.{Contains}
 use Rattle.adp_model.specs.declared.cell.Cell.{Cell}
 use Rattle.adp_model.specs.PosedProblem.{PosedProblem, axiom_cell}
@@ -28,6 +29,13 @@ IsBeforeRule rules from to number cell =
     ⊎ ((cell.from ≡ from) × (cell.to ≡ to)
     × ((other : ℕ) × (number ≤ other) × (other < length rules) × (slice_index rules other ≡ cell.rule)))
 
+-- the cells that begin before this start, and of those that begin there the ones whose rules stand nowhere before this
+-- number
+abbrev pub IsBehindRow : List ℕ → ℕ → ℕ → Cell → Type 0
+IsBehindRow rules from number cell =
+    IsBeforeStart from cell
+    ⊎ ((cell.from ≡ from) × ((other : ℕ) → slice_get rules other ≡ Some cell.rule → number ≤ other))
+
 -- of the cells that begin here those that are marked are marked in their rows
 abbrev pub AreGathered : CellMarks → ℕ → Type 0
 AreGathered marks from = (cell : Cell) → cell.from ≡ from → IsMarked marks cell → IsMarkedInRow marks cell
@@ -44,3 +52,8 @@ pub record AreSwept (p : PosedProblem) (marks : CellMarks) (Holds : Cell → Typ
   pub demanded : (cell : Cell) → IsMarked marks cell → IsDemanded p cell
   pub begun : IsDemanded p (axiom_cell p) → IsMarked marks (axiom_cell p)
   pub settled : (cell : Cell) → Holds cell → IsMarked marks cell → IsSettled marks cell
+
+-- and all marks stand in rows
+pub record AreSweptInRows (p : PosedProblem) (marks : CellMarks) (Holds : Cell → Type 0) : Type 0 where
+  pub swept : AreSwept p marks Holds
+  pub in_rows : (cell : Cell) → IsMarked marks cell → IsMarkedInRow marks cell

@@ -2,13 +2,15 @@ ghost use Rattle.std.specs.Prelude.{◌≡◌, ◌↔◌, ◌+◌, ◌<◌, IfOk
 ghost use Rattle.adp_model.specs.declared.cell.Cell.{Cell};
 ghost use Rattle.adp_model.specs.Demand.{IsDemanded};
 ghost use Rattle.cell_tables.specs.Marks.{IsMarkedInRow};
-ghost use Rattle.seq_reference.specs.Sweeping.{AreGathered, AreRanked, AreSwept, IsBeforeEnd, IsBeforeStart};
+ghost use Rattle.seq_reference.specs.Sweeping.{AreGathered, AreRanked, AreSwept, AreSweptInRows, IsBeforeEnd, IsBeforeStart};
 
 use crate::marking::Marking;
 use crate::rank_order::rules_by_rank;
+use crate::row_marks::marks_by_rows;
 use adp_model::Cell;
 use adp_model::laws::demand::{demanded_cells_are_counted, demanded_children_are_below};
 use cell_tables::{Layout, Marks};
+use row_scores::order_of_long_rows;
 use split_lines::Lines;
 use std::alloc::{AllocError, Global};
 
@@ -59,7 +61,7 @@ fn first_marks<'a>(
     layout: &Layout<'a>,
 ) -> Result<Marks<'a>, AllocError>
     requires { layout.now ≡ lines.now }
-    ensures { IfOk result (λ marks. AreSwept lines.now marks (IsBeforeStart 0)) }
+    ensures { IfOk result (λ marks. AreSweptInRows lines.now marks (IsBeforeStart 0)) }
 {
     let problem = lines.problem();
     problem.admissible();
@@ -73,9 +75,31 @@ fn first_marks<'a>(
     Ok(marks)
 }
 
+/// The same marks, cell by cell.
+fn marks_by_cells<'a>(
+    alloc: Global,
+    lines: &Lines<'a>,
+    marks: Marks<'a>,
+) -> Result<Marks<'a>, AllocError>
+    requires { AreSwept lines.now marks (IsBeforeStart 0) }
+    ensures problem { IfOk result (λ marks. marks.problem ≡ lines.now) }
+    ensures rows { IfOk result (λ marks. (cell : Cell) → IsMarkedInRow marks cell ↔ IsDemanded lines.now cell) }
+{
+    let problem = lines.problem();
+    problem.admissible();
+    demanded_cells_are_counted();
+    let rules = rules_by_rank(alloc, problem)?;
+    let mut marks = Marking::new(alloc, lines, marks)?;
+    for from in 0..problem.word.bytes().len() as u16 + 1 {
+        settle_start(lines, &rules, from, &mut marks);
+    }
+    Ok(marks.into_marks())
+}
+
 /// Marks of the demanded cells: each is marked in its row, and no other cell is. Fails for want of memory alone. Its
 /// time is in proportion to the counted cells and to the lines of the demanded cells, with their positions, 64 at a
-/// time.
+/// time; or, where whole rows are marked, to the positions that arguments of the rows reach, times the ends of a row, 64
+/// at a time.
 pub fn demanded_marks<'a>(
     alloc: Global,
     lines: &Lines<'a>,
@@ -85,14 +109,9 @@ pub fn demanded_marks<'a>(
     ensures problem { IfOk result (λ marks. marks.problem ≡ lines.now) }
     ensures rows { IfOk result (λ marks. (cell : Cell) → IsMarkedInRow marks cell ↔ IsDemanded lines.now cell) }
 {
-    let problem = lines.problem();
-    problem.admissible();
-    demanded_cells_are_counted();
-    let rules = rules_by_rank(alloc, problem)?;
-    let first = first_marks(alloc, lines, layout)?;
-    let mut marks = Marking::new(alloc, lines, first)?;
-    for from in 0..problem.word.bytes().len() as u16 + 1 {
-        settle_start(lines, &rules, from, &mut marks);
+    let marks = first_marks(alloc, lines, layout)?;
+    match order_of_long_rows(alloc, lines.problem(), layout)? {
+        Some(order) => marks_by_rows(alloc, lines, layout, &order, marks),
+        None => marks_by_cells(alloc, lines, marks),
     }
-    Ok(marks.into_marks())
 }

@@ -13,6 +13,7 @@ use adp_model::Cell;
 use adp_model::laws::demand::{demanded_cells_are_counted, demanded_children_are_below};
 use cell_answers::{KeptEnds, Scores, Tails, cell_score_noting};
 use cell_tables::{Layout, Marks};
+use row_scores::scores_by_rows;
 use split_lines::Lines;
 use std::alloc::{AllocError, Global};
 use std::marker::Model;
@@ -182,6 +183,9 @@ pub fn filled_scores<'a>(
     ensures problem { IfOk result (λ scores. scores.problem ≡ lines.now) }
     ensures scored { IfOk result (λ scores. (cell : Cell) → IsDemanded lines.now cell → HasEntry scores cell) }
 {
+    if let Some(by_rows) = scores_by_rows(alloc, lines, marks, layout)? {
+        return Ok(by_rows);
+    }
     let problem = lines.problem();
     problem.admissible();
     demanded_cells_are_counted();

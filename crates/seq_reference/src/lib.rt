@@ -7,6 +7,7 @@ mod demand;
 mod filling;
 mod marking;
 mod rank_order;
+mod row_marks;
 mod solved;
 mod solving;
 

@@ -1,4 +1,4 @@
-use Rattle.std.proofs.Common.{◌≡◌, sym, ap, subst, ◌∙◌}
+use Rattle.std.proofs.Common.{⊎_elim, ◌≡◌, sym, ap, subst, ◌∙◌}
 use Rattle.std.proofs.lemmas.Bool.{false≢true}
 use Rattle.adp_model.specs.declared.cell.Cell.{Cell}
 use Rattle.adp_model.specs.PosedProblem.{PosedProblem, axiom_cell}
@@ -22,11 +22,12 @@ returns-then-not-counts c =
     let D : PosedProblem → Type 0 = λ q. (cell : Cell) → IsDemanded q cell → Counted q cell in
     let counted = subst D c.problem-problem.ensures
     (c.demanded_cells_are_counted.ensures c.problem-problem.result.now c.admissible.ensures.checked.well_formed) in
-    swept_nothing p c.in_ok-marks.marks (same_problem before) c.in_ok-marks.ensures.none (λ demanded.
+    let swept = swept_nothing p c.in_ok-marks.marks (same_problem before) c.in_ok-marks.ensures.none (λ demanded.
     let C : PosedProblem → Type 0 = λ q. Counted q (axiom_cell p) in
     let T : Cell → Type 0 = Counted c.args.layout.now in
     let there = subst T (sym (root_is before)) (subst C (sym c.requires) (counted (axiom_cell p) demanded)) in
-    false≢true (sym c.if-not-counts.true ∙ c.counts.ensures.1 there))
+    false≢true (sym c.if-not-counts.true ∙ c.counts.ensures.1 there)) in
+    record { swept = swept; in_rows = λ cell marked. absurd (c.in_ok-marks.ensures.none cell marked) }
 
 pub mark-requires : goal.mark-requires
 mark-requires c =
@@ -41,5 +42,9 @@ returns c =
     let T : Cell → Type 0 = Counted c.args.layout.now in
     let C : PosedProblem → Type 0 = λ q. Counted q (axiom_cell p) in
     let M : Cell → Type 0 = λ cell. AreMarkedToo c.in_ok-marks.marks c.mark.new.self (λ other. other ≡ cell) in
-    swept_root p c.in_ok-marks.marks c.mark.new.self (same_problem before) c.in_ok-marks.ensures.none
-    (subst C c.requires (subst T e (c.counts.ensures.0 c.if-not-counts.false))) (subst M e c.mark.ensures.marked)
+    record {
+      swept = swept_root p c.in_ok-marks.marks c.mark.new.self (same_problem before) c.in_ok-marks.ensures.none
+          (subst C c.requires (subst T e (c.counts.ensures.0 c.if-not-counts.false))) (subst M e c.mark.ensures.marked);
+      in_rows = λ cell marked. ⊎_elim (λ was. absurd (c.in_ok-marks.ensures.none cell was)) (λ same. c.mark.ensures.in_row cell same)
+          ((c.mark.ensures.marked.exact cell).0 marked);
+    }

@@ -5,8 +5,8 @@ use Rattle.adp_model.specs.Demand.{IsDemanded}
 use Rattle.cell_tables.specs.Marks.{CellMarks, IsMarkedInRow}
 use Rattle.seq_reference.specs.Sweeping.{AreSwept, IsBeforeStart}
 use Rattle.seq_reference.proofs.Sweeps.{Counted, all_in_rows}
-use Rattle.seq_reference.proofs.demand.demanded_marks.Goals as goal
-use Rattle.seq_reference.proofs.demand.demanded_marks.Goals.{After-bytes}
+use Rattle.seq_reference.proofs.demand.marks_by_cells.Goals as goal
+use Rattle.seq_reference.proofs.demand.marks_by_cells.Goals.{After-bytes}
 
 counted : (c : After-bytes) → (cell : Cell) → IsDemanded c.args.lines.now cell → Counted c.args.lines.now cell
 counted c =
@@ -19,7 +19,7 @@ letters c = ap length c.bytes.ensures.bytes ∙ ap (λ (q : PosedProblem). lengt
 pub loop-from-init : goal.loop-from-init
 loop-from-init c =
     let S : CellMarks → Type 0 = λ marks. AreSwept c.args.lines.now marks (IsBeforeStart 0) in
-    subst S (sym c.in_ok-marks.ensures) c.in_ok-first.ensures
+    subst S (sym c.in_ok-marks.ensures) c.requires
 
 pub returns-clause-problem : goal.returns-clause-problem
 returns-clause-problem c = ap (λ (marks : CellMarks). marks.problem) c.into_marks.ensures ∙ c.loop-from.invariant.problem
