@@ -1,20 +1,30 @@
 -- A word has one report.
-use Rattle.std.proofs.Common.{◌≡◌, ℕ, inl, inr, IsTrue, List, ◌++◌, codes, refl, sym, ap, ◌∙◌}
+use Rattle.std.proofs.Common.{◌≡◌, ℕ, IsTrue, List, ◌++◌, codes, refl, sym, ap, ◌∙◌}
 use Rattle.std.specs.Fmt.{decimal}
+use Rattle.adp_model.specs.declared.cell.Answer.{Answer}
+use Rattle.adp_model.specs.declared.cell.Answer.TheVariants.{NoCandidate, Best}
+use Rattle.adp_model.specs.Answers.{IsAnswer}
 use Rattle.adp_model.specs.PosedProblem.{PosedProblem, axiom_cell}
 use Rattle.adp_model.specs.WellFormed.{is_well_formed}
 use Rattle.adp_model.specs.Demand.{IsDemanded}
 use Rattle.adp_model.specs.Scores.{score_of}
 use Rattle.adp_model.specs.BigReport.{made_problem, big_lines, IsBigReport}
-use Rattle.adp_model.specs.Report.{line, tree_lines, IsAnswerText, IsReport}
+use Rattle.adp_model.specs.Report.{line, tree_lines, answer_lines, IsAnswerText, IsReport}
 use Rattle.adp_model.proofs.CellLists.{count_unique}
 use Rattle.adp_model.proofs.Order.{IsPreferred_unique-formed}
 
-IsAnswerText_unique : (p : PosedProblem) → IsTrue (is_well_formed p.grammar) → (a b : List ℕ) → IsAnswerText p a → IsAnswerText p b → a ≡ b
-IsAnswerText_unique p formed a b (inl h) (inl k) = h.2 ∙ ap (tree_lines p) (IsPreferred_unique-formed p (axiom_cell p) h.0 k.0 formed h.1 k.1) ∙ sym k.2
-IsAnswerText_unique p formed a b (inl h) (inr k) = absurd (k.0 h.0 h.1.derived)
-IsAnswerText_unique p formed a b (inr h) (inl k) = absurd (h.0 k.0 k.1.derived)
-IsAnswerText_unique p formed a b (inr h) (inr k) = h.1 ∙ sym k.1
+lines_unique : (p : PosedProblem) → IsTrue (is_well_formed p.grammar) → (answer other : Answer)
+    (is : IsAnswer p (axiom_cell p) answer) (is' : IsAnswer p (axiom_cell p) other)
+    → answer_lines p answer is ≡ answer_lines p other is'
+lines_unique p formed (Best score choice) (Best score' choice') h k =
+    ap (tree_lines p) (IsPreferred_unique-formed p (axiom_cell p) h.0 k.0 formed h.1 k.1)
+lines_unique p formed (Best score choice) NoCandidate h none = absurd (none h.0 h.1.derived)
+lines_unique p formed NoCandidate (Best score choice) none k = absurd (none k.0 k.1.derived)
+lines_unique p formed NoCandidate NoCandidate none none' = refl
+
+IsAnswerText_unique : (p : PosedProblem) → IsTrue (is_well_formed p.grammar) → (a b : List ℕ) → IsAnswerText p a
+    → IsAnswerText p b → a ≡ b
+IsAnswerText_unique p formed a b h k = h.2 ∙ lines_unique p formed h.0 k.0 h.1 k.1 ∙ sym k.2
 
 pub IsReport_unique : (number : ℕ) (p : PosedProblem) (a b : List ℕ) → IsTrue (is_well_formed p.grammar) → IsReport number p a → IsReport number p b → a ≡ b
 IsReport_unique number p a b formed h k =

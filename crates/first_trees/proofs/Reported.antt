@@ -1,5 +1,6 @@
 -- Reports of first trees.
 use Rattle.std.proofs.Common.{◌≡◌, ℕ, inl, inr, ◌↔◌, List, [], ◌∷◌, ◌++◌, length, codes, decimal, refl, sym, ap, ◌∙◌, arith}
+use Rattle.adp_model.specs.declared.cell.Answer.TheVariants.{NoCandidate, Best}
 use Rattle.adp_model.specs.PosedProblem.{PosedProblem, axiom_cell}
 use Rattle.adp_model.specs.Tree.{Tree}
 use Rattle.adp_model.specs.Preference.{IsPreferred}
@@ -51,7 +52,7 @@ module _ (p : PosedProblem)
 pub answer_told : (p : PosedProblem) → ((t u : Tree) → IsPreferred p (axiom_cell p) t → IsPreferred p (axiom_cell p) u → t ≡ u)
     → (number : ℕ) (report listed : List ℕ) → IsReport number p report → IsPreferredReport number p listed
     → TellOneCandidate number p report listed
-answer_told p one number report listed (answer, count, inl (tree, preferred, text), counted, told) (inl (other, best, same)) = (
+answer_told p one number report listed (answer, count, (Best score choice, (tree, preferred, is, at), text), counted, told) (inl (other, best, same)) = (
   count,
   inl (
     tree,
@@ -61,11 +62,11 @@ answer_told p one number report listed (answer, count, inl (tree, preferred, tex
         (one other tree best preferred),
   ),
 )
-answer_told p one number report listed (answer, count, inl (tree, preferred, text), counted, told) (inr (none, same)) =
+answer_told p one number report listed (answer, count, (Best score choice, (tree, preferred, is, at), text), counted, told) (inr (none, same)) =
     absurd (none tree preferred.derived)
-answer_told p one number report listed (answer, count, inr (none, text), counted, told) (inl (tree, preferred, same)) =
+answer_told p one number report listed (answer, count, (NoCandidate, none, text), counted, told) (inl (tree, preferred, same)) =
     absurd (none tree preferred.derived)
-answer_told p one number report listed (answer, count, inr (none, text), counted, told) (inr (none', same)) = (
+answer_told p one number report listed (answer, count, (NoCandidate, none, text), counted, told) (inr (none', same)) = (
   count,
   inr (
     none,

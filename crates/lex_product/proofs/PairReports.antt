@@ -2,11 +2,14 @@
 use Rattle.std.proofs.Common.{◌≡◌, inl, inr, ◌++◌, ℕ, List, refl, sym, ap, ◌∙◌}
 use Rattle.std.specs.Prelude.{codes}
 use Rattle.std.specs.Fmt.{decimal}
+use Rattle.adp_model.specs.declared.cell.Answer.{Answer}
+use Rattle.adp_model.specs.declared.cell.Answer.TheVariants.{NoCandidate, Best}
 use Rattle.adp_model.specs.PosedProblem.{PosedProblem, axiom_cell}
 use Rattle.adp_model.specs.Tree.{Tree}
 use Rattle.adp_model.specs.Preference.{IsPreferred}
+use Rattle.adp_model.specs.Answers.{IsAnswer}
 use Rattle.adp_model.specs.Demand.{IsDemandedCount}
-use Rattle.adp_model.specs.Report.{line, IsAnswerText, IsReport}
+use Rattle.adp_model.specs.Report.{line, IsReport}
 use Rattle.lex_product.specs.CompiledGrammar.{compiled_problem, multiplier_of}
 use Rattle.lex_product.specs.Compilable.{IsCompilable}
 use Rattle.lex_product.specs.PairReport.{pair_lines, IsPairAnswerText, IsPairReport}
@@ -17,15 +20,15 @@ module _ (laws : ModelLaws) (p : PosedProblem) (second bound : ℕ) (can : IsCom
   abbrev c : PosedProblem
   c = compiled_problem p second (multiplier_of bound)
 
-  answer_text : (text : List ℕ) → IsAnswerText c text → (answer : List ℕ) × IsPairAnswerText p second answer
-  answer_text text (inl (tree, preferred, is)) =
+  answer_text : (answer : Answer) → IsAnswer c (axiom_cell c) answer → (text : List ℕ) × IsPairAnswerText p second text
+  answer_text (Best score choice) (tree, preferred, is, at) =
       (pair_lines p second tree, inl (tree, (preferred_pairs laws p second bound can (axiom_cell p) tree).0 preferred, refl))
-  answer_text text (inr (none, is)) =
+  answer_text NoCandidate none =
       (line (codes "none"), inr ((λ tree derived. none tree (derived_moved p c.grammar.algebras p.algebra (axiom_cell p) tree derived)), refl))
 
   pub report_there : (number : ℕ) (report : List ℕ) → IsReport number c report → (pair_report : List ℕ) × IsPairReport number p second pair_report
   report_there number report h =
-      let found = answer_text h.0 h.2 in
+      let found = answer_text h.2.0 h.2.1 in
       (line (codes "word " ++ decimal number) ++ found.0 ++ line (codes "cells " ++ decimal h.1), (found.0, h.1, found.1, count_moved c p.grammar.algebras p.algebra h.1 h.3, refl))
 
   module _ (unique : (t u : Tree) → IsPreferred c (axiom_cell p) t → IsPreferred c (axiom_cell p) u → t ≡ u) where

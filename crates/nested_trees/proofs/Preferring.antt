@@ -1,5 +1,5 @@
 -- Erasing keeps which tree is preferred, whether there is one, and so the reports.
-use Rattle.std.proofs.Common.{◌≡◌, Option, ℕ, inl, inr, ◌↔◌, List, ◌++◌, codes, sym, ap, ap₂, subst, ◌∙◌}
+use Rattle.std.proofs.Common.{◌≡◌, Option, ℕ, inl, inr, ◌↔◌, List, ◌++◌, codes, refl, sym, ap, ap₂, subst, ◌∙◌}
 use Rattle.std.specs.Fmt.{signed_decimal}
 use Rattle.adp_model.specs.declared.grammar.Arg.TheVariants.{Rule}
 use Rattle.adp_model.specs.declared.grammar.Grammar.{Grammar}
@@ -8,8 +8,11 @@ use Rattle.adp_model.specs.PosedProblem.{PosedProblem, axiom_cell}
 use Rattle.adp_model.specs.Tree.{Tree}
 use Rattle.adp_model.specs.Derivation.{Derives}
 use Rattle.adp_model.specs.Preference.{IsPreferred}
-use Rattle.adp_model.specs.Answers.{HasNoTree}
-use Rattle.adp_model.specs.Report.{line, tree_lines, IsAnswerText, IsReport, IsWinsReport}
+use Rattle.adp_model.specs.declared.cell.Answer.{Answer}
+use Rattle.adp_model.specs.declared.cell.Answer.TheVariants.{NoCandidate, Best}
+use Rattle.adp_model.specs.Answers.{choice_of, HasNoTree, IsAnswer}
+use Rattle.adp_model.specs.Scores.{score_of}
+use Rattle.adp_model.specs.Report.{line, tree_lines, answer_lines, IsAnswerText, IsReport, IsWinsReport}
 use Rattle.adp_model.specs.Checks.{IsChecked}
 use Rattle.nested_trees.specs.HiddenRules.{AreNestedAlternatives}
 use Rattle.nested_trees.specs.Patterns.{Plain, NestedProblem, HidesRules}
@@ -79,21 +82,27 @@ module _ (q : NestedProblem) (hidden : ℕ) (alone : AreNestedAlternatives q.pla
       ap₂ (λ score text. line (codes "score " ++ signed_decimal score) ++ line (codes "tree " ++ text))
       (score-erased q hidden alone hides (Plain (Rule g.axiom)) (axiom_cell p) tree d) (text-erased p hidden tree)
 
-  to_nested : (text : List ℕ) → IsAnswerText p text → IsNestedAnswerText q text
-  to_nested text (inl found) =
+  told_nested : (answer : Answer) (is : IsAnswer p (axiom_cell p) answer)
+      → IsNestedAnswerText q (answer_lines p answer is)
+  told_nested (Best score choice) found =
       inl (
         erased g hidden found.0,
         preferred-erased (axiom_cell p) found.0 found.1,
-        found.2
-            ∙ sym (lines-erased found.0 found.1.derived),
+        sym (lines-erased found.0 found.1.derived),
       )
-  to_nested text (inr none) = inr ((none-erased (axiom_cell p)).0 none.0, none.1)
+  told_nested NoCandidate none = inr ((none-erased (axiom_cell p)).0 none, refl)
+
+  to_nested : (text : List ℕ) → IsAnswerText p text → IsNestedAnswerText q text
+  to_nested text (answer, is, told) = subst (IsNestedAnswerText q) (sym told) (told_nested answer is)
 
   to_plain : (text : List ℕ) → IsNestedAnswerText q text → IsAnswerText p text
   to_plain text (inl found) =
-      let tree = preferred-onto (axiom_cell p) found.0 found.1 in
-      inl (tree.0, tree.1, found.2 ∙ ap (nested_tree_lines q) tree.2 ∙ lines-erased tree.0 tree.1.derived)
-  to_plain text (inr none) = inr ((none-erased (axiom_cell p)).1 none.0, none.1)
+      let tree = preferred-onto (axiom_cell p) found.0 found.1 in (
+        Best (score_of p tree.0) (choice_of tree.0),
+        (tree.0, tree.1, refl, refl),
+        found.2 ∙ ap (nested_tree_lines q) tree.2 ∙ lines-erased tree.0 tree.1.derived,
+      )
+  to_plain text (inr none) = (NoCandidate, (none-erased (axiom_cell p)).1 none.0, none.1)
 
   pub answer-erased : (text : List ℕ) → IsAnswerText p text ↔ IsNestedAnswerText q text
   answer-erased text = (to_nested text, to_plain text)

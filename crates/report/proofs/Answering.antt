@@ -1,15 +1,15 @@
 -- The lines of an answer.
-use Rattle.std.proofs.Common.{◌≡◌, ℕ, ℤ, inl, List, [], ◌∷◌, ◌++◌, codes, ap, ap₂, subst, ◌∙◌, append_assoc}
+use Rattle.std.proofs.Common.{◌≡◌, ℕ, ℤ, List, [], ◌∷◌, ◌++◌, codes, sym, ap, ap₂, subst, ◌∙◌, append_assoc}
 use Rattle.std.specs.Fmt.{signed_decimal}
 use Rattle.adp_model.specs.declared.cell.Answer.{Answer}
 use Rattle.adp_model.specs.declared.cell.Answer.TheVariants.{Best}
 use Rattle.adp_model.specs.declared.cell.Choice.{Choice}
 use Rattle.adp_model.specs.PosedProblem.{PosedProblem, axiom_cell}
 use Rattle.adp_model.specs.Tree.{Tree}
-use Rattle.adp_model.specs.Scores.{score_of}
 use Rattle.adp_model.specs.Preference.{IsPreferred}
 use Rattle.adp_model.specs.Answers.{IsAnswer}
 use Rattle.adp_model.specs.Report.{line, IsAnswerText}
+use Rattle.adp_model.specs.TreeText.{tree_text}
 use Rattle.report.specs.Pieces.{IsBestText}
 
 -- the lines of a candidate, as they are put together
@@ -20,8 +20,8 @@ pub best_lines : (p : PosedProblem) (answer : Answer) (score : ℤ) (choice : Ch
 best_lines p answer score choice text is unique answered (tree, preferred, text_is) =
     let a : IsAnswer p (axiom_cell p) (Best score choice) = subst (λ x. IsAnswer p (axiom_cell p) x) is answered in
     let same : a.0 ≡ tree = unique a.0 tree a.1 preferred in
-    let score_is : score ≡ score_of p tree = a.2 ∙ ap (score_of p) same in
-    inl (tree, preferred, ap₂ (λ s t. line (codes "score " ++ signed_decimal s) ++ line (codes "tree " ++ t)) score_is text_is)
+    let text_is' : text ≡ tree_text p a.0 = text_is ∙ ap (tree_text p) (sym same) in
+    (Best score choice, a, ap₂ (λ s t. line (codes "score " ++ signed_decimal s) ++ line (codes "tree " ++ t)) a.2 text_is')
 
 pub appended_lines : (old score_word score tree_word text one two three four new : List ℕ)
     → one ≡ old ++ score_word → two ≡ one ++ score → three ≡ two ++ 10 ∷ tree_word → four ≡ three ++ text → new ≡ four ++ 10 ∷ []
