@@ -10,6 +10,7 @@ pub mod FrontPositions
 pub mod FrontScores
 pub mod Fronts
 pub mod Greatest
+pub mod IdleTokens
 pub mod KeptScores
 pub mod LaidEnds
 pub mod LaidSplits

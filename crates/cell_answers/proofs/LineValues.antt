@@ -1,5 +1,5 @@
--- Lines of two rules with no tokens but literals: the values of their arguments at each position of the boundary, and
--- what a term comes to at them.
+-- Lines of two rules whose tokens make no difference to a term: the values of their arguments at each position of the
+-- boundary, and what the term comes to at them.
 use Rattle.std.proofs.Common.{◌≡◌, ℕ, zero, suc, ◌+◌, ◌-◌, ◌≤◌, ℤ, pos, nat_abs, Option, Some, None, List, [], ◌∷◌}
 use Rattle.std.proofs.Common.{◌++◌, length, map, take, replicate, slice_get, slice_set, refl, sym, ap, subst, ◌∙◌}
 use Rattle.std.proofs.Common.{arith, append_assoc, length-take}
@@ -28,15 +28,16 @@ use Rattle.score_numbers.specs.Packing.{Width}
 use Rattle.score_numbers.specs.Sums.{HaveNumbers, number_at}
 use Rattle.score_numbers.specs.TermLines.{AreLowValues, AreTwo, HasTermValue, HasTermValueAt, values_at}
 use Rattle.score_numbers.specs.Turned.{turned}
-use Rattle.score_numbers.specs.Worthless.{AreWorthless}
+use Rattle.score_numbers.specs.Worthless.{AreWorthless, IsWorthless}
 use Rattle.cell_answers.specs.declared.opened.OpenedLine.{OpenedLine}
 use Rattle.cell_answers.specs.Opened.{IsOpenedOn}
-use Rattle.cell_answers.specs.PlainLines.{AreFitNumbers, AreLiterals, AreNumbersOn, IsFoundOn, IsPlain, positions_of}
+use Rattle.cell_answers.specs.PlainLines.{AreFitNumbers, AreIdle, AreNumbersOn, IsFoundOn, IsPlain, positions_of}
 use Rattle.cell_answers.specs.ScaledLines.{IsScaledLine}
 use Rattle.cell_answers.specs.TermScores.{AreTermArguments, HasTermScore}
 use Rattle.cell_answers.specs.Totals.{HaveValues, HasTotal, AreLow, AreWeighted, IsWithinBound}
 use Rattle.cell_answers.proofs.FirstEnds.{AreSound}
 use Rattle.cell_answers.proofs.Greatest.{greatest_same}
+use Rattle.cell_answers.proofs.IdleTokens.{idle_have, nothing, same_size, same_value}
 use Rattle.cell_answers.proofs.LineTotals.{values_joined, values_parted}
 use Rattle.cell_answers.proofs.ScaledTotals.{AreNumbersOf, column, have_numbers, number_told, row, same_position, value_told}
 use Rattle.cell_answers.proofs.Totalling.{values_cover, values_kept}
@@ -47,9 +48,6 @@ some_mapped P Q maps None there = tt
 some_mapped P Q maps (Some it) there = maps it there
 
 -- ---- nothing for each argument
-
-abbrev pub nothing : List Arg → List ℤ
-nothing arguments = replicate (length arguments) (pos 0)
 
 nothing_joined : (front back : List Arg) → nothing (front ++ back) ≡ nothing front ++ nothing back
 nothing_joined [] back = refl
@@ -62,37 +60,40 @@ nothing_weighs (suc count) zero numbers = refl
 nothing_weighs (suc count) (suc all) [] = refl
 nothing_weighs (suc count) (suc all) (number ∷ numbers) = omega (arith, nothing_weighs count all numbers)
 
--- ---- literals
+abbrev AreNothing : List ℤ → Type 0
+AreNothing [] = Unit {0}
+AreNothing (factor ∷ factors) = (factor ≡ pos 0) × AreNothing factors
 
-literals_worthless : (tokens : List Arg) (factors : List ℤ) → AreLiterals tokens → AreWorthless tokens factors
-literals_worthless [] factors literals = tt
-literals_worthless (Literal text ∷ tokens) [] literals = tt
-literals_worthless (Literal text ∷ tokens) (factor ∷ factors) literals = (tt, literals_worthless tokens factors literals)
-literals_worthless (Rule rule ∷ tokens) factors literals = absurd literals
-literals_worthless (Letter class ∷ tokens) factors literals = absurd literals
-literals_worthless (Run class low high ∷ tokens) factors literals = absurd literals
+-- factors that are nothing weigh nothing
+nothing_worthless : (count all : ℕ) (tokens : List Arg) (factors before behind : List ℤ)
+    → take count (replicate all (pos 0)) ≡ before ++ factors ++ behind → AreWorthless tokens factors
+nothing_worthless count all tokens factors before behind are = worthless tokens factors (those before (subst AreNothing are (nothings count all)))
+  where
+    nothings : (count all : ℕ) → AreNothing (take count (replicate all (pos 0)))
+    nothings zero all = tt
+    nothings (suc count) zero = tt
+    nothings (suc count) (suc all) = (refl, nothings count all)
+
+    those : (before : List ℤ) → AreNothing (before ++ factors ++ behind) → AreNothing factors
+    those [] all = firsts factors all
+      where
+        firsts : (factors : List ℤ) → AreNothing (factors ++ behind) → AreNothing factors
+        firsts [] all = tt
+        firsts (factor ∷ factors) all = (all.0, firsts factors all.1)
+    those (factor ∷ before) all = those before all.1
+
+    is_worthless : (token : Arg) (factor : ℤ) → factor ≡ pos 0 → IsWorthless token factor
+    is_worthless (Literal text) factor is = tt
+    is_worthless (Letter class) factor is = is
+    is_worthless (Rule rule) factor is = is
+    is_worthless (Run class low high) factor is = is
+
+    worthless : (tokens : List Arg) (factors : List ℤ) → AreNothing factors → AreWorthless tokens factors
+    worthless [] factors all = tt
+    worthless (token ∷ tokens) [] all = tt
+    worthless (token ∷ tokens) (factor ∷ factors) all = (is_worthless token factor all.0, worthless tokens factors all.1)
 
 module _ (p : PosedProblem) (HasScore : Cell → ℤ → Type 0) where
-  literal_values : (tokens : List Arg) (from to : ℕ) (values : List ℤ) → AreLiterals tokens
-      → HaveValues p HasScore tokens from to values → values ≡ nothing tokens
-  literal_values [] from to [] literals have = refl
-  literal_values [] from to (value ∷ values) literals have = absurd have
-  literal_values (Literal text ∷ tokens) from to [] literals have = absurd have
-  literal_values (Literal text ∷ tokens) from to (value ∷ values) literals have =
-      let first : value ≡ pos 0 = have.2 in
-      let others : values ≡ nothing tokens = literal_values tokens have.0 to values literals have.3 in
-      λ i. first i ∷ others i
-  literal_values (Rule rule ∷ tokens) from to values literals have = absurd literals
-  literal_values (Letter class ∷ tokens) from to values literals have = absurd literals
-  literal_values (Run class low high ∷ tokens) from to values literals have = absurd literals
-
-  literals_have : (tokens : List Arg) (from to : ℕ) → AreLiterals tokens → Cover p tokens from to → HaveValues p HasScore tokens from to (nothing tokens)
-  literals_have [] from to literals cover = cover
-  literals_have (Literal text ∷ tokens) from to literals cover = (cover.0, cover.1, refl, literals_have tokens cover.0 to literals cover.2)
-  literals_have (Rule rule ∷ tokens) from to literals cover = absurd literals
-  literals_have (Letter class ∷ tokens) from to literals cover = absurd literals
-  literals_have (Run class low high ∷ tokens) from to literals cover = absurd literals
-
   -- the values of a first argument and of others
   record HaveFirst (argument : Arg) (others : List Arg) (from to : ℕ) (values : List ℤ) : Type 0 where
     value : ℤ
@@ -132,7 +133,8 @@ pub record IsTermLine (p : PosedProblem) (form : WideForm) (before : List ℤ) (
     (line : OpenedLine) (term : TermLine) : Type 0 where
   pub factors : List ℤ
   pub opened : IsOpenedOn p arguments factors from to line
-  pub plain : IsPlain line term.goal
+  pub factors_are : factors ≡ take (length arguments) (replicate 4 (pos 0))
+  pub plain : IsPlain line term
   pub form_is : form_of term.term.now ≡ form
   pub goal_is : term.goal ≡ (algebra_of p).goal
   pub values_are : term.values.now ≡ before ++ nothing arguments
@@ -151,6 +153,7 @@ module _ (p : PosedProblem) (form : WideForm) (before : List ℤ) (arguments : L
       second.{now as second},
       second_factor,
       tail.{now as tail},
+      tail_factors.{now as tail_factors},
     },
     boundary.{letters, last, positions.{now as positions}},
   }
@@ -183,25 +186,50 @@ module _ (p : PosedProblem) (form : WideForm) (before : List ℤ) (arguments : L
     );
   }
 
+  -- the tokens between and behind make no difference
+  middle_idle : AreIdle form (term.before + 1) middle
+  middle_idle = subst (λ form. AreIdle form (term.before + 1) middle) it.form_is it.plain.middle
+
+  tail_idle : AreIdle form (term.behind + 1) tail
+  tail_idle = subst (λ form. AreIdle form (term.behind + 1) tail) it.form_is it.plain.tail
+
   module _ (HasScore : Cell → ℤ → Type 0) where
+    -- the values at a position, which may be those of two cells and nothing else
+    record AreLaid (value other : ℤ) : Type 0 where
+      values : List ℤ
+      have : HaveValues p HasScore arguments from to values
+      same_value : wide_value form (before ++ values) ≡ wide_value form (before ++ line_values value other)
+      same_size : wide_magnitude form (map nat_abs (before ++ values)) ≡ wide_magnitude form (map nat_abs (before ++ line_values value other))
+
     have_values : (position : ℕ) → Contains positions position → (value other : ℤ)
         → IsValue p HasScore (on_span first line.from position) value
         → IsValue p HasScore (on_span second (position + letters) last) other
-        → HaveValues p HasScore arguments from to (line_values value other)
+        → AreLaid value other
     have_values position stands value other is is' =
         let fit = (it.opened.boundary.exact position).0 stands in
-        let behind : HaveValues p HasScore (second ∷ tail) (position + letters) to (other ∷ nothing tail) =
-        (last, fit.2, is', literals_have p HasScore tail last to it.plain.tail fit.3) in
-        let have : HaveValues p HasScore (first ∷ (middle ++ second ∷ tail)) line.from to (line_values value other) = (
+        let between = idle_have p HasScore form (term.before + 1) middle position (position + letters) middle_idle fit.1 in
+        let after = idle_have p HasScore form (term.behind + 1) tail last to tail_idle fit.3 in
+        let behind : HaveValues p HasScore (second ∷ tail) (position + letters) to (other ∷ after.0) = (last, fit.2, is', after.1) in
+        let have : HaveValues p HasScore (first ∷ (middle ++ second ∷ tail)) line.from to (value ∷ (between.0 ++ other ∷ after.0)) = (
           position,
           fit.0,
           is,
-          values_joined p HasScore middle (second ∷ tail) position (position + letters) to
-              (nothing middle) (other ∷ nothing tail) (literals_have p HasScore middle position (position + letters)
-              it.plain.middle fit.1) behind,
+          values_joined p HasScore middle (second ∷ tail) position (position + letters) to between.0 (other ∷ after.0) between.1 behind,
         ) in
-        subst (λ them. HaveValues p HasScore them from to (line_values value other)) (sym it.opened.arguments_are)
-        (subst (λ begin. HaveValues p HasScore (first ∷ (middle ++ second ∷ tail)) begin to (line_values value other)) it.opened.begins have)
+        let at : term.before + 1 ≡ length before + 1 = omega (arith, it.before_is) in
+        let at' : term.behind + 1 ≡ length before + 2 + length middle = omega (arith, it.behind_is) in
+        record {
+          values = value ∷ (between.0 ++ other ∷ after.0);
+          have =
+              subst (λ them. HaveValues p HasScore them from to (value ∷ (between.0 ++ other ∷ after.0))) (sym it.opened.arguments_are)
+              (subst (λ begin. HaveValues p HasScore (first ∷ (middle ++ second ∷ tail)) begin to (value ∷ (between.0 ++ other ∷ after.0))) it.opened.begins have);
+          same_value =
+              same_value p HasScore form before between.0 after.0 middle tail position (position + letters) last to (term.before + 1) (term.behind + 1)
+              value other at at' middle_idle tail_idle between.1 after.1;
+          same_size =
+              same_size p HasScore form before between.0 after.0 middle tail position (position + letters) last to (term.before + 1) (term.behind + 1)
+              value other at at' middle_idle tail_idle between.1 after.1;
+        }
 
     -- the values at a position
     record AreThrough (values : List ℤ) : Type 0 where
@@ -211,7 +239,7 @@ module _ (p : PosedProblem) (form : WideForm) (before : List ℤ) (arguments : L
       other : ℤ
       is_value : IsValue p HasScore (on_span first line.from position) value
       is_other : IsValue p HasScore (on_span second (position + letters) last) other
-      are : values ≡ line_values value other
+      same : wide_value form (before ++ values) ≡ wide_value form (before ++ line_values value other)
 
     are_through : (values : List ℤ) → HaveValues p HasScore arguments from to values → AreThrough values
     are_through values have =
@@ -231,10 +259,11 @@ module _ (p : PosedProblem) (form : WideForm) (before : List ℤ) (arguments : L
         let is_other : IsValue p HasScore (on_span second (one.end + letters) last) two.value =
         subst (λ n. IsValue p HasScore (on_span second n last) two.value)
         at (subst (λ n. IsValue p HasScore (on_span second parted.middle n) two.value) ends two.is_value) in
-        let front : parted.values ≡ nothing middle = literal_values p HasScore middle one.end parted.middle parted.values it.plain.middle parted.front_have in
-        let back : two.more ≡ nothing tail = literal_values p HasScore tail two.end to two.more it.plain.tail two.have_more in
-        let others : parted.others ≡ two.value ∷ nothing tail = two.are ∙ ap (λ them. two.value ∷ them) back in
-        let more : one.more ≡ nothing middle ++ two.value ∷ nothing tail = parted.are ∙ (λ i. front i ++ others i) in
+        let more : values ≡ one.value ∷ (parted.values ++ two.value ∷ two.more) =
+        one.are ∙ ap (λ them. one.value ∷ them) (parted.are ∙ ap (λ them. parted.values ++ them) two.are) in
+        let same =
+        same_value p HasScore form before parted.values two.more middle tail one.end parted.middle two.end to (term.before + 1) (term.behind + 1)
+        one.value two.value (omega (arith, it.before_is)) (omega (arith, it.behind_is)) middle_idle tail_idle parted.front_have two.have_more in
         record {
           position = one.end;
           stands = (it.opened.boundary.exact one.end).1 (
@@ -247,7 +276,7 @@ module _ (p : PosedProblem) (form : WideForm) (before : List ℤ) (arguments : L
           other = two.value;
           is_value = one.is_value;
           is_other = is_other;
-          are = one.are ∙ ap (λ them. one.value ∷ them) more;
+          same = ap (λ them. wide_value form (before ++ them)) more ∙ same;
         }
 
   -- ---- numbers for the two
@@ -258,7 +287,9 @@ module _ (p : PosedProblem) (form : WideForm) (before : List ℤ) (arguments : L
 
     scaled : IsScaledLine line scales
     scaled = record {
-      worthless = literals_worthless middle middle_factors it.plain.middle;
+      worthless =
+          nothing_worthless (length arguments) 4 middle middle_factors (first_factor ∷ []) (second_factor ∷ tail_factors)
+          (sym it.factors_are ∙ it.opened.factors_are);
       before = record { rule = it.plain.first.0; is_rule = it.plain.first.1; scale_is = refl };
       behind = record { rule = it.plain.second.0; is_rule = it.plain.second.1; scale_is = refl };
     }
@@ -331,7 +362,7 @@ module _ (p : PosedProblem) (form : WideForm) (before : List ℤ) (arguments : L
     -- the values at two numbers
     laid_at : (position : ℕ) → Contains positions position
         → (number : ℤ) (has : HasTermValue width term firsts seconds (number_at (positions_of line) position) number)
-        → HaveValues p (HasBestScore p) arguments from to (line_values (turned term.goal has.before) (turned term.goal has.behind))
+        → AreLaid (HasBestScore p) (turned term.goal has.before) (turned term.goal has.behind)
     laid_at position stands number has =
         have_values (HasBestScore p) position stands (turned term.goal has.before) (turned term.goal has.behind)
         (value_before position stands has.before has.before_there has.before_scores)
@@ -344,7 +375,8 @@ module _ (p : PosedProblem) (form : WideForm) (before : List ℤ) (arguments : L
     to_score : (number : ℤ) → HasTermValueAt width term (positions_of line) firsts seconds number
         → HasTermScore p (terms.Wide form) before arguments from to number
     to_score number (position, stands, has) =
-        (line_values (turned term.goal has.before) (turned term.goal has.behind), laid_at position stands number has, has.is ∙ value_is has.before has.behind)
+        let laid = laid_at position stands number has in
+        (laid.values, laid.have, has.is ∙ value_is has.before has.behind ∙ ap (turned (algebra_of p).goal) (sym laid.same_value))
 
     to_value : (number : ℤ) → HasTermScore p (terms.Wide form) before arguments from to number
         → HasTermValueAt width term (positions_of line) firsts seconds number
@@ -352,7 +384,9 @@ module _ (p : PosedProblem) (form : WideForm) (before : List ℤ) (arguments : L
         let through = are_through (HasBestScore p) values have in
         let a = number_before through.position through.stands through.value through.is_value in
         let b = number_behind through.position through.stands through.other through.is_other in
-        let are : values ≡ line_values (turned term.goal a.number) (turned term.goal b.number) = through.are ∙ (λ i. line_values (a.is i) (b.is i)) in (
+        let same : wide_value form (before ++ values)
+        ≡ wide_value form (before ++ line_values (turned term.goal a.number) (turned term.goal b.number)) =
+        through.same ∙ (λ i. wide_value form (before ++ line_values (a.is i) (b.is i))) in (
           through.position,
           through.stands,
           record {
@@ -362,20 +396,20 @@ module _ (p : PosedProblem) (form : WideForm) (before : List ℤ) (arguments : L
             behind_there = b.there;
             before_scores = a.apart;
             behind_scores = b.apart;
-            is = is ∙ ap (λ them. turned (algebra_of p).goal (wide_value form (before ++ them))) are ∙ sym (value_is a.number b.number);
+            is = is ∙ ap (turned (algebra_of p).goal) same ∙ sym (value_is a.number b.number);
           },
         )
 
     low : (bound : ℕ) → IsScoreBound p.grammar p.algebra (length p.word) bound → bound ≤ width.limit
         → AreLowValues width term (positions_of line) firsts seconds
     low bound scores within position number stands has =
-        let values = line_values (turned term.goal has.before) (turned term.goal has.behind) in
-        let kept = values_kept p (HasBestScore p) (IsWithinBound p) sound.within arguments from to values (laid_at position stands number has) in
-        let small : wide_magnitude form (map nat_abs (before ++ values)) ≤ bound = it.are.bounded bound values scores kept in
+        let laid = laid_at position stands number has in
+        let kept = values_kept p (HasBestScore p) (IsWithinBound p) sound.within arguments from to laid.values laid.have in
+        let small : wide_magnitude form (map nat_abs (before ++ laid.values)) ≤ bound = it.are.bounded bound laid.values scores kept in
         let same : wide_magnitude (form_of term.term.now) (map nat_abs (values_at term has.before has.behind))
-        ≡ wide_magnitude form (map nat_abs (before ++ values)) =
+        ≡ wide_magnitude form (map nat_abs (before ++ line_values (turned term.goal has.before) (turned term.goal has.behind))) =
         λ i. wide_magnitude (it.form_is i) (map nat_abs (values_at_are has.before has.behind i)) in
-        omega (arith, small, within, same)
+        omega (arith, small, within, same, laid.same_size)
 
     greatest_score : (greatest : Option ℤ) → IsGreatestOf (HasTermValueAt width term (positions_of line) firsts seconds)
         greatest → IsGreatestOf (HasTermScore p (terms.Wide form) before arguments from to) greatest

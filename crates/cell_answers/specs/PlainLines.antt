@@ -1,8 +1,10 @@
--- Lines of two rules with no tokens but literals, and what a term comes to at the numbers on both sides of the boundary.
-use Rattle.std.specs.Prelude.{◌≡◌, ℕ, ◌^◌, ◌<◌, ◌≤◌, ℤ, Option, List, [], ◌∷◌}
+-- Lines of two rules whose tokens make no difference to a term, and what it comes to at the numbers on both sides of the
+-- boundary.
+use Rattle.std.specs.Prelude.{◌≡◌, ℕ, ◌+◌, ◌^◌, ◌<◌, ◌≤◌, ℤ, Option, List, [], ◌∷◌}
 use Rattle.adp_model.specs.declared.grammar.Arg.{Arg}
-use Rattle.adp_model.specs.declared.grammar.Arg.TheVariants.{Rule, Literal}
-use Rattle.adp_model.specs.declared.grammar.Goal.{Goal}
+use Rattle.adp_model.specs.declared.grammar.Arg.TheVariants.{Rule, Literal, Letter}
+use Rattle.adp_model.specs.WideForm.{WideForm, Number, Value, Sum, Difference, Product, Greater, Lesser}
+use Rattle.adp_model.specs.WideTerms.{form_of}
 use Rattle.score_numbers.specs.declared.sums.Positions.{Positions}
 use Rattle.score_numbers.specs.declared.term_lines.TermLine.{TermLine}
 use Rattle.score_numbers.specs.Greatest.{IsGreatestOf}
@@ -13,24 +15,37 @@ use Rattle.score_numbers.specs.TermLines.{AreLowValues, HasTermValueAt}
 use Rattle.cell_answers.specs.declared.opened.OpenedLine.{OpenedLine}
 use Rattle.cell_answers.specs.ArgumentEntries.{entries_of}
 
--- the tokens are literals
-abbrev pub AreLiterals : List Arg → Type 0
-AreLiterals [] = Unit {0}
-AreLiterals (Literal text ∷ tokens) = AreLiterals tokens
-AreLiterals (token ∷ tokens) = ⊥
+-- the term does not have the value of the argument at this place
+abbrev pub IsFreeOf : WideForm → ℕ → Type 0
+IsFreeOf (Number number) place = Unit {0}
+IsFreeOf (Value other) place = other ≡ place → ⊥
+IsFreeOf (Sum left right) place = IsFreeOf left place × IsFreeOf right place
+IsFreeOf (Difference left right) place = IsFreeOf left place × IsFreeOf right place
+IsFreeOf (Product left right) place = IsFreeOf left place × IsFreeOf right place
+IsFreeOf (Greater left right) place = IsFreeOf left place × IsFreeOf right place
+IsFreeOf (Lesser left right) place = IsFreeOf left place × IsFreeOf right place
+
+-- the tokens make no difference to the term: they are literals, which are worth nothing, and letters whose values it does
+-- not have; the value of the first one stands at this place
+abbrev pub AreIdle : WideForm → ℕ → List Arg → Type 0
+AreIdle form place [] = Unit {0}
+AreIdle form place (Literal text ∷ tokens) = AreIdle form (place + 1) tokens
+AreIdle form place (Letter class ∷ tokens) = IsFreeOf form place × AreIdle form (place + 1) tokens
+AreIdle form place (token ∷ tokens) = ⊥
 
 -- the argument is a rule
 abbrev pub IsRule : Arg → Type 0
 IsRule argument = (rule : ℕ) × (argument ≡ Rule rule)
 
--- both arguments of open length are rules, all tokens are literals, and the entries were turned for this goal
-pub record IsPlain (line : OpenedLine) (goal : Goal) : Type 0 where
+-- both arguments of open length are rules, no token makes a difference to the term, and the entries were turned for its
+-- goal
+pub record IsPlain (line : OpenedLine) (term : TermLine) : Type 0 where
   pub first : IsRule line.arguments.first.now
   pub second : IsRule line.arguments.second.now
-  pub middle : AreLiterals line.arguments.middle.now
-  pub tail : AreLiterals line.arguments.tail.now
-  pub row : line.row.goal ≡ goal
-  pub column : line.column.goal ≡ goal
+  pub middle : AreIdle (form_of term.term.now) (term.before + 1) line.arguments.middle.now
+  pub tail : AreIdle (form_of term.term.now) (term.behind + 1) line.arguments.tail.now
+  pub row : line.row.goal ≡ term.goal
+  pub column : line.column.goal ≡ term.goal
 
 -- the positions of the boundary, as the entries on both sides of it stand
 abbrev pub positions_of : OpenedLine → Positions

@@ -1,17 +1,18 @@
 //! The greatest that a wide term comes to along a line, at many of its positions at once.
 
-ghost use Rattle.std.specs.Prelude.{◌≡◌, ◌<◌, ◌≤◌, ℕ, IfSome, length};
+ghost use Rattle.std.specs.Prelude.{◌≡◌, ◌+◌, ◌<◌, ◌≤◌, ℕ, IfSome, length};
 ghost use Rattle.std.specs.Bool.{OnTrue};
 ghost use Rattle.std.specs.List.{AllAdjacentBelow};
 ghost use Rattle.adp_model.specs.declared.cell.Cell.{Cell};
 ghost use Rattle.adp_model.specs.PosedProblem.{IsSpan};
+ghost use Rattle.adp_model.specs.WideTerms.{form_of};
 ghost use Rattle.score_numbers.specs.Greatest.{IsGreatestOf};
 ghost use Rattle.score_numbers.specs.TermLines.{AreTwo};
 ghost use Rattle.split_lines.specs.Laid.{Demands};
 ghost use Rattle.split_lines.specs.Lines.{IsLine};
 ghost use Rattle.cell_answers.specs.ArgumentEntries.{AreProperNumbers};
 ghost use Rattle.cell_answers.specs.Entries.{HasEntry};
-ghost use Rattle.cell_answers.specs.PlainLines.{AreFitNumbers, AreLiterals, IsFoundOn, IsPlain};
+ghost use Rattle.cell_answers.specs.PlainLines.{AreFitNumbers, AreIdle, IsFoundOn, IsFreeOf, IsPlain};
 ghost use Rattle.cell_answers.specs.TermScores.{AreTermArguments, HasTermScore, first_values};
 
 use crate::argument_values::Numbers;
@@ -33,29 +34,54 @@ pub struct Found {
     pub greatest: Option<i64>,
 }
 
-/// Whether the tokens are literals, which are worth nothing.
-fn are_literals(tokens: &[Arg]) -> bool
-    ensures { OnTrue result (AreLiterals tokens.now) }
+/// Whether a term does not have the value of the argument at this place.
+fn is_free_of(term: &Wide, place: usize) -> bool
+    ensures { OnTrue result (IsFreeOf (form_of term.now) place) }
+{
+    match term {
+        Wide::Number(_) => true,
+        Wide::Value(other) => *other as usize != place,
+        Wide::Sum(left, right)
+        | Wide::Difference(left, right)
+        | Wide::Product(left, right)
+        | Wide::Greater(left, right)
+        | Wide::Lesser(left, right) => is_free_of(left, place) && is_free_of(right, place),
+    }
+}
+
+/// Whether tokens make no difference to a term: they are literals, which are worth nothing, or letters whose values it
+/// does not have. The value of the first one stands at this place.
+fn are_idle(term: &Wide, place: usize, tokens: &[Arg]) -> bool
+    requires { place + length tokens.now ≤ 8 }
+    ensures { OnTrue result (AreIdle (form_of term.now) place tokens.now) }
 {
     let Some((token, tokens)) = tokens.split_first() else {
         return true;
     };
-    matches!(token, Arg::Literal(_)) && are_literals(tokens)
+    let is_idle = match token {
+        Arg::Literal(_) => true,
+        Arg::Letter(_) => is_free_of(term, place),
+        _ => false,
+    };
+    is_idle && are_idle(term, place + 1, tokens)
 }
 
-/// Whether the two arguments of open length are rules, all tokens are literals, and the entries were turned for this
-/// goal.
-fn is_plain(line: &OpenedLine<'_>, goal: Goal) -> bool
-    ensures { OnTrue result (IsPlain line.now goal) }
+/// Whether the two arguments of open length are rules, no token makes a difference to the term, and the entries were
+/// turned for its goal.
+fn is_plain(line: &OpenedLine<'_>, term: &TermLine<'_>) -> bool
+    requires middle { term.now.before + length line.now.arguments.middle.now < 8 }
+    requires tail { term.now.behind + length line.now.arguments.tail.now < 8 }
+    ensures { OnTrue result (IsPlain line.now term.now) }
 {
     let arguments = line.arguments;
     let (Arg::Rule(_), Arg::Rule(_)) = (arguments.first, arguments.second) else {
         return false;
     };
-    if line.row.goal != goal || line.column.goal != goal {
+    if line.row.goal != term.goal || line.column.goal != term.goal {
         return false;
     }
-    are_literals(arguments.middle) && are_literals(arguments.tail)
+    are_idle(term.term, term.before + 1, arguments.middle)
+        && are_idle(term.term, term.behind + 1, arguments.tail)
 }
 
 /// A term with the values of its arguments, the numbers of two of which stand on both sides of a boundary.
@@ -114,7 +140,7 @@ fn greatest_of_numbers(line: &OpenedLine<'_>, term: &TermLine<'_>, bound: u64) -
 
 /// The greatest that a term comes to, turned, at the first values and then those of arguments that begin with the first
 /// one of their line and are laid from `from` to `to`. `None` where it has to be found split by split: the term is not
-/// a wide one, numbers have too many bits, a token is of open length, or one is a letter.
+/// a wide one, numbers have too many bits, a token is of open length, or the term has the value of a letter.
 #[inline(never)]
 pub fn greatest_by_line(
     lines: &Lines<'_>,
@@ -148,11 +174,11 @@ pub fn greatest_by_line(
         return Some(Found { greatest: None });
     };
     let goal = problem.goal();
-    if !is_plain(&line, goal) {
-        return None;
-    }
     let values = first.with_nothing(arguments.len());
     let behind = first.count + 1 + line.arguments.middle.len();
     let term = term_line(wide.root(), goal, &values, first.count, behind);
+    if !is_plain(&line, &term) {
+        return None;
+    }
     greatest_of_numbers(&line, &term, problem.score_bound)
 }

@@ -1,4 +1,4 @@
-use Rattle.std.proofs.Common.{◌≡◌, length, length-take, ap, sym, subst, ◌∙◌, arith, rules}
+use Rattle.std.proofs.Common.{◌≡◌, length, length-take, refl, ap, sym, subst, ◌∙◌, arith, rules}
 use Rattle.adp_model.specs.WideTerms.{form_of}
 use Rattle.adp_model.specs.declared.grammar.Term.{Term}
 use Rattle.adp_model.specs.PosedProblem.{PosedProblem}
@@ -29,9 +29,10 @@ sound c =
     (c.bounds_are_sound.ensures.score c.args.lines.now) (c.answer_is_unique.ensures c.args.lines.now)
 
 -- the line with the term
-term_line : (c : After-term_line-term) → IsTermLine c.args.lines.now c.in-Wide.wide (first_values c.args.first)
-    c.args.arguments.now c.args.from c.args.to c.in-Some.line c.term_line-term.result
-term_line c =
+term_line : (c : After-term_line-term) → IsPlain c.in-Some.line c.term_line-term.result
+    → IsTermLine c.args.lines.now c.in-Wide.wide (first_values c.args.first) c.args.arguments.now c.args.from c.args.to
+    c.in-Some.line c.term_line-term.result
+term_line c plain =
     let p = c.args.lines.now in
     let four : length c.args.first.values ≡ 4 = search rules in
     let counted : c.args.first.count ≡ length (first_values c.args.first) =
@@ -39,7 +40,8 @@ term_line c =
     record {
       factors = _;
       opened = c.in-Some.ensures;
-      plain = subst (λ goal. IsPlain c.in-Some.line goal) (sym c.term_line-term.ensures.goal) c.if-not-is_plain.ensures;
+      factors_are = refl;
+      plain = plain;
       form_is = ap form_of c.term_line-term.ensures.term ∙ c.root.ensures;
       goal_is = c.term_line-term.ensures.goal ∙ c.goal-goal.ensures ∙ ap (λ (q : PosedProblem). (algebra_of q).goal) c.problem-problem.ensures;
       values_are = c.term_line-term.ensures.values ∙ c.with_nothing-values.ensures.values;
@@ -55,7 +57,7 @@ greatest_of_numbers-requires-clause-fit c =
     let S : PosedProblem → Type 0 = λ q. IsScoreBound q.grammar q.algebra (length q.word) c.problem.inside.score_bound in
     let scores = subst S (c.problem.view_is ∙ c.problem-problem.ensures) c.problem.invariant.scores in
     numbers_fit c.args.lines.now c.in-Wide.wide (first_values c.args.first) c.args.arguments.now c.args.from c.args.to
-    c.in-Some.line c.term_line-term.result (term_line at) (sound at) c.problem.inside.score_bound scores
+    c.in-Some.line c.term_line-term.result (term_line at c.if-not-is_plain.ensures) (sound at) c.problem.inside.score_bound scores
 
 pub returns : goal.returns
 returns c =
@@ -67,5 +69,5 @@ returns c =
     some_mapped (λ (found : Found). IsFoundOn c.in-Some.line c.term_line-term.result bound found.greatest) (S c.args.term.now)
     (λ found is. subst (λ term. S term found) (sym c.in-Wide.is)
     (found_score p c.in-Wide.wide (first_values c.args.first) c.args.arguments.now c.args.from c.args.to c.in-Some.line
-    c.term_line-term.result (term_line at) (sound at) bound found.greatest is))
+    c.term_line-term.result (term_line at c.if-not-is_plain.ensures) (sound at) bound found.greatest is))
     c.greatest_of_numbers.result c.greatest_of_numbers.ensures
