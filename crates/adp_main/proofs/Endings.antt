@@ -8,12 +8,10 @@ use Rattle.adp_io.specs.declared.job.JobFault.TheVariants as job_faults
 use Rattle.adp_io.specs.declared.whole.WriteFault.{WriteFault as Unwritten}
 use Rattle.adp_io.specs.Causes.{RisesWhere, Rose}
 use Rattle.adp_io.specs.Streams.{AppendsProperPrefix, AsksForAtMost, CallsAtMost, LosesAtMost, SameTold, job_limit, piece_limit}
-use Rattle.adp_model.specs.declared.fault.LimitFault.{LimitFault}
-use Rattle.verdicts.specs.CheckableJobs.{IsCheckableInput}
 use Rattle.verdicts.specs.declared.command.Mode.{Mode}
 use Rattle.verdicts.specs.declared.command.Mode.TheVariants.{Verify, Big}
 use Rattle.verdicts.specs.Command.{Command, IsCommand, HasCommand, AsksForJob, AsksToVerify}
-use Rattle.verdicts.specs.Verdict.{Verdict, IsLimit, IsReports, IsVerdict, greatest_length}
+use Rattle.verdicts.specs.Verdict.{Verdict, IsReports, IsVerdict, greatest_length}
 use Rattle.evaluators.specs.declared.finished.RunNote.{RunNote}
 use Rattle.adp_main.specs.RunNotes.{IsBigRun, ShowsRuns}
 use Rattle.adp_main.specs.Writing.{IsWordEnding}
@@ -26,11 +24,10 @@ use Rattle.adp_main.specs.declared.status.Status.TheVariants.{Done, Usage, ReadF
 use Rattle.adp_main.specs.Faults.{fault_verdict, reading_fault, status_after, status_of}
 use Rattle.adp_main.specs.Ending.{Ending, InputAfter, IsInput, IsOfVerdict, OutputAfter, ShowsFirst, ShowsPart, ShowsVerdict, WritesText, verdict_status}
 
--- a verdict on words and bytes whose reports are one is reports, where it is no limit or the grammar has sizes and ranks
+-- a verdict on words and bytes whose reports are one is reports
 abbrev pub OnlyReports : Type 0
 OnlyReports = (words : List (List ℕ)) (bytes : List ℕ) (reports : List (List ℕ)) (verdict : Verdict)
-    → IsVerdict words bytes (verdicts.Reports reports) → IsVerdict words bytes verdict
-    → (IsLimit verdict → IsCheckableInput words bytes) → IsReports verdict
+    → IsVerdict words bytes (verdicts.Reports reports) → IsVerdict words bytes verdict → IsReports verdict
 
 -- what holds of all values holds of the one that there may be
 always : {A : Type 0} (value : Option A) (P : A → Type 0) → ((x : A) → P x) → IfSome value P
@@ -55,22 +52,12 @@ done_of status (verdicts.Grammar fault) is same = absurd is
 done_of status (verdicts.Limit word fault) is same = absurd is
 done_of status (verdicts.Rejected line) is same = absurd is
 
-limit_status : (verdict : Verdict) → IsLimit verdict → verdict_status verdict ≡ Limit
-limit_status (verdicts.Limit word fault) is = refl
-limit_status verdicts.Usage is = absurd is
-limit_status verdicts.TooLong is = absurd is
-limit_status (verdicts.Text fault) is = absurd is
-limit_status (verdicts.Grammar fault) is = absurd is
-limit_status (verdicts.Rejected line) is = absurd is
-limit_status (verdicts.Reports reports) is = absurd is
-
 -- where the verdict are reports, a run that comes to a verdict is done
 is_done : OnlyReports → (words : List (List ℕ)) (bytes : List ℕ) (status : Status) (held held' : Option (List ℕ))
     (reports : List (List ℕ)) → IsVerdict words bytes (verdicts.Reports reports)
-    → ShowsVerdict words bytes status held held' → (status ≡ Limit → IsCheckableInput words bytes) → status ≡ Done
-is_done only words bytes status held held' reports is shown checks =
-    done_of status shown.verdict (only words bytes reports shown.verdict is shown.is_verdict
-    (λ limit. checks (shown.status_is ∙ limit_status shown.verdict limit))) shown.status_is
+    → ShowsVerdict words bytes status held held' → status ≡ Done
+is_done only words bytes status held held' reports is shown =
+    done_of status shown.verdict (only words bytes reports shown.verdict is shown.is_verdict) shown.status_is
 
 -- a count over a call that did not fail
 stood : (count : ℕ) (failed : Type 0) → (failed → ⊥) → RisesWhere count count failed
@@ -160,8 +147,7 @@ ends_usage left read_faults calls asked held write_faults runs words input out g
   first = λ e. cc;
   noted = inl (refl, λ e. absurd cc);
   complete = λ _ _. inl tt;
-  accepted = λ bytes _ reports is _ _. absurd (only words bytes reports verdicts.Usage is (usage_verdict words bytes no_command)
-      (λ limit. absurd limit));
+  accepted = λ bytes _ reports is _ _. absurd (only words bytes reports verdicts.Usage is (usage_verdict words bytes no_command));
 }
 
 -- the input is not read whole
@@ -224,7 +210,7 @@ ends_unread left read_faults calls asked held write_faults runs words input inpu
   accepted = λ bytes input_is reports is _ _. absurd (only words bytes reports verdicts.TooLong is
       (too_long_verdict one words bytes asks
       (of_told (left input) bytes (λ bytes. job_limit < length bytes) (long refl)
-      (told_input words (left input) bytes asks input_is))) (λ limit. absurd limit));
+      (told_input words (left input) bytes asks input_is))));
 }
 ends_unread left read_faults calls asked held write_faults runs words input input' out gate job_faults.Memory only one asks counted same lost within long read = record {
   usage = (λ e. cc, λ no_command. absurd (no_command (asks.0, asks.1)));
@@ -349,19 +335,6 @@ by_memory (Err (faults.Limit word fault)) e = cc
 by_memory (Err (faults.Rejected line)) e = cc
 by_memory (Err faults.Memory) e = refl
 
-by_limit : (result : Result (Unit {0}) Fault) → status_after result ≡ Limit
-    → (word : ℕ) × (limit : LimitFault) × IsErrOf result (faults.Limit word limit)
-by_limit (Err (faults.Limit word fault)) e = (word, fault, refl)
-by_limit (Ok x) e = cc
-by_limit (Err faults.Usage) e = cc
-by_limit (Err faults.Read) e = cc
-by_limit (Err faults.Write) e = cc
-by_limit (Err faults.TooLong) e = cc
-by_limit (Err (faults.Text fault)) e = cc
-by_limit (Err (faults.Grammar fault)) e = cc
-by_limit (Err (faults.Rejected line)) e = cc
-by_limit (Err faults.Memory) e = cc
-
 -- notes beside the bytes that came, which are those that an input tells
 runs_left : (words : List (List ℕ)) (left : Option (List ℕ)) (came bytes : List ℕ) (status : Status)
     (old new : Option (List RunNote)) (held held' : Option (List ℕ)) → IfSome left (λ left. came ≡ left) → bytes ≡ came
@@ -384,7 +357,6 @@ pub ends : {S K G : Type 0} (left : S → Option (List ℕ)) (read_faults : S �
     → IsRead left calls asked input input'
     → (IsErrOf result faults.Usage → ⊥) → (IsErrOf result faults.Read → ⊥)
     → OutputAfter held write_faults out out' (status_after result)
-    → ((word : ℕ) (limit : LimitFault) → IsErrOf result (faults.Limit word limit) → IsCheckableInput words bytes)
     → (IsOfVerdict (status_after result)
     → ShowsVerdict words bytes (status_after result) (held out) (held out'))
     → (IsErrOf result faults.Write → ShowsPart words bytes (held out) (held out'))
@@ -392,7 +364,7 @@ pub ends : {S K G : Type 0} (left : S → Option (List ℕ)) (read_faults : S �
     → ShowsRuns words (Some bytes) (status_after result) (runs gate) (runs gate') (held out) (held out')
     → Ending left read_faults calls asked held write_faults runs words input input' out out' gate gate' (status_after result)
 ends left read_faults calls asked held write_faults runs words came bytes input input' out out' gate gate' result only asks same stands same_told whole end fits read
-    no_usage no_read writing checkable verdict part first noted =
+    no_usage no_read writing verdict part first noted =
     let status = status_after result in
     let usage : status ≡ Usage → ⊥ = not_usage result no_usage in
     let unread : status ≡ ReadFault → ⊥ = not_read result no_read in
@@ -416,9 +388,7 @@ ends left read_faults calls asked held write_faults runs words came bytes input 
       complete = λ _ not_rose. completes status (write_faults out) (write_faults out') unread writing.write_fault not_rose;
       accepted = λ other is reports reported _ not_rose. accepted_by
           (completes status (write_faults out) (write_faults out') unread writing.write_fault not_rose)
-          (λ of. is_done only words other status (held out) (held out') reports reported (shown of other is)
-          (λ e. let limit = by_limit result e in
-          subst (λ it. IsCheckableInput words it) (here other is) (checkable limit.0 limit.1 limit.2)));
+          (λ of. is_done only words other status (held out) (held out') reports reported (shown of other is));
     }
 
 -- words that ask for a word to be made ask for no job
@@ -459,7 +429,7 @@ ends_made left read_faults calls asked held write_faults runs words input out ou
       accepted = λ bytes _ reports reported _ not_rose. accepted_by
           (completes (status_after result) (write_faults out) (write_faults out') unread counted not_rose)
           (λ of. is_done only words bytes (status_after result) (held out) (held out') reports reported
-          (made.verdict of bytes) (λ e. absurd (made.keeps e)));
+          (made.verdict of bytes));
     }
 
 -- a verdict on the bytes that came is one on those that an input tells

@@ -2,7 +2,6 @@
 use Rattle.std.proofs.Common.{◌≡◌, ℕ, List, length, Option, Some, Err, IsErrOf, inl, inr, refl, sym, subst, ◌∙◌}
 use Rattle.adp_model.specs.declared.grammar.Grammar.{Grammar}
 use Rattle.adp_model.specs.declared.job.Job.{Job}
-use Rattle.adp_model.specs.declared.fault.LimitFault.{LimitFault}
 use Rattle.verdicts.specs.CheckableJobs.{AreCheckable, IsCheckableInput, IsJobPart}
 use Rattle.adp_model.specs.Checks.{IsChecked}
 use Rattle.verdicts.specs.Command.{Command, AsksToVerify}
@@ -32,18 +31,6 @@ undone (faults.Grammar fault) e = cc
 undone (faults.Limit word fault) e = cc
 undone (faults.Rejected line) e = cc
 undone faults.Memory e = cc
-
-pub refused_limit : (words : List (List ℕ)) (bytes : List ℕ) (fault : Fault) → IsJobRefusal words bytes fault
-    → (word : ℕ) (limit : LimitFault) → IsErrOf {T = Unit {0}} (Err fault) (faults.Limit word limit) → ⊥
-refused_limit words bytes (faults.Limit number fault) h word limit e = h
-refused_limit words bytes (faults.Rejected line) h word limit e = h
-refused_limit words bytes (faults.Text fault) h word limit e = cc
-refused_limit words bytes (faults.Grammar fault) h word limit e = cc
-refused_limit words bytes faults.Memory h word limit e = cc
-refused_limit words bytes faults.Usage h word limit e = h
-refused_limit words bytes faults.Read h word limit e = h
-refused_limit words bytes faults.Write h word limit e = h
-refused_limit words bytes faults.TooLong h word limit e = h
 
 abbrev pub OneGrammar : Type 0
 OneGrammar = (words : List (List ℕ)) (bytes : List ℕ) (a b : Job) (m n : ℕ) → AsksUnder words bytes a m

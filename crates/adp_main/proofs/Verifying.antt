@@ -17,7 +17,6 @@ use Rattle.table_certificate.specs.declared.verifying.VerifyError.{VerifyError}
 use Rattle.table_certificate.specs.declared.verifying.VerifyError.TheVariants as verify_errors
 use Rattle.verdicts.specs.declared.command.Mode.TheVariants.{Verify}
 use Rattle.verdicts.specs.Certificates.{IsFalseFor, IsRightFor, IsWithoutJob}
-use Rattle.verdicts.specs.CheckableJobs.{AreCheckable, IsCheckableInput, IsJobPart}
 use Rattle.verdicts.specs.Command.{Command, IsCommand, AsksToVerify}
 use Rattle.verdicts.specs.Posed.{posed_word, posed_words}
 use Rattle.verdicts.specs.Verdict.{AreReports, AsksWithin, IsReportWith, IsVerdict, greatest_length}
@@ -257,17 +256,6 @@ module _ (command : Command) (words : List (List ℕ)) (is : IsCommand words com
     shows_refused faults.TooLong h held of = absurd h
     shows_refused (faults.Limit word fault) h held of = absurd h
     shows_refused (faults.Rejected line) h held of = absurd h
-
-    -- its grammar has sizes and ranks
-    pub checkable_part : ((bytes before behind other rest : List ℕ) → IsSplitAtJob bytes before behind
-        → IsSplitAtJob bytes other rest → (before ≡ other) × (behind ≡ rest))
-        → AreCheckable words text → IsCheckableInput words bytes
-    checkable_part one checks = by
-      where
-        by : (other : List ℕ) → IsJobPart words bytes other → AreCheckable words other
-        by other (inl (finds, same)) = absurd (finds asks_to_verify)
-        by other (inr (asks, before, at)) =
-            subst (AreCheckable words) (one bytes certificate text before other parted at).1 checks
 
     module _ (job : CheckedJob) (asked : IsCheckedJob words text command job) (tells : TellsNested command text job) where
       -- what holds of the checked job holds of the one that is asked about

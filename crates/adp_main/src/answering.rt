@@ -4,7 +4,6 @@ ghost use Rattle.verdicts.specs.CheckableJobs.{IsCheckableInput};
 ghost use Rattle.verdicts.specs.Certificates.{behind_reports};
 ghost use Rattle.verdicts.specs.Command.{ForWordsOf, ReadsJob};
 ghost use Rattle.verdicts.specs.declared.command.Mode.TheVariants.{Verify};
-ghost use Rattle.adp_model.specs.declared.fault.LimitFault.{LimitFault};
 ghost use Rattle.verdicts.specs.Posed.{posed_words};
 ghost use Rattle.adp_main.specs.RunNotes.{IsJobNoted, ShowsRuns};
 ghost use Rattle.adp_io.specs.Causes.{RisesWhere};
@@ -49,8 +48,6 @@ pub(crate) fn answer_bytes<R: Threads + Sync, K: Sink, G: Gate>(
     ensures short { IfErr result HasShortName }
     ensures fault { ForWordsOf command.now (λ words. IfErr result (λ fault. IfSome (fault_verdict fault)
         (λ verdict. IsVerdict words bytes.now verdict))) }
-    ensures checkable { ForWordsOf command.now (λ words. (word : ℕ) (limit : LimitFault)
-        → IsErrOf result (Fault.Limit word limit) → IsCheckableInput words bytes.now) }
     ensures passed { ForWordsOf command.now (λ words. status_after result ≡ Done → IsCheckableInput words bytes.now) }
     ensures verdict { ForWordsOf command.now (λ words. IsOfVerdict (status_after result)
         → ShowsVerdict words bytes.now (status_after result) (K.held out.old) (K.held out.new)) }

@@ -2,10 +2,8 @@
 ghost use Rattle.std.specs.Prelude.{◌≡◌, ℕ, ◌+◌, ◌<◌, ◌≤◌, ◌^◌, All, IfErr, IfSome, IsErrOf, length};
 ghost use Rattle.adp_io.specs.Causes.{RisesWhere};
 ghost use Rattle.adp_io.specs.Streams.{SameTold};
-ghost use Rattle.adp_model.specs.declared.fault.LimitFault.{LimitFault};
 ghost use Rattle.adp_model.specs.ProblemFields.{KeepsLimits};
 ghost use Rattle.report.specs.Faults.{HasShortName};
-ghost use Rattle.verdicts.specs.CheckableJobs.{IsCheckableInput};
 ghost use Rattle.verdicts.specs.Command.{ForWordsOf};
 ghost use Rattle.verdicts.specs.Verdict.{IsVerdict, greatest_length};
 ghost use Rattle.verdicts.specs.declared.command.Mode.TheVariants.{Verify};
@@ -46,8 +44,6 @@ pub(crate) fn answer_certificate<K: Sink>(
     ensures short { IfErr result HasShortName }
     ensures fault { ForWordsOf command.now (λ words. IfErr result (λ fault. IfSome (fault_verdict fault)
         (λ verdict. IsVerdict words bytes.now verdict))) }
-    ensures checkable { ForWordsOf command.now (λ words. (word : ℕ) (limit : LimitFault)
-        → IsErrOf result (Fault.Limit word limit) → IsCheckableInput words bytes.now) }
     ensures verdict { ForWordsOf command.now (λ words. IsOfVerdict (status_after result)
         → ShowsVerdict words bytes.now (status_after result) (K.held out.old) (K.held out.new)) }
     ensures part { ForWordsOf command.now (λ words. IsErrOf result Fault.Write

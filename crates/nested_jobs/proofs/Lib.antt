@@ -1,4 +1,5 @@
 pub mod Verdicts
+pub mod SomeVerdict
 pub mod Sides
 pub mod Chains
 pub mod SingleRules

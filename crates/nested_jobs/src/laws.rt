@@ -1,6 +1,6 @@
-//! What follows from the definitions. Each law is the contract of a function with an empty body.
+//! What follows from the definitions. Each law is the contract of a function that calls the laws it rests on.
 
-ghost use Rattle.std.specs.Prelude.{◌≡◌, ◌↔◌, ◌<◌, ◌≤◌, ℕ, ◌+◌, ◌-◌, None, Some, List, length, slice_index_or};
+ghost use Rattle.std.specs.Prelude.{◌≡◌, ◌↔◌, ◌⊎◌, ◌<◌, ◌≤◌, ℕ, ◌+◌, ◌-◌, None, Some, List, length, slice_index_or};
 ghost use Rattle.adp_model.specs.declared.fault.TextFault.{TextFault};
 ghost use Rattle.adp_model.specs.declared.job.Job.{Job};
 ghost use Rattle.job_texts.specs.JobLines.{job_lines};
@@ -8,6 +8,9 @@ ghost use Rattle.job_texts.specs.JobText.{IsFaultOf, IsText};
 ghost use Rattle.nested_texts.specs.PlainTexts.{origins, plain_lines};
 ghost use Rattle.nested_trees.specs.HiddenRules.{AreNestedAlternatives};
 ghost use Rattle.nested_jobs.specs.NestedJob.{IsNestedFault, IsNestedText, IsPlainText, hidden_in, origin_of};
+
+use grammar_text::laws::verdicts::texts_have_one_verdict;
+use nested_texts::laws::texts_have_plain_texts;
 
 /// The hidden rules of an accepted text are nested alternatives: the last rules of its job, so many as are hidden, have
 /// one alternative each, without a size.
@@ -25,6 +28,15 @@ pub fn texts_spell_one_job()
     ensures not_both { (bytes : List ℕ) (job : Job) (fault : TextFault) → IsNestedText bytes job
         → ¬ (IsNestedFault bytes fault) }
 {}
+
+/// Any bytes spell a job or have a fault.
+pub fn texts_spell_a_job_or_have_a_fault()
+    ensures { (bytes : List ℕ) → ((job : Job) × IsNestedText bytes job)
+        ⊎ ((fault : TextFault) × IsNestedFault bytes fault) }
+{
+    texts_have_plain_texts();
+    texts_have_one_verdict();
+}
 
 /// A fault of a text stands at one of its lines, or at the one behind them.
 pub fn faults_stand_at_lines()

@@ -70,7 +70,7 @@ few_from zero place (byte ∷ text) = step (beginning byte text) refl (λ inside
         rw e (one_more (length text) (record { token = token; from = place; to = place + 1 + further }) (tokens_from further (place + 1) text) (few further))
     step (Stops offence) e few = rw e tt
 
-few_tokens : (line : List ℕ) (tokens : List PlacedToken) → line_tokens line ≡ Ok tokens → length tokens ≤ length line
+pub few_tokens : (line : List ℕ) (tokens : List PlacedToken) → line_tokens line ≡ Ok tokens → length tokens ≤ length line
 few_tokens line tokens e = rw e at (few_from 0 0 line)
 
 with_one : (from : ℕ) (ends : List ℕ) (others : List rules.Nested) → length (with_nested from ends others) ≤ suc (length others)

@@ -7,4 +7,6 @@ pub mod PlainLines
 pub mod AddedLines
 pub mod HeaderLines
 pub mod Reading
+pub mod Growth
 pub mod WholeTexts
+pub mod PlainThere

@@ -1,5 +1,5 @@
 -- What contracts see of the reading and the writing.
-use Rattle.std.specs.Prelude.{◌≡◌, ℕ, zero, suc, ◌+◌, ◌-◌, ◌<◌, ◌≤◌, ◌^◌, ◌==◌, Bool, true, false, List, [], ◌∷◌, ◌++◌, codes, nat_eq, drop, take, length, map, get_or, if◌then◌else◌}
+use Rattle.std.specs.Prelude.{◌≡◌, ℕ, zero, suc, ◌+◌, ◌-◌, ◌<◌, ◌≤◌, ◌==◌, Bool, true, false, List, [], ◌∷◌, ◌++◌, codes, nat_eq, drop, take, length, map, get_or, if◌then◌else◌}
 use Rattle.std.specs.List.{All, flat_map, slice_range}
 use Rattle.job_texts.specs.LineTokens.{Token, Word, OpenBracket}
 use lib.Pointwise.{pointwise}
@@ -197,7 +197,6 @@ pub record IsPlainBehind (bytes : List ℕ) (plain : Plain) : Type 0 where
   pub text : plain.text.items ≡ text_of (plain_behind (job_lines bytes))
   pub origin : plain.origin.items ≡ origins (plain_behind (job_lines bytes)) (length (job_lines bytes) + 2)
   pub hidden : plain.hidden ≡ length (hidden_lines 2 1 (before_words (job_lines bytes)))
-  pub short : length plain.text.items ≤ 2 ^ 31
 
 -- a text is its own plain text
 pub record IsItself (bytes : List ℕ) (plain : Plain) : Type 0 where

@@ -13,9 +13,6 @@ use crate::output::Lines;
 use crate::replaced::{push_changed_line, push_hidden_rules};
 use std::alloc::{AllocError, Global};
 
-/// The most bytes that a text may have.
-const MOST_BYTES: usize = 1 << 31;
-
 /// A text without nested alternatives that stands for another one; for each of its lines the number of the line that
 /// it comes from, and for one line more the number behind that one's last line; and how many alternatives have hidden
 /// rules.
@@ -99,9 +96,6 @@ fn without_nested(alloc: Global, bytes: &[u8]) -> Result<Plain, AllocError>
     let behind = push_kept_lines(&mut changed, place, rest)?;
     changed.origins.push(behind)?;
     let Lines { text, origins } = changed;
-    if text.len() > MOST_BYTES {
-        return Err(AllocError);
-    }
     Ok(Plain {
         text,
         origin: origins,

@@ -43,3 +43,4 @@ pub mod LongTexts
 pub mod WrittenBlocks
 pub mod SettledLines
 pub mod NotedChildren
+pub mod JobThere

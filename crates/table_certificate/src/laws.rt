@@ -119,6 +119,12 @@ pub fn right_certificates_part_at_job()
         → Contains (lines bytes) (codes "job") }
 {}
 
+/// Bytes of which a line is `job` are parted there, at the first one.
+pub fn inputs_part_at_job()
+    ensures { (bytes : List ℕ) → Contains (lines bytes) (codes "job")
+        → (before : List ℕ) × (behind : List ℕ) × IsSplitAtJob bytes before behind }
+{}
+
 /// A locally right certificate has no first false line.
 pub fn right_certificates_are_not_rejected()
     ensures { (problems : List PosedProblem) (forms : List LineForm) (place : ℕ) → IsLocallyRight problems forms

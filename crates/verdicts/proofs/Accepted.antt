@@ -1,5 +1,5 @@
 -- What is written as a certificate with its job is accepted.
-use Rattle.std.proofs.Common.{◌≡◌, ℕ, ◌+◌, ◌^◌, ◌<◌, ◌≤◌, ◌==◌, inl, inr, Bool, true, false, if◌then◌else◌, IsNone, IsSome, Option, None, Some, List, [], ◌∷◌, ◌++◌, codes, length, refl, sym, ap, subst, ◌∙◌, arith}
+use Rattle.std.proofs.Common.{◌≡◌, ℕ, ◌+◌, ◌^◌, ◌<◌, ◌≤◌, ◌==◌, inl, inr, Bool, false, if◌then◌else◌, IsNone, IsSome, Option, None, Some, List, [], ◌∷◌, ◌++◌, codes, length, refl, sym, ap, subst, ◌∙◌, arith}
 use Rattle.std.specs.List.{All, concat}
 use Rattle.std.proofs.lemmas.List.{append-nil, append_assoc, length-append, length-map}
 use Rattle.std.proofs.lemmas.List.Elements.{All-cons, All-nil}
@@ -17,8 +17,7 @@ use Rattle.table_certificate.specs.CertificateLines.{forms_of}
 use Rattle.table_certificate.specs.JobSplit.{IsSplitAtJob}
 use Rattle.table_certificate.specs.LocalCertificate.{IsLocallyRight}
 use Rattle.table_certificate.specs.WrittenCertificate.{AreCertificates, IsCertifiedJob, IsWritten}
-use Rattle.verdicts.specs.declared.command.Mode.{Mode}
-use Rattle.verdicts.specs.declared.command.Mode.TheVariants.{Lex, Cert, Verify, KBest, Big}
+use Rattle.verdicts.specs.declared.command.Mode.TheVariants.{Lex, Cert, Verify}
 use Rattle.verdicts.specs.Certificates.{before_block, behind_blocks, behind_reports, IsBlockReport, IsRightFor}
 use Rattle.verdicts.specs.CheckableJobs.{IsCheckableInput}
 use Rattle.verdicts.specs.Command.{Command, IsCommand, ReadsJob, AsksToVerify}

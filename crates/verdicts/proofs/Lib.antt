@@ -4,3 +4,10 @@ pub mod OneCertificate
 pub mod NestedReports
 pub mod NestedScores
 pub mod Accepted
+pub mod Checkable
+pub mod Decided
+pub mod Irrefutably
+pub mod Limited
+pub mod Judged
+pub mod Existing
+pub mod Made

@@ -1,5 +1,5 @@
 -- A certificate and its job have one verdict, and so have all words and bytes.
-use Rattle.std.proofs.Common.{◌≡◌, ℕ, ◌+◌, ◌<◌, ◌≤◌, ◌⊎◌, inl, inr, List, [], ◌++◌, append-nil, codes, length, Contains, refl, sym, ap, subst, ◌∙◌}
+use Rattle.std.proofs.Common.{◌≡◌, ℕ, ◌+◌, ◌<◌, ◌≤◌, ◌⊎◌, inl, inr, List, ◌++◌, append-nil, codes, length, Contains, refl, sym, ap, subst, ◌∙◌}
 use Rattle.std.specs.Str.Lines.{lines}
 use Rattle.adp_model.specs.declared.grammar.Grammar.{Grammar}
 use Rattle.adp_model.specs.PosedProblem.{PosedProblem}
@@ -7,7 +7,6 @@ use Rattle.table_certificate.specs.CertificateLines.{LineForm}
 use Rattle.table_certificate.specs.JobSplit.{IsSplitAtJob}
 use Rattle.table_certificate.specs.LocalCertificate.{IsFirstFalse, IsLocallyRight}
 use Rattle.nested_jobs.specs.NestedJob.{hidden_in}
-use Rattle.verdicts.specs.declared.command.Mode.{Mode}
 use Rattle.verdicts.specs.declared.command.Mode.TheVariants.{Verify}
 use Rattle.verdicts.specs.Command.{Command, AsksToVerify}
 use Rattle.verdicts.specs.Certificates.{behind_reports, IsFalseFor, IsRightFor, IsWithoutJob}

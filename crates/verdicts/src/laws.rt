@@ -3,6 +3,7 @@
 ghost use Rattle.adp_model.specs.PosedProblem.{PosedProblem};
 ghost use Rattle.adp_model.specs.WellFormed.{is_well_formed};
 ghost use Rattle.adp_model.specs.declared.grammar.Grammar.{Grammar};
+ghost use Rattle.adp_model.specs.BigReport.{IsBigReport};
 ghost use Rattle.adp_model.specs.Checks.{IsChecked};
 ghost use Rattle.nested_jobs.specs.NestedJob.{IsNestedText, hidden_in};
 ghost use Rattle.std.specs.Prelude.{◌≡◌, ◌↔◌, ◌⊎◌, ◌≤◌, ◌<◌, ◌^◌, ℕ, IsNone, IsSome, IsTrue, List, None, Option, length};
@@ -10,6 +11,7 @@ ghost use Rattle.std.specs.List.{concat};
 ghost use Rattle.verdicts.specs.declared.command.Mode.{Mode};
 ghost use Rattle.verdicts.specs.WordReport.{HidesAlternatives};
 ghost use Rattle.verdicts.specs.NestedScores.{IsNestedScoreReport};
+ghost use Rattle.faultless_grammars.specs.Irrefutable.{IsIrrefutable};
 ghost use Rattle.nested_trees.specs.HiddenRules.{AreNestedAlternatives};
 ghost use Rattle.table_certificate.specs.ScoreReports.{IsScoreReport};
 ghost use Rattle.verdicts.specs.CheckableJobs.{IsCheckableInput};
@@ -19,18 +21,30 @@ ghost use Rattle.verdicts.specs.declared.command.Mode.TheVariants.{Best, Cert, K
 ghost use Rattle.first_trees.specs.ListReport.{TellOneCandidate};
 ghost use Rattle.verdicts.specs.SecondAlgebra.{IsAdmissibleWith, IsSecond};
 ghost use Rattle.adp_model.specs.declared.job.Job.{Job};
-ghost use Rattle.verdicts.specs.Verdict.{AreOfWins, AsksUnder, IsLimit, IsReportIn, IsReportWith, IsReports, IsVerdict, Reports, Verdict, greatest_length};
+ghost use Rattle.verdicts.specs.Verdict.{AreOfWins, AsksUnder, IsReportIn, IsReportWith, IsReports, IsVerdict, Reports, Verdict, greatest_length};
 
+use adp_model::laws::bounds::words_have_one_bound;
 use adp_model::laws::limits::limits_are_kept_or_passed;
 use adp_model::laws::report;
-use first_trees::laws::{one_first_tree_is_the_answer, words_have_one_list_report};
+use faultless_grammars::laws::{
+    demanded_cells_have_a_number, faultless_grammars_have_sizes_and_ranks,
+    grammars_are_faulty_or_sound, lengths_keep_or_pass_limits,
+};
+use first_trees::laws::{
+    cells_have_first_trees, first_tree_is_the_preferred_tree, one_first_tree_is_the_answer,
+    words_have_one_list_report,
+};
 use first_trees::limits::list_limits_are_kept_or_passed;
 use first_trees::nested::nested_lists_are_the_plain_ones;
-use lex_product::laws::{pair_limits_are_kept_or_passed, words_have_one_pair_report};
-use nested_jobs::laws::{hidden_rules_are_nested_alternatives, texts_spell_one_job};
+use lex_product::laws::{
+    pair_limits_are_kept_or_passed, pairs_pass_the_checks, words_have_one_pair_report,
+};
+use nested_jobs::laws::{
+    hidden_rules_are_nested_alternatives, texts_spell_a_job_or_have_a_fault, texts_spell_one_job,
+};
 use nested_trees::laws as nested;
 use table_certificate::laws::{
-    right_certificates_are_not_rejected, right_certificates_part_at_job,
+    inputs_part_at_job, right_certificates_are_not_rejected, right_certificates_part_at_job,
     written_certificates_are_right,
 };
 use table_certificate::uniqueness::{
@@ -117,16 +131,24 @@ pub fn one_first_candidate_is_the_answer()
     nested_reports_are_the_plain_ones();
 }
 
-/// A command line and bytes have one verdict, where the grammar of the bytes has sizes and ranks if it has no fault;
-/// but reports that tell the wins of evaluators may tell others. Where the verdict are reports there is no fault; that
-/// no word passes a limit needs sizes and ranks.
-pub fn verdict_is_unique()
-    ensures same { (words : List (List ℕ)) (bytes : List ℕ) → IsCheckableInput words bytes → (a b : Verdict)
-        → IsVerdict words bytes a → IsVerdict words bytes b → (a ≡ b) ⊎ AreOfWins words a b }
-    ensures reported { (words : List (List ℕ)) (bytes : List ℕ) (reports : List (List ℕ)) (verdict : Verdict)
-        → IsVerdict words bytes (Reports reports) → IsVerdict words bytes verdict
-        → (IsLimit verdict → IsCheckableInput words bytes) → IsReports verdict }
+/// It can't be that the grammar of an input that has no fault has no sizes and ranks.
+pub fn inputs_are_checkable()
+    ensures { (words : List (List ℕ)) (bytes : List ℕ) → IsIrrefutable (IsCheckableInput words bytes) }
 {
+    faultless_grammars_have_sizes_and_ranks();
+    asked_grammar_is_unique();
+    right_certificates_part_at_job();
+}
+
+/// A command line and bytes have one verdict; but reports that tell the wins of evaluators may tell others. Where the
+/// verdict are reports there is no fault, and no word passes a limit.
+pub fn verdict_is_unique()
+    ensures same { (words : List (List ℕ)) (bytes : List ℕ) (a b : Verdict) → IsVerdict words bytes a
+        → IsVerdict words bytes b → (a ≡ b) ⊎ AreOfWins words a b }
+    ensures reported { (words : List (List ℕ)) (bytes : List ℕ) (reports : List (List ℕ)) (verdict : Verdict)
+        → IsVerdict words bytes (Reports reports) → IsVerdict words bytes verdict → IsReports verdict }
+{
+    inputs_are_checkable();
     texts_spell_one_job();
     texts_hide_alternatives();
     nested_reports_are_the_plain_ones();
@@ -160,6 +182,33 @@ pub fn words_have_reports()
     words_have_one_list_report();
 }
 
+/// A word that is made has a report: it can't be that it has none.
+pub fn made_words_have_reports()
+    ensures { (seed size : ℕ) → IsIrrefutable ((report : List ℕ) × IsBigReport seed size report) }
+{
+    faultless_grammars_have_sizes_and_ranks();
+    demanded_cells_have_a_number();
+    cells_have_first_trees();
+    first_tree_is_the_preferred_tree();
+}
+
+/// A command line and bytes have a verdict, whatever they are: it can't be that they have none.
+pub fn verdict_is_there()
+    ensures { (words : List (List ℕ)) (bytes : List ℕ)
+        → IsIrrefutable ((verdict : Verdict) × IsVerdict words bytes verdict) }
+{
+    texts_spell_a_job_or_have_a_fault();
+    texts_hide_alternatives();
+    grammars_are_faulty_or_sound();
+    faultless_grammars_have_sizes_and_ranks();
+    lengths_keep_or_pass_limits();
+    words_have_one_bound();
+    pairs_pass_the_checks();
+    words_have_reports();
+    made_words_have_reports();
+    inputs_part_at_job();
+}
+
 /// What is written as a certificate is accepted under the same algebra, where it is not too long: the verdict on it are
 /// best scores.
 pub fn written_certificates_are_accepted()
@@ -174,4 +223,23 @@ pub fn written_certificates_are_accepted()
     right_certificates_part_at_job();
     words_have_reports();
     texts_hide_alternatives();
+}
+
+/// So it is with no premise on sizes and ranks: it can't be that no best scores are the verdict on it, and nothing else
+/// is.
+pub fn written_certificates_have_no_fault()
+    ensures there { (words others : List (List ℕ)) (bytes : List ℕ) (pieces : List (List ℕ)) (command other : Command)
+        → IsCommand words command → command.mode ≡ Cert → IsCommand others other → other.mode ≡ Verify
+        → NameOneAlgebra command other (concat pieces) → length (concat pieces) ≤ greatest_length
+        → IsVerdict words bytes (Reports pieces)
+        → IsIrrefutable ((reports : List (List ℕ)) × IsVerdict others (concat pieces) (Reports reports)) }
+    ensures only { (words others : List (List ℕ)) (bytes : List ℕ) (pieces : List (List ℕ)) (command other : Command)
+        → IsCommand words command → command.mode ≡ Cert → IsCommand others other → other.mode ≡ Verify
+        → NameOneAlgebra command other (concat pieces) → length (concat pieces) ≤ greatest_length
+        → IsVerdict words bytes (Reports pieces) → (verdict : Verdict) → IsVerdict others (concat pieces) verdict
+        → IsReports verdict }
+{
+    inputs_are_checkable();
+    verdict_is_unique();
+    written_certificates_are_accepted();
 }

@@ -2,7 +2,7 @@ use Rattle.std.proofs.Common.{inl, refl}
 use Rattle.std.proofs.lemmas.Result.{err_from_is_err_and}
 use Rattle.adp_main.proofs.Reported.{fault_of, first_of, grew_of, refusal_verdict, refused, short_of, shows_part, verdict_of}
 use Rattle.adp_main.proofs.Endings.{finds_answers}
-use Rattle.adp_main.proofs.Told.{checkable, checkable_whole, refused_limit, undone, runs_of}
+use Rattle.adp_main.proofs.Told.{checkable, checkable_whole, undone, runs_of}
 use Rattle.adp_main.proofs.NestedReports.{tells_nested}
 use Rattle.adp_main.proofs.answering.answer_bytes.Goals as goal
 
@@ -43,12 +43,6 @@ returns-clause-writing g c = record {
   untouched = c.write_job.ensures.untouched;
 }
 
-pub returns-clause-checkable : goal.returns-clause-checkable
-returns-clause-checkable g c = λ words is word limit _.
-    checkable_whole _ _ (finds_answers c.command_is_unique.ensures.command _ _ is c.requires.finds)
-    (checkable c.asked_grammar_is_unique.ensures.grammar c.asked_grammar_is_unique.ensures.algebra _ _ _ c.in_ok-job.job
-    (c.in_ok-job.ensures.job words is) (_, _, _, c.passes.ensures.found))
-
 pub returns-clause-passed : goal.returns-clause-passed
 returns-clause-passed g c = λ words is _.
     checkable_whole _ _ (finds_answers c.command_is_unique.ensures.command _ _ is c.requires.finds)
@@ -74,11 +68,6 @@ returns-in_err-job-clause-verdict g c =
     let p = err_from_is_err_and c.from_residual.result c.from_residual.ensures.1 in
     rw (p.1, p.2) (λ words is. refused c.args.command.now _ _
     (finds_answers c.command_is_unique.ensures.command _ _ is c.requires.finds) c.in_err-job.field-0.0 (c.in_err-job.ensures.refusal words is) _)
-
-pub returns-in_err-job-clause-checkable : goal.returns-in_err-job-clause-checkable
-returns-in_err-job-clause-checkable g c =
-    let p = err_from_is_err_and c.from_residual.result c.from_residual.ensures.1 in
-    rw (p.1, p.2) (λ words is word limit e. absurd (refused_limit _ _ c.in_err-job.field-0.0 (c.in_err-job.ensures.refusal words is) word limit e))
 
 pub returns-in_err-job-clause-passed : goal.returns-in_err-job-clause-passed
 returns-in_err-job-clause-passed g c =

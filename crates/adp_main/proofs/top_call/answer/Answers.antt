@@ -45,7 +45,7 @@ returns-then-verifies-clause-ending g c =
     (e.faults.stands (λ e. cc)) e.told e.whole e.end (omega (arith, c.in-Ok-read_job.bytes.ok.0, e.fits))
     (record { few_calls = e.most_calls; told_calls = e.told_calls; asked_little = e.asked })
     c.answer_certificate.ensures.usage c.answer_certificate.ensures.read c.answer_certificate.ensures.writing
-    (c.answer_certificate.ensures.checkable _ is) (c.answer_certificate.ensures.verdict _ is)
+    (c.answer_certificate.ensures.verdict _ is)
     (c.answer_certificate.ensures.part _ is) (c.answer_certificate.ensures.first _ is)
     (inl (refl, λ done. (c.in-Ok.command, is, verifies)))
 
@@ -67,7 +67,7 @@ returns-clause-ending g c =
     (e.faults.stands (λ e. cc)) e.told e.whole e.end (omega (arith, c.in-Ok-read_job.bytes.ok.0, e.fits))
     (record { few_calls = e.most_calls; told_calls = e.told_calls; asked_little = e.asked })
     c.answer_bytes.ensures.usage c.answer_bytes.ensures.read c.answer_bytes.ensures.writing
-    (c.answer_bytes.ensures.checkable _ is) (c.answer_bytes.ensures.verdict _ is) (c.answer_bytes.ensures.part _ is)
+    (c.answer_bytes.ensures.verdict _ is) (c.answer_bytes.ensures.part _ is)
     (c.answer_bytes.ensures.first _ is) (c.answer_bytes.ensures.noted _ is)
 
 pub returns-clause-fault : goal.returns-clause-fault

@@ -3,8 +3,7 @@ use Rattle.table_certificate.specs.JobSplit.{IsSplitAtJob}
 use Rattle.std.proofs.lemmas.Result.{err_from_is_err_and}
 use Rattle.adp_main.proofs.Endings.{unwritten}
 use Rattle.adp_main.proofs.NestedReports.{tells_nested}
-use Rattle.adp_main.proofs.Told.{checkable, refused_limit}
-use Rattle.adp_main.proofs.Verifying.{checkable_part, refused_job, shows_refused, shows_without, told_fault, told_first, told_grew, told_part, told_read, told_short, told_shows, told_usage, without_job}
+use Rattle.adp_main.proofs.Verifying.{refused_job, shows_refused, shows_without, told_fault, told_first, told_grew, told_part, told_read, told_short, told_shows, told_usage, without_job}
 use Rattle.adp_main.proofs.verify.answer_certificate.Goals as goal
 
 -- what stands before and behind the line is no longer than the whole
@@ -50,12 +49,6 @@ returns-in_err-job-clause-verdict g c =
     rw (p.1, p.2) (λ words is.
     shows_refused c.args.command.now words is c.requires.mode c.args.bytes.now c.requires.fits _ _ c.in-Ok.ensures.split
     c.in_err-job.field-0.0 (c.in_err-job.ensures.refusal words is) _)
-
-pub returns-in_err-job-clause-checkable : goal.returns-in_err-job-clause-checkable
-returns-in_err-job-clause-checkable g c =
-    let p = err_from_is_err_and c.from_residual.result c.from_residual.ensures.1 in
-    rw (p.1, p.2) (λ words is word limit e.
-    absurd (refused_limit _ _ c.in_err-job.field-0.0 (c.in_err-job.ensures.refusal words is) word limit e))
 
 pub returns-clause-fault : goal.returns-clause-fault
 returns-clause-fault g c = λ words is.
@@ -105,13 +98,6 @@ returns-clause-writing g c = record {
   grew = told_grew _ _ _ _ _ c.tell_words.result _ _ c.tell_words.ensures.ending;
   untouched = c.tell_words.ensures.untouched;
 }
-
-pub returns-clause-checkable : goal.returns-clause-checkable
-returns-clause-checkable g c = λ words is word limit _.
-    checkable_part c.args.command.now words is c.requires.mode c.args.bytes.now c.requires.fits _ _ c.in-Ok.ensures.split
-    c.right_certificates_part_at_job.ensures.once
-    (checkable c.asked_grammar_is_unique.ensures.grammar c.asked_grammar_is_unique.ensures.algebra _ _ _ c.in_ok-job.job
-    (c.in_ok-job.ensures.job words is) (_, _, _, c.passes.ensures.found))
 
 pub tell_words-requires-clause-fits : goal.tell_words-requires-clause-fits
 tell_words-requires-clause-fits g c = omega (arith, c.requires.fits, split_lengths _ _ _ c.in-Ok.ensures.split)

@@ -1,3 +1,4 @@
+use Rattle.verdicts.proofs.Decided.{reports_or_not, same_or_of_wins}
 use Rattle.verdicts.proofs.OneCertificate.{SplitLaws, one_of_both, only_of_both}
 use Rattle.verdicts.proofs.OneVerdict.{ModelLaws}
 use Rattle.verdicts.proofs.laws.verdict_is_unique.Goals as goal
@@ -37,7 +38,13 @@ splits c = record {
 }
 
 pub returns-clause-same : goal.returns-clause-same
-returns-clause-same c = one_of_both (laws c) (splits c)
+returns-clause-same c words bytes a b h k =
+    same_or_of_wins words bytes a b h (λ refuted.
+    c.inputs_are_checkable.ensures words bytes (λ checks.
+    refuted (one_of_both (laws c) (splits c) words bytes checks a b h k)))
 
 pub returns-clause-reported : goal.returns-clause-reported
-returns-clause-reported c = only_of_both (laws c) (splits c)
+returns-clause-reported c words bytes reports verdict h k =
+    reports_or_not verdict (λ refuted.
+    c.inputs_are_checkable.ensures words bytes (λ checks.
+    refuted (only_of_both (laws c) (splits c) words bytes reports verdict h k (λ limit. checks))))
