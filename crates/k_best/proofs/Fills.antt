@@ -8,7 +8,7 @@ use Rattle.adp_model.specs.PosedProblem.{PosedProblem}
 use Rattle.adp_model.specs.Cells.{IsCounted}
 use Rattle.adp_model.specs.Demand.{IsDemandedChild, IsBelow, IsDemanded}
 use Rattle.cell_tables.specs.Marks.{CellMarks, IsMarkedInRow, IsEndMarked}
-use Rattle.seq_reference.specs.Sweeping.{AreRanked}
+use Rattle.suffix_cells.specs.Ranks.{AreRanked}
 use Rattle.seq_reference.specs.Filling.{IsFromStart, IsFilledBefore, IsWithin, IsShorterWithin, IsFilledBeforeRule}
 use Rattle.k_best.specs.declared.list_table.ListTable.{ListTable}
 use Rattle.k_best.specs.ListTables.{AreListed, HasList, IsLaidOut}

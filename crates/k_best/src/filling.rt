@@ -4,7 +4,7 @@ ghost use Rattle.std.specs.Prelude.{◌≡◌, ◌↔◌, ◌+◌, ◌≤◌, If
 ghost use Rattle.adp_model.specs.declared.cell.Cell.{Cell as CellValue};
 ghost use Rattle.adp_model.specs.Demand.{IsDemanded};
 ghost use Rattle.cell_tables.specs.Marks.{IsMarkedInRow};
-ghost use Rattle.seq_reference.specs.Sweeping.{AreRanked};
+ghost use Rattle.suffix_cells.specs.Ranks.{AreRanked};
 ghost use Rattle.seq_reference.specs.Filling.{IsFromStart, IsShorterWithin, IsWithin};
 ghost use Rattle.k_best.specs.ListTables.{AreListed, HasList, IsLaidOut};
 
@@ -14,9 +14,9 @@ use crate::list_table::ListTable;
 use adp_model::Cell;
 use adp_model::laws::demand::{demanded_cells_are_counted, demanded_children_are_below};
 use cell_tables::{Layout, Marks};
-use seq_reference::rules_by_rank;
 use split_lines::Lines;
 use std::alloc::{AllocError, Global};
+use suffix_cells::rules_by_rank;
 
 /// What the sweep goes by: the marks of the demanded cells, the rules by rising ranks, and how many entries a list may
 /// have.

@@ -9,7 +9,7 @@ use Rattle.adp_model.specs.Demand.{IsDemandedChild, IsBelow, IsDemanded}
 use Rattle.cell_tables.specs.Tables.{Table}
 use Rattle.cell_answers.specs.Entries.{HasEntry}
 use Rattle.cell_tables.specs.Marks.{CellMarks, IsMarkedInRow, IsEndMarked}
-use Rattle.seq_reference.specs.Sweeping.{AreRanked}
+use Rattle.suffix_cells.specs.Ranks.{AreRanked}
 use Rattle.seq_reference.specs.Filling.{AreFilled, AreKept, IsFromStart, IsFilledBefore, IsFilledFrom, IsWithin, IsShorterWithin, IsFilledBeforeRule}
 use Rattle.seq_reference.proofs.Sweeps.{Counted, visited}
 

@@ -1,4 +1,4 @@
 pub mod Fills
-pub mod Ranks
 pub mod SweptRows
 pub mod Sweeps
+pub mod VisitedFills

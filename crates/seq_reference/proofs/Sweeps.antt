@@ -9,7 +9,8 @@ use Rattle.adp_model.specs.Sizes.{IsWithinSizes}
 use Rattle.adp_model.specs.Cells.{IsCounted}
 use Rattle.adp_model.specs.Demand.{IsDemandedChild, IsBelow, IsDemanded, Axiom, Child}
 use Rattle.cell_tables.specs.Marks.{CellMarks, IsMarked, IsMarkedInRow, IsSpanMarked, AreInRows, AreMarkedToo, AreMarkedFrom}
-use Rattle.seq_reference.specs.Sweeping.{AreRanked, IsBeforeStart, IsBeforeEnd, IsBeforeRule, AreGathered, IsSettled, AreSwept}
+use Rattle.suffix_cells.specs.Ranks.{AreRanked}
+use Rattle.seq_reference.specs.Sweeping.{IsBeforeStart, IsBeforeEnd, IsBeforeRule, AreGathered, IsSettled, AreSwept}
 
 abbrev pub Counted : PosedProblem → Cell → Type 0
 Counted p cell = IsCounted p.grammar (length p.word) cell

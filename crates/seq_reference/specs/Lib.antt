@@ -1,3 +1,4 @@
 pub mod Filling
 pub mod SolvedFields
 pub mod Sweeping
+pub mod VisitedCells

@@ -1,18 +1,10 @@
 -- The sweep that marks the demanded cells: by starts upwards, and at a start by rows, or by ends downwards and then by
 -- ranks downwards.
 use Rattle.std.specs.Prelude.{◌≡◌, ℕ, ◌+◌, ◌<◌, ◌≤◌, ◌⊎◌, Some, List, length, slice_get, slice_index}
-use Rattle.std.specs.List.{Contains}
 use Rattle.adp_model.specs.declared.cell.Cell.{Cell}
 use Rattle.adp_model.specs.PosedProblem.{PosedProblem, axiom_cell}
 use Rattle.adp_model.specs.Demand.{IsDemandedChild, IsDemanded}
 use Rattle.cell_tables.specs.Marks.{CellMarks, IsMarked, IsMarkedInRow}
-
--- all rules of a problem, so that on one span a cell demands only cells of rules that stand before its own
-pub record AreRanked (p : PosedProblem) (rules : List ℕ) : Type 0 where
-  pub all : (rule : ℕ) → rule < length p.grammar.rules → Contains rules rule
-  pub children_first : (i j : ℕ) (cell child : Cell) → i < length rules → j < length rules
-      → slice_index rules i ≡ cell.rule → slice_index rules j ≡ child.rule
-      → child.from ≡ cell.from → child.to ≡ cell.to → IsDemandedChild p cell child → j < i
 
 -- the cells that begin before this start
 abbrev pub IsBeforeStart : ℕ → Cell → Type 0

@@ -2,10 +2,10 @@ ghost use Rattle.std.specs.Prelude.{◌≡◌, ◌↔◌, ◌+◌, ◌<◌, IfOk
 ghost use Rattle.adp_model.specs.declared.cell.Cell.{Cell};
 ghost use Rattle.adp_model.specs.Demand.{IsDemanded};
 ghost use Rattle.cell_tables.specs.Marks.{IsMarkedInRow};
-ghost use Rattle.seq_reference.specs.Sweeping.{AreGathered, AreRanked, AreSwept, AreSweptInRows, IsBeforeEnd, IsBeforeStart};
+ghost use Rattle.suffix_cells.specs.Ranks.{AreRanked};
+ghost use Rattle.seq_reference.specs.Sweeping.{AreGathered, AreSwept, AreSweptInRows, IsBeforeEnd, IsBeforeStart};
 
 use crate::marking::Marking;
-use crate::rank_order::rules_by_rank;
 use crate::row_marks::marks_by_rows;
 use adp_model::Cell;
 use adp_model::laws::demand::{demanded_cells_are_counted, demanded_children_are_below};
@@ -13,6 +13,7 @@ use cell_tables::{Layout, Marks};
 use row_scores::order_of_long_rows;
 use split_lines::Lines;
 use std::alloc::{AllocError, Global};
+use suffix_cells::rules_by_rank;
 
 /// Settles the marked cells of a span, by falling ranks.
 fn settle_span(lines: &Lines<'_>, rules: &[u32], from: u16, to: u16, marks: &mut Marking<'_>)

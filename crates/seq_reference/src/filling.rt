@@ -5,18 +5,18 @@ ghost use Rattle.adp_model.specs.Cells.{IsCounted};
 ghost use Rattle.adp_model.specs.Demand.{IsDemanded, IsDemandedChild};
 ghost use Rattle.cell_answers.specs.Entries.{HasEntry};
 ghost use Rattle.cell_tables.specs.Marks.{IsMarkedInRow};
-ghost use Rattle.seq_reference.specs.Sweeping.{AreRanked};
+ghost use Rattle.suffix_cells.specs.Ranks.{AreRanked};
 ghost use Rattle.seq_reference.specs.Filling.{AreFilled, AreKept, IsFilledBefore, IsFromStart, IsShorterWithin, IsWithin};
 
-use crate::rank_order::rules_by_rank;
-use adp_model::Cell;
 use adp_model::laws::demand::{demanded_cells_are_counted, demanded_children_are_below};
+use adp_model::{Cell, Problem};
 use cell_answers::{KeptEnds, Scores, Tails, cell_score_noting};
 use cell_tables::{Layout, Marks};
 use row_scores::scores_by_rows;
 use split_lines::Lines;
 use std::alloc::{AllocError, Global};
 use std::marker::Model;
+use suffix_cells::rules_by_rank;
 
 /// How many starts are filled together. Each end touches the columns of its rules once for all of them: with one start
 /// at a time the columns of a long word would pass through the caches once for each start.
@@ -64,13 +64,27 @@ impl<'a> Filling<'a> {
         Ok(Filling { scores, tails })
     }
 
+    /// No score is kept yet, and nothing is ever noted. Fails for want of memory alone.
+    pub(crate) fn without_notes(
+        alloc: Global,
+        problem: &'a Problem<'a>,
+        layout: &Layout<'a>,
+    ) -> Result<Filling<'a>, AllocError>
+        requires { layout.now ≡ problem.now }
+        ensures { IfOk result (λ filling. filling.problem ≡ problem.now) }
+    {
+        let scores = Scores::new(alloc, layout)?;
+        let tails = Tails::none(problem);
+        Ok(Filling { scores, tails })
+    }
+
     /// Whether tails may be noted: these serve all starts that are filled end by end.
     fn may_note(&self) -> bool {
         self.tails.are_kept()
     }
 
     /// Fills in the score of a counted cell.
-    fn fill(&mut self, lines: &Lines<'_>, cell: Cell)
+    pub(crate) fn fill(&mut self, lines: &Lines<'_>, cell: Cell)
         requires same_problem { self.old.problem ≡ lines.now }
         requires rule { cell.rule < length lines.now.grammar.rules }
         requires in_word { IsSpan lines.now.word cell.from cell.to }
@@ -85,7 +99,7 @@ impl<'a> Filling<'a> {
     }
 
     /// The scores.
-    fn into_scores(self) -> Scores<'a>
+    pub(crate) fn into_scores(self) -> Scores<'a>
         ensures { result ≡ self.entry }
     {
         self.scores

@@ -6,12 +6,11 @@
 mod demand;
 mod filling;
 mod marking;
-mod rank_order;
 mod row_marks;
 mod solved;
 mod solving;
+mod suffixes;
 
 pub use demand::demanded_marks;
-pub use rank_order::rules_by_rank;
 pub use solved::Solved;
 pub use solving::{solve, solve_prepared};

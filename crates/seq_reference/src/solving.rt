@@ -1,11 +1,15 @@
 ghost use Rattle.std.specs.Prelude.{◌≡◌, IfOk};
+ghost use Rattle.suffix_cells.specs.Straight.{AreStraight};
 
 use crate::demand::demanded_marks;
 use crate::filling::filled_scores;
 use crate::solved::Solved;
+use crate::suffixes::visited_scores;
 use adp_model::Problem;
-use split_lines::Prepared;
+use cell_tables::Layout;
+use split_lines::{Lines, Prepared};
 use std::alloc::{AllocError, Global};
+use suffix_cells::{are_straight, mark_suffixes, rules_by_rank};
 
 /// The answers of the problem's demanded cells. Fails for want of memory alone. Its time is in proportion to the
 /// counted cells, to the demanded cells, times rules, and to the positions of their lines.
@@ -20,6 +24,40 @@ pub fn solve_prepared<'a>(alloc: Global, prepared: Prepared<'a>) -> Result<Solve
     ensures { IfOk result (λ solved. solved ≡ prepared.entry) }
 {
     let (lines, layout) = prepared.into_parts();
+    if are_straight(lines.problem()) {
+        solve_suffixes(alloc, lines, layout)
+    } else {
+        solve_cells(alloc, lines, layout)
+    }
+}
+
+/// The answers, where the grammar is straight: all demanded cells end where the word ends.
+fn solve_suffixes<'a>(
+    alloc: Global,
+    lines: Lines<'a>,
+    layout: Layout<'a>,
+) -> Result<Solved<'a>, AllocError>
+    requires straight { AreStraight lines }
+    requires same_layout { layout ≡ lines }
+    ensures { IfOk result (λ solved. solved ≡ lines.entry) }
+{
+    let order = rules_by_rank(alloc, lines.problem())?;
+    let visits = mark_suffixes(alloc, &lines, &layout, order)?;
+    let scores = visited_scores(alloc, &lines, &layout, &visits)?;
+    let marks = visits.into_marks();
+    let cells = marks.count();
+    Ok(Solved::new(lines, marks, scores, cells))
+}
+
+/// The answers, whatever the grammar is.
+fn solve_cells<'a>(
+    alloc: Global,
+    lines: Lines<'a>,
+    layout: Layout<'a>,
+) -> Result<Solved<'a>, AllocError>
+    requires same_layout { layout ≡ lines }
+    ensures { IfOk result (λ solved. solved ≡ lines.entry) }
+{
     let marks = demanded_marks(alloc, &lines, &layout)?;
     let scores = filled_scores(alloc, &lines, &marks, &layout)?;
     let cells = marks.count();

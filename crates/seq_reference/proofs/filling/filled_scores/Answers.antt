@@ -5,7 +5,7 @@ use Rattle.adp_model.specs.Demand.{IsDemanded}
 use Rattle.cell_answers.specs.Entries.{HasEntry}
 use Rattle.cell_tables.specs.Tables.{Table}
 use Rattle.seq_reference.specs.Filling.{AreFilled, IsFromStart}
-use Rattle.seq_reference.specs.Sweeping.{AreRanked}
+use Rattle.suffix_cells.specs.Ranks.{AreRanked}
 use Rattle.seq_reference.proofs.Fills.{all_from, block_end_fits, none_from}
 use Rattle.seq_reference.proofs.Sweeps.{Counted}
 use Rattle.seq_reference.proofs.filling.filled_scores.Goals as goal

@@ -3,16 +3,16 @@ use Rattle.adp_model.specs.declared.cell.Cell.{Cell}
 use Rattle.adp_model.specs.PosedProblem.{PosedProblem}
 use Rattle.adp_model.specs.Demand.{IsDemanded, IsDemandedCount}
 use Rattle.cell_tables.specs.Marks.{IsMarkedInRow}
-use Rattle.seq_reference.proofs.solving.solve_prepared.Goals as goal
+use Rattle.seq_reference.proofs.solving.solve_cells.Goals as goal
 
 pub demanded_marks-requires : goal.demanded_marks-requires
-demanded_marks-requires c = c.into_parts-lines.ensures.layout ∙ sym c.into_parts-lines.ensures.lines
+demanded_marks-requires c = c.requires.same_layout
 
 pub filled_scores-requires-clause-same_problem : goal.filled_scores-requires-clause-same_problem
 filled_scores-requires-clause-same_problem c = c.in_ok-marks.ensures.problem
 
 pub filled_scores-requires-clause-same_layout : goal.filled_scores-requires-clause-same_layout
-filled_scores-requires-clause-same_layout c = c.into_parts-lines.ensures.layout ∙ sym c.into_parts-lines.ensures.lines
+filled_scores-requires-clause-same_layout c = c.requires.same_layout
 
 pub filled_scores-requires-clause-marked : goal.filled_scores-requires-clause-marked
 filled_scores-requires-clause-marked c = c.in_ok-marks.ensures.rows
@@ -36,4 +36,4 @@ new-requires-clause-counted c =
     subst (λ (p : PosedProblem). IsDemandedCount p c.count-cells.result) c.in_ok-marks.ensures.problem c.count-cells.ensures
 
 pub returns : goal.returns
-returns c = c.new.ensures ∙ c.into_parts-lines.ensures.lines
+returns c = c.new.ensures

@@ -1,7 +1,7 @@
 use Rattle.std.proofs.Common.{ℕ, ◌+◌, length, ap, ◌∙◌, arith}
 use Rattle.std.proofs.lemmas.List.{length_push}
-use Rattle.seq_reference.proofs.Ranks.{number_pushed}
-use Rattle.seq_reference.proofs.rank_order.numbers.Goals as goal
+use Rattle.suffix_cells.proofs.Ranks.{number_pushed}
+use Rattle.suffix_cells.proofs.rank_order.numbers.Goals as goal
 
 pub loop-number-init : goal.loop-number-init
 loop-number-init c = record { each = ap length c.in_ok-numbers.ensures.items; are = λ k l. absurd (omega arith) }

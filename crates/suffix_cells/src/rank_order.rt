@@ -1,5 +1,5 @@
 ghost use Rattle.std.specs.Prelude.{◌≡◌, ℕ, ◌<◌, IfOk, length, slice_index};
-ghost use Rattle.seq_reference.specs.Sweeping.{AreRanked};
+ghost use Rattle.suffix_cells.specs.Ranks.{AreRanked};
 
 use adp_model::Problem;
 use adp_model::laws::demand::demanded_children_are_below;

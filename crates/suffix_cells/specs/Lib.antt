@@ -1,0 +1,5 @@
+pub mod Ranks
+pub mod Straight
+pub mod Sweeping
+pub mod Visits
+pub mod VisitsFields
