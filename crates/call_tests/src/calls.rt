@@ -4,7 +4,9 @@ use crate::codes::push_code_call;
 use crate::grammars::{push_grammar_call, push_spelling};
 use crate::lines::{first_word, push_no_call, push_text};
 use crate::made::push_made_call;
+use crate::plain_texts::push_plain_text;
 use crate::runs::{push_meeting, push_run, push_side_by_side};
+use crate::shares::push_shares;
 use crate::streams::push_stream_call;
 use crate::terms::push_term_call;
 use std::alloc::{AllocError, Global};
@@ -51,6 +53,7 @@ fn push_call<R: Threads + Sync>(
         "cell" | "score" | "choice" | "home" => push_code_call(alloc, name, rest, out),
         "made" | "pairs" => push_made_call(alloc, name, rest, out),
         "read" | "write" | "flaky" => push_stream_call(alloc, name, rest, out),
+        "shares" => push_shares(rt, alloc, rest, out),
         _ => {
             let (file, rest) = first_word(rest);
             match text_of(jobs, file) {
@@ -85,6 +88,7 @@ fn push_job_call<R: Threads + Sync>(
         "meet" | "in-step" => push_meeting(rt, alloc, text, name, rest, out),
         "side-by-side" => push_side_by_side(rt, alloc, text, rest, out),
         "spelling" => push_spelling(alloc, text, out),
+        "plain-text" => push_plain_text(alloc, text, out),
         _ => push_grammar_call(alloc, text, name, rest, out),
     }
 }
