@@ -21,6 +21,7 @@ pub mod PlanMeaning
 pub mod MeasuredPlans
 pub mod ScoreRows
 pub mod ScoreNumbers
+pub mod LetterSteps
 pub mod Limits
 pub mod FirstFaults
 pub mod ImpossibleFaults

@@ -23,7 +23,7 @@ use Rattle.grammar_check.proofs.PartRanges.{IsSound, all_from_contained}
 use Rattle.grammar_check.proofs.CheckedSizes.{sizes_in_order}
 use Rattle.grammar_check.proofs.PlanMeaning.{plan_ranked, plan_readable-at, scores_planned, nodes_planned}
 use Rattle.grammar_check.specs.declared.alternative.Alternative.{Alternative}
-use Rattle.grammar_check.specs.declared.alternative.Alternative.TheVariants.{Linear, Wide}
+use Rattle.grammar_check.specs.declared.alternative.Alternative.TheVariants.{Letters, Linear, Wide}
 use Rattle.grammar_check.specs.RuleValues.{IsSpreadTo}
 use Rattle.grammar_check.specs.WideAlternatives.{AreWideSpread}
 use Rattle.grammar_check.proofs.OwnWays.{FitsOwn}
@@ -59,6 +59,7 @@ module _ (grammar : Grammar) (algebra : ℕ) (least : List ℕ) (greatest : List
   readable measure most = plan_readable-at grammar least greatest checked.least_are ordered between sound measure most
 
 none_to : (bound : ℕ → ℕ → ℕ) (alternative : Alternative) → IsSpreadTo bound 0 alternative
+none_to bound (Letters a) = tt
 none_to bound (Linear a) = subst (AreSpread bound a) (let n = a.fixed + lows a.parts.items in omega arith) (none_spread bound a)
 none_to bound (Wide a) = subst (AreWideSpread bound a) (let n = lows a.parts.items in omega arith) (none_wide bound a)
 

@@ -5,7 +5,7 @@ use Rattle.std.proofs.lemmas.List.{get_or-map, length-map}
 use Rattle.adp_model.specs.LimitFaults.{told}
 use Rattle.grammar_check.specs.declared.table.Table.{Table}
 use Rattle.grammar_check.specs.declared.alternative.Alternative.{Alternative}
-use Rattle.grammar_check.specs.declared.alternative.Alternative.TheVariants.{Linear, Wide}
+use Rattle.grammar_check.specs.declared.alternative.Alternative.TheVariants.{Letters, Linear, Wide}
 use Rattle.grammar_check.specs.Plans.{lows}
 use Rattle.grammar_check.specs.RuleValues.{Kept, plan_of, kept_of, kept_value, kept_rule_value, AreAllRead, IsReadFor, IsSpreadTo}
 use Rattle.grammar_check.proofs.WideSteps.{fewer_spread}
@@ -42,6 +42,7 @@ read_at bound table plan place len old inside here reads = subst (IsReadFor boun
 
 -- what is spread for more letters is spread for fewer
 pub spread_less : (bound : ℕ → ℕ → ℕ) (len : ℕ) (alternative : Alternative) → IsSpreadTo bound (len + 1) alternative → IsSpreadTo bound len alternative
+spread_less bound len (Letters alternative) spread = tt
 spread_less bound len (Linear alternative) spread = record {
   rows = λ place column inside less. spread.rows place column inside (omega arith);
 }

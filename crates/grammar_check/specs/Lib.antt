@@ -8,6 +8,7 @@ pub mod RuleValues
 pub mod SingleRules
 pub mod Fills
 pub mod GrammarPlans
+pub mod LetterSteps
 pub mod TokenNumbers
 pub mod KeptPlans
 pub mod CheckedGrammar

@@ -6,7 +6,7 @@ use Rattle.adp_model.specs.WideForm as wide
 use Rattle.grammar_check.specs.declared.part.Part.{Part}
 use Rattle.grammar_check.specs.declared.table.Table.{Table}
 use Rattle.grammar_check.specs.declared.alternative.Alternative.{Alternative}
-use Rattle.grammar_check.specs.declared.alternative.Alternative.TheVariants.{Linear, Wide}
+use Rattle.grammar_check.specs.declared.alternative.Alternative.TheVariants.{Letters, Linear, Wide}
 use Rattle.grammar_check.specs.Plans.{IsReadable, lows}
 use Rattle.grammar_check.specs.Alternatives.{AreSpread, AreRead, alternative_value}
 use Rattle.grammar_check.specs.WideAlternatives.{AreWideSpread, wide_value}
@@ -35,6 +35,7 @@ abbrev pub Kept : Type 0
 Kept = Own × ℕ × List Part
 
 abbrev pub kept_of : Alternative → Kept
+kept_of (Letters alternative) = (inl alternative.constant, alternative.fixed, alternative.parts.items)
 kept_of (Linear alternative) = (inl alternative.constant, alternative.fixed, alternative.parts.items)
 kept_of (Wide alternative) = (inr alternative.term.now, 0, alternative.parts.items)
 
@@ -59,8 +60,9 @@ IsKeptReadable rules kept = All (λ (part : Part). IsReadable rules part.worth) 
 abbrev pub IsAllReadable : ℕ → Alternative → Type 0
 IsAllReadable rules alternative = IsKeptReadable rules (kept_of alternative)
 
--- the alternative's rows have at least this width
+-- the alternative's rows, where it keeps any, have at least this width
 abbrev pub IsWide : ℕ → Alternative → Type 0
+IsWide width (Letters alternative) = Unit {0}
 IsWide width (Linear alternative) = width ≤ alternative.spreads.width
 IsWide width (Wide alternative) = width ≤ alternative.rows.width
 
@@ -72,8 +74,9 @@ IsReadFor bound table len kept = kept.1 ≤ len → AreRead bound table kept.2 (
 abbrev pub AreAllRead : (ℕ → ℕ → ℕ) → Table → List Kept → ℕ → Type 0
 AreAllRead bound table plan len = All (IsReadFor bound table len) plan
 
--- the rows have what the alternative's ways to have lesser lengths add
+-- the rows, where it keeps any, have what the alternative's ways to have lesser lengths add
 abbrev pub IsSpreadTo : (ℕ → ℕ → ℕ) → ℕ → Alternative → Type 0
+IsSpreadTo bound len (Letters alternative) = Unit {0}
 IsSpreadTo bound len (Linear alternative) =
     AreSpread bound alternative (len - (alternative.fixed + lows alternative.parts.items))
 IsSpreadTo bound len (Wide alternative) = AreWideSpread bound alternative (len - lows alternative.parts.items)

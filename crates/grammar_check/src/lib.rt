@@ -11,6 +11,7 @@ mod error;
 mod fill;
 mod filled;
 pub mod laws;
+mod letter_alternative;
 mod linear_alternative;
 mod measure;
 mod node;

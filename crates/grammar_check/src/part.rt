@@ -1,6 +1,7 @@
 ghost use Rattle.std.specs.Prelude.{◌≡◌, ℕ, ◌*◌, ◌^◌, ◌-◌, ◌<◌, [], ◌∷◌, min, true, length, slice_index_or, IfOk};
 ghost use Rattle.adp_model.specs.LimitFaults.{told};
 ghost use Rattle.grammar_check.specs.Plans.{worth_of, IsReadable, ReadsRight, is_fixed, fixed_length, fixed_worth, lows, open_parts};
+ghost use Rattle.grammar_check.specs.LetterSteps.{are_letters, letter_of};
 ghost use Rattle.grammar_check.specs.TokenNumbers.{letters_worth};
 
 use crate::cut::{cut_product, cut_sum};
@@ -59,6 +60,16 @@ impl Worth {
                 },
             ) => weight == other_weight && factor == other_factor,
             _ => false,
+        }
+    }
+
+    /// What a letter adds, cut; 0 for a rule.
+    pub fn letter(self) -> u64
+        ensures { result ≡ letter_of self }
+    {
+        match self {
+            Worth::OfRule { .. } => 0,
+            Worth::OfLetters { weight, factor } => cut_product(factor, weight),
         }
     }
 
@@ -158,6 +169,20 @@ pub fn open_parts(alloc: Global, parts: &[Part]) -> Result<Vec<Part>, AllocError
         rest = others;
     }
     Ok(kept)
+}
+
+/// Whether all of them add by the number of letters.
+pub fn are_letters(parts: &[Part]) -> bool
+    ensures { result ≡ are_letters parts.now }
+{
+    let mut rest = parts;
+    while let Some((first, others)) = rest.split_first() {
+        let Worth::OfLetters { .. } = first.worth else {
+            return false;
+        };
+        rest = others;
+    }
+    true
 }
 
 /// Whether the parts have this one.

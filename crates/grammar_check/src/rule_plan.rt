@@ -12,7 +12,6 @@ ghost use Rattle.grammar_check.specs.TokenNumbers.{greatest_of, token_number};
 
 use crate::alternative::Alternative;
 use crate::cut::cut_sum;
-use crate::linear_alternative::LinearAlternative;
 use crate::part::{Part, fixed_length, fixed_worth, has, open_parts};
 use crate::singles::{Shape, Single, Singles, greatest_single, single_of};
 use crate::table::Table;
@@ -157,8 +156,8 @@ impl<'a> RulePlan<'a> {
             self.alternatives[place].raise(constant);
             return Ok(());
         }
-        let alternative = LinearAlternative::new(alloc, constant, fixed, parts, most)?;
-        self.alternatives.push(Alternative::Linear(alternative))?;
+        let alternative = Alternative::adding(alloc, constant, fixed, parts, most)?;
+        self.alternatives.push(alternative)?;
         Ok(())
     }
 

@@ -1,7 +1,6 @@
-use Rattle.std.proofs.Common.{◌+◌, inl, sym, ap, subst, ◌∙◌, arith}
+use Rattle.std.proofs.Common.{◌+◌, inl, sym, ap, subst, ◌∙◌}
 use Rattle.std.specs.List.{All}
 use Rattle.std.proofs.lemmas.List.Elements.{All-push, All-set}
-use Rattle.grammar_check.specs.declared.alternative.Alternative.TheVariants.{Linear}
 use Rattle.grammar_check.specs.RuleValues.{IsWide, kept_of, plan_of}
 use Rattle.grammar_check.specs.KeptPlans.{AddsKept}
 use Rattle.grammar_check.proofs.KeptPlanSteps.{raise_adds, last_adds}
@@ -23,12 +22,10 @@ returns-in-Some-clause-columns c = λ wide.
 
 pub returns-clause-kept : goal.returns-clause-kept
 returns-clause-kept c =
-    let new = c.in_ok-alternative.alternative in
     subst (λ items. AddsKept (plan_of c.args.self.now.alternatives.items) (plan_of items) (inl c.args.constant, c.args.fixed, c.args.parts.items)) (sym c.in_ok-push.ensures.items)
-    (last_adds kept_of c.args.self.now.alternatives.items (Linear new) (inl c.args.constant, c.args.fixed, c.args.parts.items)
-    (λ i. (inl (c.in_ok-alternative.ensures.constant i), c.in_ok-alternative.ensures.fixed i, c.in_ok-alternative.ensures.parts i)))
+    (last_adds kept_of c.args.self.now.alternatives.items c.in_ok-alternative.alternative (inl c.args.constant, c.args.fixed, c.args.parts.items) c.in_ok-alternative.ensures.kept)
 
 pub returns-clause-columns : goal.returns-clause-columns
 returns-clause-columns c = λ wide.
     subst (All (IsWide (c.args.most + 1))) (sym c.in_ok-push.ensures.items)
-    (All-push (IsWide (c.args.most + 1)) c.args.self.now.alternatives.items (Linear c.in_ok-alternative.alternative) wide (omega (arith, c.in_ok-alternative.ensures.width)))
+    (All-push (IsWide (c.args.most + 1)) c.args.self.now.alternatives.items c.in_ok-alternative.alternative wide c.in_ok-alternative.ensures.columns)
