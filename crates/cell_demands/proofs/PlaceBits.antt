@@ -226,3 +226,21 @@ module _ (bits : List ℕ) (first past least last : ℕ) (from_first : first ≤
     before = omega (arith, most.last place is);
     bit = is.bit;
   }
+
+-- ---- among bits for all places, in both of two lists
+
+module _ (bits others : List ℕ) (place word other_word : ℕ) (is : word ≡ get_or bits (place / 64) 0)
+    (other_is : other_word ≡ get_or others (place / 64) 0) (at : ℕ) where
+  pub in_both : IsAhead (bit_and word other_word) place at → HasBit bits at × HasBit others at
+  in_both (_, bit) =
+      let both = (both_bits word other_word (place / 64) at).0 bit in (
+        bit_there bits place word at is both.0.number_is both.0.bit,
+        bit_there others place other_word at other_is both.1.number_is both.1.bit,
+      )
+
+  pub ahead_in_both : place ≤ at → at / 64 ≡ place / 64 → HasBit bits at → HasBit others at → IsAhead (bit_and word other_word) place at
+  ahead_in_both low same has other_has = (
+    low,
+    (both_bits word other_word (place / 64) at).1
+        (there_bit bits place word at is same has, there_bit others place other_word at other_is same other_has),
+  )

@@ -1,5 +1,5 @@
 -- Bits and marks, one after another, and what cells of a row demand, argument by argument.
-use Rattle.std.proofs.Common.{◌≡◌, ◌⊎◌, ◌↔◌, ℕ, ◌+◌, ◌<◌, ◌≤◌, List, [], ◌∷◌, length, refl, sym, ap, subst, ◌∙◌, inl, inr, ⊎_elim, arith}
+use Rattle.std.proofs.Common.{◌≡◌, ◌⊎◌, ◌↔◌, ℕ, ◌+◌, ◌<◌, ◌≤◌, Option, Some, None, IfSome, List, [], ◌∷◌, length, refl, sym, ap, subst, ◌∙◌, inl, inr, ⊎_elim, arith}
 use Rattle.std.specs.declared.ops.Range.{Range}
 use Rattle.std.proofs.lemmas.Bool.{cases_lt, cases_eq}
 use Rattle.adp_model.specs.declared.grammar.Arg.{Arg}
@@ -11,6 +11,7 @@ use Rattle.viable_splits.specs.Placing.{AreEnds, on_span}
 use Rattle.cell_tables.specs.Bits.{IsBitOf}
 use Rattle.cell_tables.specs.Marks.{CellMarks, AreInRows, AreMarkedToo}
 use Rattle.cell_demands.specs.declared.rows.Positions.{Positions}
+use Rattle.cell_demands.specs.LetterRows.{AreBegun}
 use Rattle.cell_demands.specs.PlaceBits.{HasBit, HaveBitsToo, IsLastBit}
 use Rattle.cell_demands.specs.Rows.{AreInWord, AreMarkedInRows, DemandsOfRow, GoesOn, IsAmong, IsBetween, IsReachedBy, LeadsOn}
 use Rattle.cell_demands.proofs.MarkSteps.{same_rule, too_like, too_more, too_none}
@@ -142,25 +143,40 @@ no_cells p argument IsReached IsBehind token marks =
 abbrev pub IsBefore : Positions → ℕ → ℕ → Type 0
 IsBefore reached from at = IsAmong reached at × (at < from)
 
+-- the argument begins at none of the positions from one on and before another one whose bits are set
+abbrev pub BeginsNowhere : PosedProblem → Arg → Positions → ℕ → ℕ → Type 0
+BeginsNowhere p argument reached from next =
+    (place : ℕ) → from ≤ place → place < next → HasBit reached.bits.now place
+    → (end : ℕ) → FitsSpan p (on_span argument place end) → ⊥
+
+-- the bits of those at which it may begin are told
+pub begins_nowhere : {B : Type 0} (bits_of : B → List ℕ) (p : PosedProblem) (argument : Arg) (reached : Positions) (from next : ℕ)
+    (begins : Option B) → IfSome begins (λ bits. AreBegun p argument (bits_of bits))
+    → ((place : ℕ) → from ≤ place → place < next → HasBit reached.bits.now place → IfSome begins (λ bits. HasBit (bits_of bits) place) → ⊥)
+    → BeginsNowhere p argument reached from next
+begins_nowhere bits_of p argument reached from next None begun none place low high has end fits = none place low high has tt
+begins_nowhere bits_of p argument reached from next (Some bits) begun none place low high has end fits =
+    none place low high has (begun place end fits)
+
 module _ (reached : Positions) where
-  -- up to the first of them there is none
-  pub none_first : (first : ℕ)
-      → ((place : ℕ) → reached.first ≤ place → place < first → HasBit reached.bits.now place → ⊥)
-      → (at : ℕ) → IsBefore reached first at → ⊥
-  none_first first none at (among, before) = none at among.from_first before among.bit
+  -- up to the first of them it ends nowhere
+  pub none_first : (p : PosedProblem) (argument : Arg) (first : ℕ) → BeginsNowhere p argument reached reached.first first
+      → (at end : ℕ) → IsBefore reached first at → FitsSpan p (on_span argument at end) → ⊥
+  none_first p argument first none at end (among, before) fits = none at among.from_first before among.bit end fits
 
   -- and behind the last one all are before
   pub all_before : (from : ℕ) → reached.past ≤ from → (at : ℕ) → IsAmong reached at → IsBefore reached from at
   all_before from past at among = (among, omega (arith, past, among.before))
 
-  module _ (from next : ℕ) (here : IsAmong reached from) (behind : from + 1 ≤ next)
-      (none : (place : ℕ) → from + 1 ≤ place → place < next → HasBit reached.bits.now place → ⊥) where
-    pub before_or_here : (at : ℕ) → IsBefore reached next at → IsBefore reached from at ⊎ (at ≡ from)
-    before_or_here at (among, before) = elim (cases_lt at from) [
+  module _ (p : PosedProblem) (argument : Arg) (from next : ℕ) (here : IsAmong reached from) (behind : from + 1 ≤ next)
+      (none : BeginsNowhere p argument reached (from + 1) next) where
+    pub before_or_here : (at end : ℕ) → FitsSpan p (on_span argument at end) → IsBefore reached next at
+        → IsBefore reached from at ⊎ (at ≡ from)
+    before_or_here at end fits (among, before) = elim (cases_lt at from) [
       | inl early ↦ inl (among, early)
       | inr late ↦ elim (cases_eq at from) [
         | inl same ↦ inr same
-        | inr other ↦ absurd (none at (omega (arith, late, other)) before among.bit)
+        | inr other ↦ absurd (none at (omega (arith, late, other)) before among.bit end fits)
       ]
     ]
 
@@ -170,7 +186,7 @@ module _ (reached : Positions) where
     pub here_before : (at : ℕ) → at ≡ from → IsBefore reached next at
     here_before at same = (subst (IsAmong reached) (sym same) here, omega (arith, same, behind))
 
-    module _ (p : PosedProblem) (argument : Arg) (IsBehind : ℕ → Type 0) where
+    module _ (IsBehind : ℕ → Type 0) where
       abbrev Between : (ℕ → Type 0) → Cell → Type 0
       Between IsReached = IsBetween p argument IsReached IsBehind
 
@@ -184,7 +200,7 @@ module _ (reached : Positions) where
           (λ (at, end, same, fits, on, its). (at, end, here_before at same, fits, on, its)) some)
           (λ cell (at, end, is, fits, on, its). ⊎_elim
           (λ early. inl (at, end, early, fits, on, its))
-          (λ same. inr (at, end, same, fits, on, its)) (before_or_here at is))
+          (λ same. inr (at, end, same, fits, on, its)) (before_or_here at end fits is))
           (rows_more first second third (Between (IsBefore reached from)) (Between (λ at. at ≡ from)) before after)
 
       abbrev Leads : ℕ → ℕ → Type 0
@@ -197,7 +213,7 @@ module _ (reached : Positions) where
           (λ at some. ⊎_elim
           (λ (early, on). (still_before at early, on))
           (λ same. (here_before at same, subst (GoesOn p argument IsBehind) (sym same) goes)) some)
-          (λ at (is, on). ⊎_elim (λ early. inl (early, on)) (λ same. inr same) (before_or_here at is))
+          (λ at (is, on). ⊎_elim (λ early. inl (early, on)) (λ same. inr same) (before_or_here at on.0 on.1 is))
           (bits_more first second third (Leads from) (λ at. at ≡ from) before after)
 
       pub leads_past : (GoesOn p argument IsBehind from → ⊥) → (first second : List ℕ) → HaveBitsToo first second (Leads from)
@@ -205,34 +221,33 @@ module _ (reached : Positions) where
       leads_past stops first second before =
           bits_like first second (Leads from) (Leads next)
           (λ at (early, on). (still_before at early, on))
-          (λ at (is, on). ⊎_elim (λ early. (early, on)) (λ same. absurd (stops (subst (GoesOn p argument IsBehind) same on))) (before_or_here at is))
+          (λ at (is, on). ⊎_elim (λ early. (early, on)) (λ same. absurd (stops (subst (GoesOn p argument IsBehind) same on))) (before_or_here at on.0 on.1 is))
           before
 
-    module _ (p : PosedProblem) (argument : Arg) where
-      abbrev Ends : ℕ → ℕ → Type 0
-      Ends before = IsReachedBy p argument (IsBefore reached before)
+    abbrev Ends : ℕ → ℕ → Type 0
+    Ends before = IsReachedBy p argument (IsBefore reached before)
 
-      pub reached_more : (first second third : List ℕ) → HaveBitsToo first second (Ends from)
-          → HaveBitsToo second third (λ end. FitsSpan p (on_span argument from end)) → HaveBitsToo first third (Ends next)
-      reached_more first second third before after =
-          bits_like first third (λ end. Ends from end ⊎ FitsSpan p (on_span argument from end)) (Ends next)
-          (λ end some. ⊎_elim
-          (λ (at, early, fits). (at, still_before at early, fits))
-          (λ fits. (from, here_before from refl, fits)) some)
-          (λ end (at, is, fits). ⊎_elim
-          (λ early. inl (at, early, fits))
-          (λ same. inr (subst (λ k. FitsSpan p (on_span argument k end)) same fits)) (before_or_here at is))
-          (bits_more first second third (Ends from) (λ end. FitsSpan p (on_span argument from end)) before after)
+    pub reached_more : (first second third : List ℕ) → HaveBitsToo first second (Ends from)
+        → HaveBitsToo second third (λ end. FitsSpan p (on_span argument from end)) → HaveBitsToo first third (Ends next)
+    reached_more first second third before after =
+        bits_like first third (λ end. Ends from end ⊎ FitsSpan p (on_span argument from end)) (Ends next)
+        (λ end some. ⊎_elim
+        (λ (at, early, fits). (at, still_before at early, fits))
+        (λ fits. (from, here_before from refl, fits)) some)
+        (λ end (at, is, fits). ⊎_elim
+        (λ early. inl (at, early, fits))
+        (λ same. inr (subst (λ k. FitsSpan p (on_span argument k end)) same fits)) (before_or_here at end fits is))
+        (bits_more first second third (Ends from) (λ end. FitsSpan p (on_span argument from end)) before after)
 
-      pub reached_past : ((end : ℕ) → FitsSpan p (on_span argument from end) → ⊥) → (first second : List ℕ)
-          → HaveBitsToo first second (Ends from) → HaveBitsToo first second (Ends next)
-      reached_past stops first second before =
-          bits_like first second (Ends from) (Ends next)
-          (λ end (at, early, fits). (at, still_before at early, fits))
-          (λ end (at, is, fits). ⊎_elim
-          (λ early. (at, early, fits))
-          (λ same. absurd (stops end (subst (λ k. FitsSpan p (on_span argument k end)) same fits))) (before_or_here at is))
-          before
+    pub reached_past : ((end : ℕ) → FitsSpan p (on_span argument from end) → ⊥) → (first second : List ℕ)
+        → HaveBitsToo first second (Ends from) → HaveBitsToo first second (Ends next)
+    reached_past stops first second before =
+        bits_like first second (Ends from) (Ends next)
+        (λ end (at, early, fits). (at, still_before at early, fits))
+        (λ end (at, is, fits). ⊎_elim
+        (λ early. (at, early, fits))
+        (λ same. absurd (stops end (subst (λ k. FitsSpan p (on_span argument k end)) same fits))) (before_or_here at end fits is))
+        before
 
   -- when the last one is passed
   module _ (p : PosedProblem) (argument : Arg) (from : ℕ) (past : reached.past ≤ from) where

@@ -1,3 +1,4 @@
+pub mod LetterRows
 pub mod PlaceBits
 pub mod Rows
 pub mod Runs

@@ -16,6 +16,7 @@ use Rattle.cell_demands.specs.declared.rows.Boundaries.{Boundaries}
 use Rattle.cell_demands.specs.declared.rows.BoundaryBits.{BoundaryBits}
 use Rattle.cell_demands.specs.declared.rows.Positions.{Positions}
 use Rattle.cell_demands.specs.declared.rows.RowRoom.{RowRoom}
+use Rattle.cell_demands.specs.LetterRows.{AreLetterRows}
 use Rattle.cell_demands.specs.PlaceBits.{HasBit, HaveBits}
 
 -- the position is one of these
@@ -92,6 +93,7 @@ pub record HaveAllBits (p : PosedProblem) (boundaries : Boundaries) : Type 0 whe
 pub record IsRoomFor (p : PosedProblem) (room : RowRoom) : Type 0 where
   pub ends : HaveBits p room.ends.items
   pub boundaries : HaveAllBits p room.boundaries
+  pub letters : AreLetterRows p room.letters
 
 -- an alternative has so many arguments
 abbrev pub AreFew : List Arg → Type 0

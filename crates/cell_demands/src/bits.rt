@@ -1,6 +1,6 @@
 //! Bits for positions of a word, 64 in a number.
 
-ghost use Rattle.std.specs.Prelude.{◌≡◌, ◌↔◌, ◌+◌, ◌-◌, ◌*◌, ◌/◌, ◌<◌, ◌≤◌, ℕ, IfOk, MatchOption};
+ghost use Rattle.std.specs.Prelude.{◌≡◌, ◌↔◌, ◌+◌, ◌-◌, ◌*◌, ◌/◌, ◌<◌, ◌≤◌, ℕ, IfOk, IfSome, MatchOption};
 ghost use Rattle.std.specs.Prelude.{length, slice_index, vec_len};
 ghost use Rattle.cell_tables.specs.Bits.{IsBitOf};
 ghost use Rattle.cell_demands.specs.PlaceBits.{HasBit, HaveBitsToo, IsFirstAhead, IsLastBehind, IsAhead, IsBehind, IsLastBit};
@@ -126,6 +126,26 @@ pub fn first_set(bits: &[u64], first: u16, past: u16) -> u16
     let mut place = first;
     while place < past {
         if let Some(found) = first_ahead(word_at(bits, place), place) {
+            return past.min(found);
+        }
+        place = (place / WORD + 1) * WORD;
+    }
+    past
+}
+
+/// The first position from `first` on and before `past` whose bit is set among both; `past` where there is none.
+pub fn first_in_both(bits: &[u64], others: &[u64], first: u16, past: u16) -> u16
+    requires order { first ≤ past }
+    requires few { past ≤ 4096 }
+    ensures from_first { first ≤ result }
+    ensures within { result ≤ past }
+    ensures set { result < past → HasBit bits.now result }
+    ensures none_before { (place : ℕ) → first ≤ place → place < result → HasBit bits.now place
+        → HasBit others.now place → ⊥ }
+{
+    let mut place = first;
+    while place < past {
+        if let Some(found) = first_ahead(word_at(bits, place) & word_at(others, place), place) {
             return past.min(found);
         }
         place = (place / WORD + 1) * WORD;

@@ -3,7 +3,9 @@
 
 mod bits;
 mod laws;
+mod letter_rows;
 mod marking;
+mod row_lines;
 mod rows;
 mod runs;
 mod tails;

@@ -1,6 +1,6 @@
 //! The cells that those of a row demand: for all positions at once at which an argument may begin.
 
-ghost use Rattle.std.specs.Prelude.{◌≡◌, ◌↔◌, ℕ, ◌+◌, ◌*◌, ◌<◌, ◌≤◌, IfOk, IsTrue, length};
+ghost use Rattle.std.specs.Prelude.{◌≡◌, ◌↔◌, ℕ, ◌+◌, ◌*◌, ◌<◌, ◌≤◌, IfOk, IfSome, IsTrue, length};
 ghost use Rattle.std.specs.List.{AllByRecursion};
 ghost use Rattle.adp_model.specs.declared.cell.Cell.{Cell};
 ghost use Rattle.adp_model.specs.PosedProblem.{PosedProblem};
@@ -11,9 +11,11 @@ ghost use Rattle.cell_demands.specs.Rows.{AreFew, AreInWord, AreMarkedInRows, De
 ghost use Rattle.cell_demands.specs.Rows.{HaveAllBits, HaveBoundaryBits, IsAmong, IsBehindArgument, IsBetween, IsChildOfEnds, IsChildOfRow, IsReachedBy, IsRoomFor, LeadsOn};
 ghost use Rattle.cell_tables.specs.Marks.{IsMarkedInRow};
 
-use crate::bits::{clear, clear_bits, first_set, last_set, set_between, set_bit};
+use crate::bits::{clear, clear_bits, first_in_both, first_set, last_set, set_between, set_bit};
+use crate::letter_rows::LetterRows;
+use crate::row_lines::RowLines;
 use adp_model::laws::well_formed::{alternatives_fit, arguments_are_few_and_known};
-use adp_model::{Arg, Cell};
+use adp_model::{Arg, Cell, Problem};
 use cell_tables::{Layout, Marks};
 use split_lines::{Lengths, Lines};
 use std::alloc::{AllocError, Global};
@@ -47,11 +49,12 @@ pub struct Boundaries {
     inner: [BoundaryBits; INNER],
 }
 
-/// Bits for the ends of a row, and for the boundaries of an alternative.
+/// Bits for the ends of a row, for the boundaries of an alternative, and of where letters stand.
 #[derive(Drop)]
 pub struct RowRoom {
     ends: Vec<u64>,
     boundaries: Boundaries,
+    letters: LetterRows,
 }
 
 /// Bits for a boundary. Fails for want of memory alone.
@@ -79,21 +82,42 @@ fn new_boundaries(alloc: Global, positions: usize) -> Result<Boundaries, AllocEr
 }
 
 impl RowRoom {
-    /// Room for words that have so many positions. Fails for want of memory alone.
-    pub fn new(alloc: Global, positions: usize) -> Result<RowRoom, AllocError>
-        ensures { (p : PosedProblem) → positions ≡ length p.word + 1 → IfOk result (IsRoomFor p) }
+    /// Room for the word of a problem. Fails for want of memory alone.
+    pub fn new(alloc: Global, problem: &Problem<'_>) -> Result<RowRoom, AllocError>
+        ensures { IfOk result (IsRoomFor problem.now) }
     {
+        problem.admissible();
+        let positions = problem.letters().len() + 1;
         Ok(RowRoom {
+            letters: LetterRows::new(alloc, problem)?,
             ends: clear_bits(alloc, positions)?,
             boundaries: new_boundaries(alloc, positions)?,
         })
     }
 }
 
+/// The first position from `from` on whose bit is set and at which an argument may begin, where these are the bits of
+/// those at which it may; the end of the positions where there is none.
+#[inline(always)]
+fn next_begun(begins: Option<&[u64]>, positions: Positions<'_>, from: u16) -> u16
+    requires order { from ≤ positions.past }
+    requires few { positions.past ≤ 4096 }
+    ensures from_first { from ≤ result }
+    ensures within { result ≤ positions.entry.past }
+    ensures set { result < positions.entry.past → HasBit positions.entry.bits.now result }
+    ensures none_before { (place : ℕ) → from ≤ place → place < result → HasBit positions.entry.bits.now place
+        → IfSome begins.entry (λ bits. HasBit bits.now place) → ⊥ }
+{
+    match begins {
+        Some(begins) => first_in_both(positions.bits, begins, from, positions.past),
+        None => first_set(positions.bits, from, positions.past),
+    }
+}
+
 /// Whether the argument may go on from a position to one of those behind. Its cells there are marked, where it is a rule.
 #[inline(always)]
 fn mark_ends(
-    lines: &Lines<'_>,
+    lines: &RowLines<'_, '_>,
     argument: &Arg,
     from: u16,
     behind: Positions<'_>,
@@ -129,7 +153,7 @@ fn mark_ends(
 /// Marks the argument's cells between positions that are reached and those behind, and sets the bits of the first ones
 /// from which it goes on.
 fn mark_between(
-    lines: &Lines<'_>,
+    lines: &RowLines<'_, '_>,
     argument: &Arg,
     reached: Positions<'_>,
     behind: Positions<'_>,
@@ -148,36 +172,38 @@ fn mark_between(
     ensures marked { AreMarkedInRows marks.old marks.new
         (IsBetween lines.now argument.now (IsAmong reached.entry) (IsAmong behind.entry)) }
 {
-    let mut from = first_set(reached.bits, reached.first, reached.past);
+    let begins = lines.begins(argument);
+    let mut from = next_begun(begins, reached, reached.first);
     while from < reached.past {
         if mark_ends(lines, argument, from, behind, marks) {
             set_bit(leads, from);
         }
-        from = first_set(reached.bits, from + 1, reached.past);
+        from = next_begun(begins, reached, from + 1);
     }
 }
 
 /// Sets the bits of the positions at which the argument may end that begins at one that is reached.
-fn reach(lines: &Lines<'_>, argument: &Arg, reached: Positions<'_>, next: &mut [u64])
+fn reach(lines: &RowLines<'_, '_>, argument: &Arg, reached: Positions<'_>, next: &mut [u64])
     requires known { IsKnown lines.now.grammar argument.now }
     requires reached { AreInWord lines.now reached }
     requires next { HaveBits lines.now next.old }
     ensures { HaveBitsToo next.old next.new (IsReachedBy lines.now argument.now (IsAmong reached.entry)) }
 {
     let last = lines.problem().letters().len();
-    let mut from = first_set(reached.bits, reached.first, reached.past);
+    let begins = lines.begins(argument);
+    let mut from = next_begun(begins, reached, reached.first);
     while from < reached.past {
         let ends = argument_ends(lines, argument, from as usize, last);
         if ends.start < ends.end {
             set_between(next, ends.start as u16, ends.end as u16);
         }
-        from = first_set(reached.bits, from + 1, reached.past);
+        from = next_begun(begins, reached, from + 1);
     }
 }
 
 /// Sets the bits of a boundary at which the argument may end, and no others.
 fn reach_next(
-    lines: &Lines<'_>,
+    lines: &RowLines<'_, '_>,
     argument: &Arg,
     reached: Positions<'_>,
     boundary: &mut BoundaryBits,
@@ -195,7 +221,7 @@ fn reach_next(
 /// Marks what arguments demand that begin at positions which are reached and end at wanted ones, and sets the bits of
 /// the first ones from which they lead on to one of these.
 fn mark_through(
-    lines: &Lines<'_>,
+    lines: &RowLines<'_, '_>,
     arguments: &[Arg],
     reached: Positions<'_>,
     wanted: Positions<'_>,
@@ -249,7 +275,7 @@ fn mark_through(
 /// Marks what an alternative with these arguments and lengths demands on the cells that begin at `from` and end where
 /// bits are set.
 fn mark_row_by(
-    lines: &Lines<'_>,
+    lines: &RowLines<'_, '_>,
     arguments: &[Arg],
     lengths: Lengths,
     from: u16,
@@ -291,7 +317,7 @@ fn mark_row_by(
 
 /// Marks the demanded children of the cells of a rule that begin at `from` and end where bits are set.
 fn mark_ends_children(
-    lines: &Lines<'_>,
+    lines: &RowLines<'_, '_>,
     rule: u32,
     from: u16,
     ends: &[u64],
@@ -372,5 +398,6 @@ pub fn mark_row_children(
     if first_set(ends, start, end) == end {
         return;
     }
-    mark_ends_children(lines, rule, from, ends, &mut room.boundaries, marks);
+    let lines = RowLines::new(lines, &room.letters);
+    mark_ends_children(&lines, rule, from, ends, &mut room.boundaries, marks);
 }

@@ -55,7 +55,7 @@ pub(crate) fn marks_by_rows<'a>(
     problem.admissible();
     demanded_cells_are_counted();
     let letters = problem.letters().len();
-    let mut room = RowRoom::new(alloc, letters + 1)?;
+    let mut room = RowRoom::new(alloc, problem)?;
     for from in 0..letters as u16 + 1 {
         if marks.has_start(from) {
             settle_rows(lines, layout, order, from, &mut room, &mut marks);

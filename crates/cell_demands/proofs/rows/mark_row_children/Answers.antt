@@ -1,4 +1,4 @@
-use Rattle.std.proofs.Common.{◌≡◌, ◌↔◌, ◌+◌, ◌-◌, ◌<◌, ◌≤◌, ℕ, List, length, ap, subst, inl, arith}
+use Rattle.std.proofs.Common.{◌≡◌, ◌↔◌, ◌+◌, ◌-◌, ◌<◌, ◌≤◌, ℕ, List, length, sym, ap, subst, inl, arith}
 use Rattle.adp_model.specs.declared.cell.Cell.{Cell}
 use Rattle.adp_model.specs.PosedProblem.{PosedProblem}
 use Rattle.adp_model.specs.ProblemFields.{IsAdmissible}
@@ -73,9 +73,11 @@ returns-then-first_set-end-clause-marked c =
 pub mark_ends_children-requires-clause-counted : goal.mark_ends_children-requires-clause-counted
 mark_ends_children-requires-clause-counted c = λ child is.
     let at = (goal.at.mark_ends_children-requires-clause-counted c).After-ends-start in
-    c.requires.counted child
+    let C : PosedProblem → Type 0 = λ p. IsCounted p.grammar (length p.word) child in
+    let E : PosedProblem → Type 0 = λ p. IsChildOfEnds p c.args.rule c.args.from c.find_ends.new.ends child in
+    subst C (sym c.new-lines.ensures) (c.requires.counted child
     (of_row c.args.lines.now c.args.marks.now c.args.rule c.args.from c.ends-start.result.start c.ends-start.result.end c.requires.same_problem.1
-    (counted at) c.cells.ensures c.find_ends.new.ends c.find_ends.ensures.exact child is)
+    (counted at) c.cells.ensures c.find_ends.new.ends c.find_ends.ensures.exact child (subst E c.new-lines.ensures is)))
 
 pub returns-clause-marked : goal.returns-clause-marked
 returns-clause-marked c =
@@ -88,4 +90,5 @@ returns-clause-marked c =
     c.find_ends.ensures.exact)
     (of_ends p marks c.args.rule c.args.from c.ends-start.result.start c.ends-start.result.end c.requires.same_problem.1 (counted at) c.cells.ensures ends
     c.find_ends.ensures.exact)
-    c.mark_ends_children.ensures.marked
+    (subst (λ (it : PosedProblem). AreMarkedInRows marks c.mark_ends_children.new.marks (IsChildOfEnds it c.args.rule c.args.from ends)) c.new-lines.ensures
+    c.mark_ends_children.ensures.marked)

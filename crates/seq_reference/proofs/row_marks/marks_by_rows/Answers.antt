@@ -20,6 +20,12 @@ counted c =
 letters : (c : After-letters-letters) → length c.letters-letters.result.now ≡ length c.args.lines.now.word
 letters c = ap length c.letters-letters.ensures.word ∙ ap (λ (p : PosedProblem). length p.word) c.problem-problem.ensures
 
+pub loop-from-init : goal.loop-from-init
+loop-from-init c = record {
+  room = subst (λ (p : PosedProblem). IsRoomFor p c.in_ok-room.room) c.problem-problem.ensures c.in_ok-room.ensures;
+  swept = c.requires.swept;
+}
+
 pub loop-from-preserved : goal.loop-from-preserved
 loop-from-preserved c =
     let before = (goal.at.loop-from-preserved c).After-letters-letters in
