@@ -1,3 +1,4 @@
+pub mod CellNumbers
 pub mod RuleBits
 pub mod Numbers
 pub mod Ranks
@@ -5,3 +6,4 @@ pub mod Straights
 pub mod VisitSteps
 pub mod RowSteps
 pub mod Sweeps
+pub mod Leading

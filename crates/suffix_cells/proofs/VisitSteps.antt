@@ -1,5 +1,5 @@
 -- What is visited, by bits.
-use Rattle.std.proofs.Common.{◌≡◌, ◌↔◌, ℕ, zero, ◌*◌, ◌%◌, ◌^◌, ◌<◌, ◌≤◌, Option, Some, None, List, length, set, replicate}
+use Rattle.std.proofs.Common.{◌≡◌, ◌↔◌, ◌⊎◌, ℕ, zero, ◌*◌, ◌%◌, ◌^◌, ◌<◌, ◌≤◌, Option, Some, None, List, length, set, replicate}
 use Rattle.std.proofs.Common.{refl, sym, ap, subst, inl, inr, ⊎_elim, ◌∙◌, arith}
 use Rattle.std.specs.Prelude.{bit_or, slice_index, MatchOption}
 use Rattle.std.specs.Int.{bit_at, w128}
@@ -78,6 +78,10 @@ module _ (marks : CellMarks) (order numbers : List ℕ) (are : AreNumbers (lengt
         };
         in_rows = λ other e. subst (IsMarkedInRow marks) (sym e) row;
       }
+
+  -- the rule is not
+  pub not_marked : (bit_at (slice_index bits from) number ≡ 1 → ⊥) → IsMarkedInRow marks cell → ⊥
+  not_marked clear row = clear ((exact from number).1 (record { rule = rule; stands = are.there rule known; marked = row }))
 
   -- it is now
   module _ (within : from < length bits) (in_rows : (other : Cell) → IsMarked marks other → IsMarkedInRow marks other)
@@ -173,3 +177,9 @@ module _ (marks : CellMarks) (order numbers : List ℕ) (are : AreNumbers (lengt
     pub still_in_rows : (other : Cell) → IsMarked new other → IsMarkedInRow new other
     still_in_rows other marked =
         ⊎_elim (λ was. more.rows_stay other (in_rows other was)) (rows other) ((more.exact other).0 marked)
+
+    pub rows_now : (other : Cell) → IsMarkedInRow new other ↔ (IsMarkedInRow marks other ⊎ (other ≡ cell))
+    rows_now other = (
+      λ row. ⊎_elim (λ was. inl (in_rows other was)) inr ((more.exact other).0 (inl row)),
+      ⊎_elim (more.rows_stay other) (rows other),
+    )

@@ -6,6 +6,7 @@ mod laws;
 mod marking;
 mod rank_order;
 mod straight;
+mod targets;
 mod visits;
 
 pub use laws::demanded_cells_end_with_the_word;

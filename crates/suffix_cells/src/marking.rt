@@ -1,6 +1,6 @@
 //! The demanded cells, marked from the axiom's cell on.
 
-ghost use Rattle.std.specs.Prelude.{◌≡◌, ◌↔◌, ℕ, ◌+◌, ◌<◌, ◌≤◌, IfOk, length};
+ghost use Rattle.std.specs.Prelude.{◌≡◌, ◌↔◌, ℕ, ◌+◌, ◌<◌, ◌≤◌, IfOk, IfSome, length};
 ghost use Rattle.std.specs.List.{AllByRecursion};
 ghost use Rattle.adp_model.specs.declared.cell.Cell.{Cell};
 ghost use Rattle.adp_model.specs.PosedProblem.{IsSpan};
@@ -15,9 +15,11 @@ ghost use Rattle.split_lines.specs.Laid.{Demands, DemandsBy};
 ghost use Rattle.suffix_cells.specs.Ranks.{AreRanked};
 ghost use Rattle.suffix_cells.specs.Straight.{AreStraight, IsStraight};
 ghost use Rattle.suffix_cells.specs.Sweeping.{AreSwept, IsBeforeStart};
+ghost use Rattle.suffix_cells.specs.Targets.{AreTargets, LeadsTo};
 ghost use Rattle.suffix_cells.specs.Visits.{suffix_cell};
 
 use crate::laws::demanded_cells_end_with_the_word;
+use crate::targets::{target_at, targets_of};
 use crate::visits::{MOST_RULES, Visits};
 use adp_model::laws::demand::{demanded_cells_are_counted, demanded_children_are_below};
 use adp_model::laws::well_formed::{
@@ -112,11 +114,42 @@ pub fn mark_children(lines: &Lines<'_>, rule: u32, from: u16, visits: &mut Visit
     }
 }
 
+/// The same, where the rules to which the cell's rule leads one letter later may be told: if these are all visited
+/// there, nothing is left to be marked.
+#[inline]
+fn mark_others(
+    lines: &Lines<'_>,
+    targets: Option<u128>,
+    rule: u32,
+    from: u16,
+    visits: &mut Visits<'_>,
+)
+    requires straight { AreStraight lines.now }
+    requires targets { IfSome targets (LeadsTo lines.now visits.old.order rule) }
+    requires rule { rule < length lines.now.grammar.rules }
+    requires from { from ≤ length lines.now.word }
+    requires same_problem { visits.old.marks.problem ≡ lines.now }
+    requires counted { (child : Cell) → IsDemandedChild lines.now (suffix_cell lines.now rule from) child
+        → IsCounted lines.now.grammar (length lines.now.word) child }
+    ensures marked { AreMarkedInRows visits.old.marks visits.new.marks
+        (IsDemandedChild lines.now (suffix_cell lines.now rule from)) }
+    ensures order { visits.new.order ≡ visits.old.order }
+{
+    lines.problem().admissible();
+    if let Some(bits) = targets {
+        if visits.have_all(from + 1, bits) {
+            return;
+        }
+    }
+    mark_children(lines, rule, from, visits);
+}
+
 /// Settles the cells that are visited at a start, by falling ranks.
 #[inline]
-fn settle_start(lines: &Lines<'_>, from: u16, visits: &mut Visits<'_>)
+fn settle_start(lines: &Lines<'_>, targets: &[Option<u128>], from: u16, visits: &mut Visits<'_>)
     requires straight { AreStraight lines.now }
     requires ranked { AreRanked lines.now visits.old.order }
+    requires targets { AreTargets lines.now visits.old.order targets.now }
     requires swept { AreSwept lines.now visits.old.marks (IsBeforeStart from) }
     ensures swept { AreSwept lines.now visits.new.marks (IsBeforeStart (from + 1)) }
     ensures order { visits.new.order ≡ visits.old.order }
@@ -128,7 +161,8 @@ fn settle_start(lines: &Lines<'_>, from: u16, visits: &mut Visits<'_>)
     numbers_fit_together();
     let mut below = MOST_RULES;
     while let Some(number) = visits.last(from, below) {
-        mark_children(lines, visits.rule(number), from, visits);
+        let rule = visits.rule(number);
+        mark_others(lines, target_at(targets, number), rule, from, visits);
         below = number;
     }
 }
@@ -175,8 +209,9 @@ pub fn mark_suffixes<'a>(
     problem.admissible();
     demanded_cells_are_counted();
     let mut visits = first_visits(alloc, lines, layout, order)?;
+    let targets = targets_of(alloc, lines, &visits)?;
     for from in 0..problem.letters().len() as u16 + 1 {
-        settle_start(lines, from, &mut visits);
+        settle_start(lines, &targets, from, &mut visits);
     }
     Ok(visits)
 }

@@ -1,11 +1,11 @@
 //! Marks of cells that end where the word ends, with bits of the rules that are visited at each start.
 
-ghost use Rattle.std.specs.Prelude.{◌≡◌, ℕ, ◌<◌, ◌≤◌, IfOk, MatchOption, Some, length, slice_get, slice_index};
+ghost use Rattle.std.specs.Prelude.{◌≡◌, ℕ, ◌<◌, ◌≤◌, IfOk, IsTrue, MatchOption, Some, length, slice_get, slice_index};
 ghost use Rattle.std.specs.Int.{bit_at};
 ghost use Rattle.adp_model.specs.declared.cell.Cell.{Cell};
-ghost use Rattle.adp_model.specs.Cells.{IsCounted};
+ghost use Rattle.adp_model.specs.Cells.{IsCounted, IsCountOf};
 ghost use Rattle.cell_demands.specs.Rows.{AreMarkedInRows};
-ghost use Rattle.cell_tables.specs.Marks.{IsMarked};
+ghost use Rattle.cell_tables.specs.Marks.{IsMarked, IsMarkedInRow};
 ghost use Rattle.suffix_cells.specs.Ranks.{AreRanked};
 ghost use Rattle.suffix_cells.specs.Visits.{AreNumbers, IsFirstBit, IsFirstFrom, IsLastBelow, IsLastBit};
 ghost use Rattle.suffix_cells.specs.Visits.{IsVisited, suffix_cell};
@@ -82,6 +82,8 @@ pub struct Visits<'a> {
     numbers: Vec<u8>,
     /// The bits of each start.
     bits: Vec<u128>,
+    /// How many bits are set.
+    cells: u64,
 }
 
 impl<'a> Model for Visits<'a> {
@@ -123,6 +125,7 @@ impl<'a> Visits<'a> {
             order,
             numbers,
             bits,
+            cells: 0,
         })
     }
 
@@ -143,6 +146,33 @@ impl<'a> Visits<'a> {
         self.order[number as usize]
     }
 
+    /// The number of a rule. Takes constant time and no memory.
+    #[inline]
+    pub(crate) fn number(&self, rule: u32) -> u16
+        requires { rule < length self.now.marks.problem.grammar.rules }
+        ensures there { slice_get self.now.order result ≡ Some rule }
+        ensures few { result < 128 }
+    {
+        u16::from(self.numbers[rule as usize])
+    }
+
+    /// How many rules there are.
+    pub(crate) fn rules(&self) -> u16
+        ensures same { result ≡ length self.now.order }
+        ensures few { result ≤ 128 }
+    {
+        self.order.len() as u16
+    }
+
+    /// Whether all rules are visited at a start whose numbers' bits are set. Takes constant time and no memory.
+    #[inline]
+    pub(crate) fn have_all(&self, from: u16, bits: u128) -> bool
+        ensures { IsTrue result → (number : ℕ) → bit_at bits number ≡ 1 → IsVisited self.now from number }
+    {
+        let visited = bits_at(&self.bits, from);
+        visited | bits == visited
+    }
+
     /// Visits a rule at a start, where it is not: its cell there is marked. Takes constant time and no memory.
     #[inline]
     pub fn visit(&mut self, rule: u32, from: u16)
@@ -152,6 +182,8 @@ impl<'a> Visits<'a> {
             (λ cell. cell ≡ suffix_cell self.old.marks.problem rule from) }
         ensures order { self.new.order ≡ self.old.order }
     {
+        self.problem.admissible();
+        self.marks.cells();
         let number = self.numbers[rule as usize];
         let bits = self.bits[from as usize];
         if bits >> number & 1 == 1 {
@@ -160,6 +192,14 @@ impl<'a> Visits<'a> {
         self.bits[from as usize] = bits | 1 << number;
         let to = self.problem.letters().len() as u16;
         self.marks.mark(Cell { rule, from, to });
+        self.cells += 1;
+    }
+
+    /// How many cells are marked. Takes constant time and no memory.
+    pub fn cells(&self) -> u64
+        ensures { IsCountOf (IsMarkedInRow self.now.marks) result }
+    {
+        self.cells
     }
 
     /// The first number from `least` on that is visited at a start. Takes constant time and no memory.

@@ -1,9 +1,16 @@
-use Rattle.std.proofs.Common.{◌≡◌, length, ap, subst, ◌∙◌, arith}
+use Rattle.std.proofs.Common.{◌≡◌, ℕ, Option, List, length, ap, sym, subst, ◌∙◌, arith}
 use Rattle.adp_model.specs.declared.cell.Cell.{Cell}
 use Rattle.adp_model.specs.PosedProblem.{PosedProblem}
 use Rattle.adp_model.specs.Demand.{IsDemanded}
+use Rattle.suffix_cells.specs.Targets.{AreTargets}
 use Rattle.suffix_cells.proofs.Sweeps.{Counted, all_in_rows}
 use Rattle.suffix_cells.proofs.marking.mark_suffixes.Goals as goal
+
+pub settle_start-requires-clause-targets : goal.settle_start-requires-clause-targets
+settle_start-requires-clause-targets c =
+    let T : List (Option ℕ) → Type 0 = AreTargets c.args.lines.now c.loop-from.visits.order in
+    let O : List ℕ → Type 0 = λ order. AreTargets c.args.lines.now order c.in_ok-targets.targets.items in
+    subst T (sym c.deref.ensures.value) (subst O (sym c.loop-from.invariant.order) c.in_ok-targets.ensures)
 
 pub returns-clause-rows : goal.returns-clause-rows
 returns-clause-rows c =

@@ -1,13 +1,16 @@
 use Rattle.std.proofs.Common.{◌≡◌, ℕ, ◌≤◌, Some, List, length, slice_get, refl, sym, ap, subst, inl, ◌∙◌, arith}
+use Rattle.std.specs.Prelude.{IfSome}
 use Rattle.std.proofs.lemmas.Option.{slice_get_within}
 use Rattle.adp_model.specs.declared.cell.Cell.{Cell}
 use Rattle.adp_model.specs.PosedProblem.{PosedProblem}
 use Rattle.adp_model.specs.Demand.{IsBelow, IsDemanded, IsDemandedChild, Child}
 use Rattle.cell_tables.specs.Marks.{CellMarks, IsMarkedInRow}
+use Rattle.suffix_cells.specs.Targets.{LeadsTo}
 use Rattle.suffix_cells.specs.Visits.{IsVisited, suffix_cell}
+use Rattle.suffix_cells.proofs.Leading.{told}
 use Rattle.suffix_cells.proofs.Sweeps.{Counted, swept_down, swept_first, swept_number, swept_start}
 use Rattle.suffix_cells.proofs.marking.settle_start.Goals as goal
-use Rattle.suffix_cells.proofs.marking.settle_start.Goals.{After-numbers_fit_together, After-rule, In-Some}
+use Rattle.suffix_cells.proofs.marking.settle_start.Goals.{After-numbers_fit_together, After-rule-rule, In-Some}
 
 counted : (c : After-numbers_fit_together) → (cell : Cell) → IsDemanded c.args.lines.now cell → Counted c.args.lines.now cell
 counted c =
@@ -35,21 +38,21 @@ few c =
     )
 
 -- the cell of the number that is found
-stands : (c : After-rule) → slice_get c.args.visits.now.order c.in-Some.number ≡ Some c.rule.result
-stands c = ap (λ (order : List ℕ). slice_get order c.in-Some.number) (sym c.loop-number.invariant.order) ∙ c.rule.ensures
+stands : (c : After-rule-rule) → slice_get c.args.visits.now.order c.in-Some.number ≡ Some c.rule-rule.result
+stands c = ap (λ (order : List ℕ). slice_get order c.in-Some.number) (sym c.loop-number.invariant.order) ∙ c.rule-rule.ensures
 
-row : (c : After-rule) → IsMarkedInRow c.loop-number.visits.marks (suffix_cell c.args.lines.now c.rule.result c.args.from)
+row : (c : After-rule-rule) → IsMarkedInRow c.loop-number.visits.marks (suffix_cell c.args.lines.now c.rule-rule.result c.args.from)
 row c =
     let it = c.in-Some.ensures.visited in
-    let told : Some it.rule ≡ Some c.rule.result = sym it.stands ∙ c.rule.ensures in
-    let same : it.rule ≡ c.rule.result = cc in
+    let told : Some it.rule ≡ Some c.rule-rule.result = sym it.stands ∙ c.rule-rule.ensures in
+    let same : it.rule ≡ c.rule-rule.result = cc in
     let marks = c.loop-number.visits.marks in
     let R : ℕ → Type 0 = λ rule. IsMarkedInRow marks (suffix_cell marks.problem rule c.args.from) in
-    let P : PosedProblem → Type 0 = λ p. IsMarkedInRow marks (suffix_cell p c.rule.result c.args.from) in
+    let P : PosedProblem → Type 0 = λ p. IsMarkedInRow marks (suffix_cell p c.rule-rule.result c.args.from) in
     subst P c.loop-number.invariant.swept.problem (subst R same it.marked)
 
-demanded : (c : After-rule) → IsDemanded c.args.lines.now (suffix_cell c.args.lines.now c.rule.result c.args.from)
-demanded c = c.loop-number.invariant.swept.demanded (suffix_cell c.args.lines.now c.rule.result c.args.from) (inl (row c))
+demanded : (c : After-rule-rule) → IsDemanded c.args.lines.now (suffix_cell c.args.lines.now c.rule-rule.result c.args.from)
+demanded c = c.loop-number.invariant.swept.demanded (suffix_cell c.args.lines.now c.rule-rule.result c.args.from) (inl (row c))
 
 -- what is visited, in the order as it was at first
 module _ (marks : CellMarks) (order now : List ℕ) (same : now ≡ order) (from : ℕ) where
@@ -65,46 +68,54 @@ loop-number-init c =
           (few at) c.requires.swept;
     }
 
-pub rule-requires : goal.rule-requires
-rule-requires c =
+pub rule-rule-requires : goal.rule-rule-requires
+rule-rule-requires c =
     let it = c.in-Some.ensures.visited in
     slice_get_within c.loop-number.visits.order c.in-Some.number it.rule it.stands
 
-pub mark_children-requires-clause-rule : goal.mark_children-requires-clause-rule
-mark_children-requires-clause-rule c =
-    let before = (goal.at.mark_children-requires-clause-rule c).After-numbers_fit_together in
-    let at = (goal.at.mark_children-requires-clause-rule c).After-rule in
-    (counted before (suffix_cell c.args.lines.now c.rule.result c.args.from) (demanded at)).rule
+pub mark_others-requires-clause-targets : goal.mark_others-requires-clause-targets
+mark_others-requires-clause-targets c =
+    let at = (goal.at.mark_others-requires-clause-targets c).After-rule-rule in
+    let L : List ℕ → Type 0 = λ order. IfSome c.target_at.result (LeadsTo c.args.lines.now order c.rule-rule.result) in
+    subst L (sym c.loop-number.invariant.order)
+    (told c.args.lines.now c.args.visits.now.order c.args.targets.now c.requires.targets c.in-Some.number c.rule-rule.result (stands at)
+    c.target_at.result c.target_at.ensures)
 
-pub mark_children-requires-clause-from : goal.mark_children-requires-clause-from
-mark_children-requires-clause-from c =
-    let before = (goal.at.mark_children-requires-clause-from c).After-numbers_fit_together in
-    let at = (goal.at.mark_children-requires-clause-from c).After-rule in
-    (counted before (suffix_cell c.args.lines.now c.rule.result c.args.from) (demanded at)).in_order
+pub mark_others-requires-clause-rule : goal.mark_others-requires-clause-rule
+mark_others-requires-clause-rule c =
+    let before = (goal.at.mark_others-requires-clause-rule c).After-numbers_fit_together in
+    let at = (goal.at.mark_others-requires-clause-rule c).After-rule-rule in
+    (counted before (suffix_cell c.args.lines.now c.rule-rule.result c.args.from) (demanded at)).rule
 
-pub mark_children-requires-clause-counted : goal.mark_children-requires-clause-counted
-mark_children-requires-clause-counted c = λ child is.
-    let before = (goal.at.mark_children-requires-clause-counted c).After-numbers_fit_together in
-    let at = (goal.at.mark_children-requires-clause-counted c).After-rule in
-    counted before child (Child (suffix_cell c.args.lines.now c.rule.result c.args.from) child (demanded at) is)
+pub mark_others-requires-clause-from : goal.mark_others-requires-clause-from
+mark_others-requires-clause-from c =
+    let before = (goal.at.mark_others-requires-clause-from c).After-numbers_fit_together in
+    let at = (goal.at.mark_others-requires-clause-from c).After-rule-rule in
+    (counted before (suffix_cell c.args.lines.now c.rule-rule.result c.args.from) (demanded at)).in_order
+
+pub mark_others-requires-clause-counted : goal.mark_others-requires-clause-counted
+mark_others-requires-clause-counted c = λ child is.
+    let before = (goal.at.mark_others-requires-clause-counted c).After-numbers_fit_together in
+    let at = (goal.at.mark_others-requires-clause-counted c).After-rule-rule in
+    counted before child (Child (suffix_cell c.args.lines.now c.rule-rule.result c.args.from) child (demanded at) is)
 
 pub loop-number-preserved : goal.loop-number-preserved
 loop-number-preserved c =
     let before = (goal.at.loop-number-preserved c).After-numbers_fit_together in
-    let at = (goal.at.loop-number-preserved c).After-rule in
+    let at = (goal.at.loop-number-preserved c).After-rule-rule in
     let p = c.args.lines.now in
     let order = c.args.visits.now.order in
     let marks = c.loop-number.visits.marks in
     let number = c.in-Some.number in
     let same = c.loop-number.invariant.order in
     record {
-      order = c.mark_children.ensures.order ∙ same;
+      order = c.mark_others.ensures.order ∙ same;
       swept = swept_number p (counted before) (ends before) order c.requires.ranked c.args.from c.admissible.ensures.ranks (below before)
-          number c.rule.result (stands at) marks c.mark_children.new.visits.marks
+          number c.rule-rule.result (stands at) marks c.mark_others.new.visits.marks
           (swept_down p (counted before) (ends before) order c.requires.ranked c.args.from marks c.loop-number.below c.loop-number.invariant.swept
           number (λ other high low visited. c.in-Some.ensures.none_behind other high low
           (in_order marks order c.loop-number.visits.order same c.args.from other visited)))
-          (row at) c.mark_children.ensures.marked;
+          (row at) c.mark_others.ensures.marked;
     }
 
 pub returns-clause-swept : goal.returns-clause-swept

@@ -3,6 +3,8 @@ use Rattle.std.specs.Prelude.{slice_index}
 use Rattle.std.specs.Int.{bit_at}
 use Rattle.std.proofs.lemmas.List.{length-replicate}
 use Rattle.adp_model.specs.PosedProblem.{PosedProblem}
+use Rattle.cell_tables.specs.Marks.{IsMarkedInRow}
+use Rattle.cell_tables.proofs.CellCounts.{no_cells}
 use Rattle.suffix_cells.specs.Visits.{AreNumbers}
 use Rattle.suffix_cells.proofs.VisitSteps.{no_bit}
 use Rattle.suffix_cells.proofs.visits.Visits.new.Goals as goal
@@ -24,4 +26,5 @@ invariant_of-result c =
         λ set. absurd (no_bit c.positions.result from number (ap (λ (xs : List ℕ). bit_at (slice_index xs from) number) (sym zeros) ∙ set)),
         λ it. absurd (c.in_ok-marks.ensures.none _ (inl it.marked)),
       );
+      counted = no_cells (IsMarkedInRow marks) (λ cell row. c.in_ok-marks.ensures.none cell (inl row));
     }
