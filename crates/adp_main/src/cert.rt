@@ -6,7 +6,7 @@ ghost use Rattle.adp_io.specs.Streams.{SameTold};
 ghost use Rattle.adp_model.specs.Report.{line};
 ghost use Rattle.evaluators.specs.Runs.{IsFinished};
 ghost use Rattle.split_lines.specs.Shared.{without_word};
-ghost use Rattle.verdicts.specs.Certificates.{IsBlockReport, before_block, behind_blocks};
+ghost use Rattle.verdicts.specs.Certificates.{IsBlockReport, behind_blocks};
 ghost use Rattle.verdicts.specs.declared.command.Mode.TheVariants.{Cert};
 ghost use Rattle.adp_main.specs.Faults.{status_after};
 ghost use Rattle.adp_main.specs.Reporting.{HasWritten};
@@ -16,9 +16,11 @@ ghost use Rattle.adp_main.specs.Writing.{IsWordEnding};
 ghost use Rattle.adp_main.specs.declared.status.Status.TheVariants.{WriteFault};
 
 use crate::evaluating::{run_over, write_run};
+use crate::preparing::laid_out;
 use crate::writing::write_report;
 use adp_io::Sink;
 use adp_model::Problem;
+use cell_layouts::Layout;
 use evaluators::{Finished, Gate};
 use report::Fault;
 use split_lines::Shared;
@@ -46,21 +48,22 @@ pub(crate) fn report_word<R: Threads + Sync, K: Sink, G: Gate>(
         (G.runs gate.old) (G.runs gate.new) (K.held out.old) (K.held out.new) }
 {
     let finished = run_over(rt, alloc, command, problem, shared, &*gate)?;
-    let report = block_report(alloc, number, problem, &finished)?;
+    let layout = laid_out(alloc, problem, shared)?;
+    let report = block_report(alloc, number, &layout, &finished)?;
     write_run(alloc, command, problem, &finished, &report, out, gate)
 }
 
-/// The block of a word that evaluators solved; before that of the first word stands the line `cert`.
-pub(crate) fn block_report<'a>(
+/// The block of a word that is laid out and that evaluators solved; before that of the first word stands the line `cert`.
+pub(crate) fn block_report(
     alloc: Global,
     number: u32,
-    problem: &'a Problem<'a>,
-    finished: &Finished<'a>,
+    layout: &Layout<'_>,
+    finished: &Finished<'_>,
 ) -> Result<Vec<u8>, AllocError>
-    requires { (seed : ℕ) × IsFinished problem.now seed finished.now }
-    ensures { IfOk result (λ report. IsBlockReport number problem.now report.items) }
+    requires { (seed : ℕ) × IsFinished layout.now seed finished.now }
+    ensures { IfOk result (λ report. IsBlockReport number layout.now report.items) }
 {
-    let block = certificate(alloc, number, problem, &finished.closed)?;
+    let block = certificate(alloc, number, layout, &finished.closed)?;
     if number == 1 {
         behind_line(alloc, b"cert\n", &block)
     } else {

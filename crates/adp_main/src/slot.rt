@@ -2,6 +2,8 @@
 ghost use Rattle.std.specs.Prelude.{◌≡◌, ℕ, IfOk, IfSome, None};
 ghost use Rattle.std.specs.Option.{option_copied};
 ghost use Rattle.adp_model.specs.PosedProblem.{PosedProblem};
+ghost use Rattle.evaluators.specs.Runs.{IsFinished};
+ghost use Rattle.verdicts.specs.Certificates.{IsBlockReport};
 ghost use Rattle.verdicts.specs.declared.command.Mode.TheVariants.{Lex, Serial};
 ghost use Rattle.verdicts.specs.Verdict.{IsReportWith};
 ghost use Rattle.adp_main.specs.Groups.{IsEvaluated, IsPosted, IsSolvedFor, IsTold, post_of};
@@ -11,7 +13,6 @@ use crate::cert::block_report;
 use crate::evaluating::{plain_report, run_alone};
 use crate::lex::{Compiled, report_of_both};
 use crate::serial::swept_report;
-use adp_model::Problem;
 use evaluators::{Door, Finished, Gate, NotedRun, Way};
 use split_lines::Sharing;
 use std::alloc::{AllocError, Global};
@@ -96,7 +97,7 @@ impl<'a, 'g, G> Slot<'a, 'g, G> {
             command,
             self.number,
             self.made,
-            problem,
+            &self.sharing,
             &finished,
         )?;
         let note = finished.note(self.alloc, problem, command.seed)?;
@@ -108,44 +109,59 @@ impl<'a, 'g, G> Slot<'a, 'g, G> {
 }
 
 /// The report of a word that evaluators solved.
-fn report_of<'a>(
+fn report_of(
     alloc: Global,
     command: &Command<'_>,
     number: u32,
     made: Option<&Compiled>,
-    problem: &'a Problem<'a>,
-    finished: &Finished<'a>,
+    sharing: &Sharing<'_>,
+    finished: &Finished<'_>,
 ) -> Result<Vec<u8>, AllocError>
     requires mode { IsEvaluated command.now.mode }
-    requires asked { (asked : PosedProblem) × IsSolvedFor command.now (option_copied made) asked problem.now }
-    requires run { IsRunFor command.now problem.now finished.now }
+    requires asked { (asked : PosedProblem) × IsSolvedFor command.now (option_copied made) asked sharing.now }
+    requires run { IsRunFor command.now sharing.now finished.now }
     ensures { IfOk result (λ report. (asked : PosedProblem)
-        → IsSolvedFor command.now (option_copied made.entry) asked problem.now
+        → IsSolvedFor command.now (option_copied made.entry) asked sharing.now
         → IsReportWith command.now.mode command.now None number asked finished.now.wins.items report.items) }
 {
     match made {
-        Some(made) => report_of_both(alloc, number, made, problem, finished),
-        None => own_report(alloc, command, number, problem, finished),
+        Some(made) => report_of_both(alloc, number, made, sharing.problem(), finished),
+        None => own_report(alloc, command, number, sharing, finished),
     }
 }
 
 /// The report of a word that evaluators solved under its own algebra.
-fn own_report<'a>(
+fn own_report(
     alloc: Global,
     command: &Command<'_>,
     number: u32,
-    problem: &'a Problem<'a>,
-    finished: &Finished<'a>,
+    sharing: &Sharing<'_>,
+    finished: &Finished<'_>,
 ) -> Result<Vec<u8>, AllocError>
     requires mode { IsEvaluated command.now.mode }
     requires single { command.now.mode ≡ Lex → ⊥ }
-    requires run { IsRunFor command.now problem.now finished.now }
-    ensures { IfOk result (λ report. IsReportWith command.now.mode command.now None number problem.now
+    requires run { IsRunFor command.now sharing.now finished.now }
+    ensures { IfOk result (λ report. IsReportWith command.now.mode command.now None number sharing.now
         finished.now.wins.items report.items) }
 {
     if command.certifies() {
-        block_report(alloc, number, problem, finished)
+        certified_report(alloc, number, sharing, finished)
     } else {
-        plain_report(alloc, number, problem, finished)
+        plain_report(alloc, number, sharing.problem(), finished)
     }
+}
+
+/// The block of a word that evaluators solved.
+fn certified_report(
+    alloc: Global,
+    number: u32,
+    sharing: &Sharing<'_>,
+    finished: &Finished<'_>,
+) -> Result<Vec<u8>, AllocError>
+    requires { (seed : ℕ) × IsFinished sharing.now seed finished.now }
+    ensures { IfOk result (λ report. IsBlockReport number sharing.now report.items) }
+{
+    let prepared = sharing.prepared(alloc)?;
+    let layout = prepared.layout();
+    block_report(alloc, number, layout, finished)
 }

@@ -278,7 +278,7 @@ fn write_word<R: Threads + Sync, K: Sink, G: Gate>(
         },
         Mode::KBest => {
             let problem = admitted(&job.checked, rows, word);
-            kbest::report_word(alloc, command, number, &problem, out)
+            kbest::report_word(alloc, command, number, &problem, shared, out)
         },
         Mode::Verify | Mode::Big => unreachable!(),
     }

@@ -1,6 +1,6 @@
 //! The report of a word's first trees, by lists that grow as far as they are asked for.
 
-ghost use Rattle.std.specs.Prelude.{◌≡◌, ◌++◌, ◌<◌, ◌≤◌, ℕ, List, IfOk, IfSome, OnOk, true, length};
+ghost use Rattle.std.specs.Prelude.{◌≡◌, ◌++◌, ◌<◌, ◌≤◌, List, IfOk, IfSome, OnOk, true, length};
 ghost use Rattle.adp_model.specs.Demand.{IsDemanded};
 ghost use Rattle.adp_model.specs.PosedProblem.{axiom_cell};
 ghost use Rattle.adp_model.specs.Report.{tree_lines};
@@ -15,12 +15,10 @@ use crate::growing::{Basis, Grown, Told, slot_of, told_at};
 use crate::grown_trees::{grow_along, grown_nodes};
 use crate::listed_trees::Listed;
 use crate::reports::push_lines;
-use adp_model::Problem;
-use cell_layouts::{Layout, Places};
+use cell_layouts::Places;
 use first_trees::laws::{cells_have_first_trees, first_trees_are_unique};
 use report::push_number_line;
 use seq_reference::Solved;
-use split_lines::Lines;
 use std::alloc::{AllocError, Global};
 
 /// Appends the lines of the listed tree of the whole word at this place, where its nodes are known. Tells whether they
@@ -125,21 +123,21 @@ fn report_from(
     report_of(alloc, number, basis, &mut grown)
 }
 
-/// The report of a word with its first `k` trees, by its lines, its best scores and its layout.
-fn report_over(
+/// The report of a word with its first `k` trees, by its best scores and lists that grow as far as they are asked for,
+/// where they grow as far.
+pub fn grown_report(
     alloc: Global,
     number: u32,
-    lines: &Lines<'_>,
     solved: &Solved<'_>,
-    layout: &Layout<'_>,
     k: u32,
 ) -> Result<Option<Vec<u8>>, AllocError>
     requires some { 0 < k }
     requires few { k ≤ most_first_trees }
-    requires solved { solved.now ≡ lines.now }
-    requires layout { layout.now ≡ lines.now }
-    ensures { IfOk result (λ report. IfSome report (λ report. IsListReport number lines.now k report.items)) }
+    ensures { IfOk result (λ report. IfSome report (λ report. IsListReport number solved.now k report.items)) }
 {
+    let prepared = solved.prepared();
+    let lines = prepared.lines();
+    let layout = prepared.layout();
     let basis = Basis {
         lines,
         solved,
@@ -147,39 +145,4 @@ fn report_over(
         k: k as usize,
     };
     report_from(alloc, number, &basis)
-}
-
-/// The report of a word with its first `k` trees, by its lines and its best scores.
-fn report_by_lines(
-    alloc: Global,
-    number: u32,
-    lines: &Lines<'_>,
-    solved: &Solved<'_>,
-    k: u32,
-) -> Result<Option<Vec<u8>>, AllocError>
-    requires some { 0 < k }
-    requires few { k ≤ most_first_trees }
-    requires solved { solved.now ≡ lines.now }
-    ensures { IfOk result (λ report. IfSome report (λ report. IsListReport number lines.now k report.items)) }
-{
-    let layout = Layout::new(alloc, lines.problem())?;
-    report_over(alloc, number, lines, solved, &layout, k)
-}
-
-/// The report of a word with its first `k` trees, by its best scores and lists that grow as far as they are asked for,
-/// where they grow as far.
-pub fn grown_report(
-    alloc: Global,
-    number: u32,
-    problem: &Problem<'_>,
-    solved: &Solved<'_>,
-    k: u32,
-) -> Result<Option<Vec<u8>>, AllocError>
-    requires some { 0 < k }
-    requires few { k ≤ most_first_trees }
-    requires solved { solved.now ≡ problem.now }
-    ensures { IfOk result (λ report. IfSome report (λ report. IsListReport number problem.now k report.items)) }
-{
-    let lines = Lines::new(alloc, problem)?;
-    report_by_lines(alloc, number, &lines, solved, k)
 }

@@ -8,9 +8,9 @@ use crate::filling::filled_lists;
 use crate::list_table::ListTable;
 use adp_model::laws::demand::demanded_cells_are_counted;
 use adp_model::{Cell, Problem};
-use cell_tables::{Layout, Marks};
+use cell_tables::Marks;
 use seq_reference::demanded_marks;
-use split_lines::Lines;
+use split_lines::Prepared;
 use std::alloc::{AllocError, Global};
 use std::marker::Model;
 
@@ -58,18 +58,18 @@ impl<'a> Lists<'a> {
     }
 }
 
-/// The entries of the first `k` trees of the demanded cells, by the problem's lines and its layout.
-fn lists_over<'a>(
+/// The entries of the first `k` trees of a prepared problem's demanded cells. Fails for want of memory alone.
+pub fn solve_lists<'a>(
     alloc: Global,
-    lines: &Lines<'a>,
-    layout: &Layout<'a>,
+    prepared: &Prepared<'a>,
     k: u32,
 ) -> Result<Lists<'a>, AllocError>
-    requires layout { layout.now ≡ lines.now }
-    requires few { k ≤ most_first_trees }
-    ensures problem { IfOk result (λ lists. lists.problem ≡ lines.now) }
+    requires { k ≤ most_first_trees }
+    ensures problem { IfOk result (λ lists. lists.problem ≡ prepared.now) }
     ensures k { IfOk result (λ lists. lists.k ≡ k) }
 {
+    let lines = prepared.lines();
+    let layout = prepared.layout();
     let problem = lines.problem();
     let marks = demanded_marks(alloc, lines, layout)?;
     let table = filled_lists(alloc, lines, &marks, layout, k as usize)?;
@@ -79,28 +79,4 @@ fn lists_over<'a>(
         marks,
         table,
     })
-}
-
-/// The same by the problem's lines.
-fn lists_by_lines<'a>(alloc: Global, lines: &Lines<'a>, k: u32) -> Result<Lists<'a>, AllocError>
-    requires { k ≤ most_first_trees }
-    ensures problem { IfOk result (λ lists. lists.problem ≡ lines.now) }
-    ensures k { IfOk result (λ lists. lists.k ≡ k) }
-{
-    let layout = Layout::new(alloc, lines.problem())?;
-    lists_over(alloc, lines, &layout, k)
-}
-
-/// The entries of the first `k` trees of the problem's demanded cells. Fails for want of memory alone.
-pub fn solve_lists<'a>(
-    alloc: Global,
-    problem: &'a Problem<'a>,
-    k: u32,
-) -> Result<Lists<'a>, AllocError>
-    requires { k ≤ most_first_trees }
-    ensures problem { IfOk result (λ lists. lists.problem ≡ problem.now) }
-    ensures k { IfOk result (λ lists. lists.k ≡ k) }
-{
-    let lines = Lines::new(alloc, problem)?;
-    lists_by_lines(alloc, &lines, k)
 }

@@ -1,6 +1,6 @@
 //! The report of a word's first trees.
 
-ghost use Rattle.std.specs.Prelude.{◌≡◌, ◌++◌, ◌<◌, ◌≤◌, ◌⊎◌, ℕ, List, IfOk, IfSome, OnOk, length};
+ghost use Rattle.std.specs.Prelude.{◌≡◌, ◌++◌, ◌<◌, ◌≤◌, ◌⊎◌, List, IfOk, IfSome, OnOk, length};
 ghost use Rattle.adp_model.specs.Answers.{HasNoTree};
 ghost use Rattle.adp_model.specs.Demand.{IsDemanded};
 ghost use Rattle.adp_model.specs.PosedProblem.{axiom_cell};
@@ -21,7 +21,8 @@ use adp_model::laws::sizes::derived_lengths_are_within_sizes;
 use adp_model::{Answer, Problem, axiom_answer, push_signed};
 use first_trees::laws::{first_trees_are_unique, words_have_one_list_report};
 use report::{push_nodes, push_number_line};
-use seq_reference::{Solved, solve};
+use seq_reference::{Solved, solve_prepared};
+use split_lines::Prepared;
 use std::alloc::{AllocError, Global};
 use traceback::{NodeAt, preorder};
 
@@ -159,53 +160,56 @@ fn solved_report(
 fn report_by_scores(
     alloc: Global,
     number: u32,
-    problem: &Problem<'_>,
     solved: &Solved<'_>,
     k: u32,
 ) -> Result<Option<Vec<u8>>, AllocError>
     requires some { 0 < k }
     requires few { k ≤ most_first_trees }
-    requires solved { solved.now ≡ problem.now }
-    ensures { IfOk result (λ report. IfSome report (λ report. IsListReport number problem.now k report.items)) }
+    ensures { IfOk result (λ report. IfSome report (λ report. IsListReport number solved.now k report.items)) }
 {
     if k > 1 {
-        return grown_report(alloc, number, problem, solved, k);
+        return grown_report(alloc, number, solved, k);
     }
+    let problem = solved.prepared().problem();
     let report = solved_report(alloc, number, problem, solved)?;
     Ok(Some(report))
-}
-
-/// The same, where the word is not solved yet. What is solved costs each function that owns it much to prove, so that
-/// this one alone does.
-fn unlisted_report(
-    alloc: Global,
-    number: u32,
-    problem: &Problem<'_>,
-    k: u32,
-) -> Result<Option<Vec<u8>>, AllocError>
-    requires some { 0 < k }
-    requires few { k ≤ most_first_trees }
-    ensures { IfOk result (λ report. IfSome report (λ report. IsListReport number problem.now k report.items)) }
-{
-    let solved = solve(alloc, problem)?;
-    report_by_scores(alloc, number, problem, &solved, k)
 }
 
 /// The report of a word with its first `k` trees, by whole lists.
 fn listed_report(
     alloc: Global,
     number: u32,
-    problem: &Problem<'_>,
+    prepared: &Prepared<'_>,
     k: u32,
 ) -> Result<Vec<u8>, AllocError>
     requires { k ≤ most_first_trees }
-    ensures { IfOk result (λ report. IsListReport number problem.now k report.items) }
+    ensures { IfOk result (λ report. IsListReport number prepared.now k report.items) }
 {
-    let lists = solve_lists(alloc, problem, k)?;
+    let problem = prepared.problem();
+    let lists = solve_lists(alloc, prepared, k)?;
     list_report(alloc, number, problem, &lists)
 }
 
-/// The report of a word with its first `k` trees. Makes lists only where more than one tree is asked for.
+/// The report of a word with its first `k` trees, where the word is solved.
+fn report_of_solved(
+    alloc: Global,
+    number: u32,
+    solved: &Solved<'_>,
+    k: u32,
+) -> Result<Vec<u8>, AllocError>
+    requires { k ≤ most_first_trees }
+    ensures { IfOk result (λ report. IsListReport number solved.now k report.items) }
+{
+    if k > 0 {
+        if let Some(report) = report_by_scores(alloc, number, solved, k)? {
+            return Ok(report);
+        }
+    }
+    listed_report(alloc, number, solved.prepared(), k)
+}
+
+/// The report of a word with its first `k` trees, of its prepared problem. Makes lists only where more than one tree is
+/// asked for.
 ///
 /// # Errors
 ///
@@ -213,16 +217,12 @@ fn listed_report(
 pub fn first_trees_report(
     alloc: Global,
     number: u32,
-    problem: &Problem<'_>,
+    prepared: Prepared<'_>,
     k: u32,
 ) -> Result<Vec<u8>, AllocError>
     requires { k ≤ most_first_trees }
-    ensures { IfOk result (λ report. IsListReport number problem.now k report.items) }
+    ensures { IfOk result (λ report. IsListReport number prepared.entry k report.items) }
 {
-    if k > 0 {
-        if let Some(report) = unlisted_report(alloc, number, problem, k)? {
-            return Ok(report);
-        }
-    }
-    listed_report(alloc, number, problem, k)
+    let solved = solve_prepared(alloc, prepared)?;
+    report_of_solved(alloc, number, &solved, k)
 }

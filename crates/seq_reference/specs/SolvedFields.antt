@@ -9,7 +9,7 @@ use Rattle.seq_reference.specs.declared.solved.Solved.TheInside.{Inside}
 -- the demanded cells and no others are marked in their rows, their scores are entered, and the number of these cells
 -- is told
 pub record AreSolved (fields : Inside) : Type 0 where
-  pub same_problem : fields.scores.problem ≡ fields.lines
-  pub marked : (cell : Cell) → IsMarkedInRow fields.marks cell ↔ IsDemanded fields.lines cell
-  pub scored : (cell : Cell) → IsDemanded fields.lines cell → HasEntry fields.scores cell
-  pub counted : IsDemandedCount fields.lines fields.cells
+  pub same_problem : fields.scores.problem ≡ fields.prepared
+  pub marked : (cell : Cell) → IsMarkedInRow fields.marks cell ↔ IsDemanded fields.prepared cell
+  pub scored : (cell : Cell) → IsDemanded fields.prepared cell → HasEntry fields.scores cell
+  pub counted : IsDemandedCount fields.prepared fields.cells

@@ -11,13 +11,13 @@ use adp_model::laws::demand::demanded_cells_are_counted;
 use adp_model::{Answer, Answers, Cell};
 use cell_answers::{Scores, kept_answer};
 use cell_tables::Marks;
-use split_lines::Lines;
+use split_lines::Prepared;
 use std::marker::Model;
 
 /// The answers of a problem's demanded cells. Contracts see it as the problem.
 #[derive(Drop)]
 pub struct Solved<'a> {
-    lines: Lines<'a>,
+    prepared: Prepared<'a>,
     marks: Marks<'a>,
     scores: Scores<'a>,
     cells: u64,
@@ -35,31 +35,38 @@ impl<'a> Model for Solved<'a> {
 
     ghost use Rattle.seq_reference.specs.SolvedFields.{AreSolved};
 
-    ghost view = { λ solved. solved.lines };
+    ghost view = { λ solved. solved.prepared };
 
     ghost invariant = { AreSolved };
 }
 
 impl<'a> Solved<'a> {
-    /// The solution with these marks in rows and scores of the demanded cells, and their number.
+    /// The solution of a prepared problem, with these marks in rows and scores of the demanded cells, and their number.
     pub(crate) fn new(
-        lines: Lines<'a>,
+        prepared: Prepared<'a>,
         marks: Marks<'a>,
         scores: Scores<'a>,
         cells: u64,
     ) -> Solved<'a>
-        requires same_problem { scores.problem ≡ lines }
-        requires marked { (cell : Cell) → IsMarkedInRow marks cell ↔ IsDemanded lines cell }
-        requires scored { (cell : Cell) → IsDemanded lines cell → HasEntry scores cell }
-        requires counted { IsDemandedCount lines cells }
-        ensures { result ≡ lines.entry }
+        requires same_problem { scores.problem ≡ prepared }
+        requires marked { (cell : Cell) → IsMarkedInRow marks cell ↔ IsDemanded prepared cell }
+        requires scored { (cell : Cell) → IsDemanded prepared cell → HasEntry scores cell }
+        requires counted { IsDemandedCount prepared cells }
+        ensures { result ≡ prepared.entry }
     {
         Solved {
-            lines,
+            prepared,
             marks,
             scores,
             cells,
         }
+    }
+
+    /// The prepared problem. Takes no memory.
+    pub fn prepared(&self) -> &Prepared<'a>
+        ensures { result.now ≡ self.now }
+    {
+        &self.prepared
     }
 
     /// How many cells are demanded. Takes no memory.
@@ -76,7 +83,7 @@ impl<'a> Solved<'a> {
             (HasBestScore self.now cell)) }
         ensures demanded { IsSome result ↔ IsDemanded self.now cell }
     {
-        self.lines.problem().admissible();
+        self.prepared.problem().admissible();
         demanded_cells_are_counted();
         if self.marks.is_marked_in_row(cell) {
             Some(self.scores.score(cell))
@@ -96,10 +103,10 @@ impl<'a> Answers for Solved<'a> {
         ensures demanded { IsDemanded self.now cell → IsSome result }
         ensures only { IsSome result → IsDemanded self.now cell }
     {
-        self.lines.problem().admissible();
+        self.prepared.problem().admissible();
         demanded_cells_are_counted();
         if self.marks.is_marked_in_row(cell) {
-            Some(kept_answer(&self.lines, &self.scores, cell))
+            Some(kept_answer(self.prepared.lines(), &self.scores, cell))
         } else {
             None
         }

@@ -6,8 +6,7 @@ use crate::filling::filled_scores;
 use crate::solved::Solved;
 use crate::suffixes::visited_scores;
 use adp_model::Problem;
-use cell_tables::Layout;
-use split_lines::{Lines, Prepared};
+use split_lines::Prepared;
 use std::alloc::{AllocError, Global};
 use suffix_cells::{are_straight, mark_suffixes, rules_by_rank};
 
@@ -23,43 +22,36 @@ pub fn solve<'a>(alloc: Global, problem: &'a Problem<'a>) -> Result<Solved<'a>, 
 pub fn solve_prepared<'a>(alloc: Global, prepared: Prepared<'a>) -> Result<Solved<'a>, AllocError>
     ensures { IfOk result (λ solved. solved ≡ prepared.entry) }
 {
-    let (lines, layout) = prepared.into_parts();
-    if are_straight(lines.problem()) {
-        solve_suffixes(alloc, lines, layout)
+    if are_straight(prepared.problem()) {
+        solve_suffixes(alloc, prepared)
     } else {
-        solve_cells(alloc, lines, layout)
+        solve_cells(alloc, prepared)
     }
 }
 
 /// The answers, where the grammar is straight: all demanded cells end where the word ends.
-fn solve_suffixes<'a>(
-    alloc: Global,
-    lines: Lines<'a>,
-    layout: Layout<'a>,
-) -> Result<Solved<'a>, AllocError>
-    requires straight { AreStraight lines }
-    requires same_layout { layout ≡ lines }
-    ensures { IfOk result (λ solved. solved ≡ lines.entry) }
+fn solve_suffixes<'a>(alloc: Global, prepared: Prepared<'a>) -> Result<Solved<'a>, AllocError>
+    requires { AreStraight prepared }
+    ensures { IfOk result (λ solved. solved ≡ prepared.entry) }
 {
+    let lines = prepared.lines();
+    let layout = prepared.layout();
     let order = rules_by_rank(alloc, lines.problem())?;
-    let visits = mark_suffixes(alloc, &lines, &layout, order)?;
-    let scores = visited_scores(alloc, &lines, &layout, &visits)?;
+    let visits = mark_suffixes(alloc, lines, layout, order)?;
+    let scores = visited_scores(alloc, lines, layout, &visits)?;
+    let cells = visits.cells();
     let marks = visits.into_marks();
-    let cells = marks.count();
-    Ok(Solved::new(lines, marks, scores, cells))
+    Ok(Solved::new(prepared, marks, scores, cells))
 }
 
 /// The answers, whatever the grammar is.
-fn solve_cells<'a>(
-    alloc: Global,
-    lines: Lines<'a>,
-    layout: Layout<'a>,
-) -> Result<Solved<'a>, AllocError>
-    requires same_layout { layout ≡ lines }
-    ensures { IfOk result (λ solved. solved ≡ lines.entry) }
+fn solve_cells<'a>(alloc: Global, prepared: Prepared<'a>) -> Result<Solved<'a>, AllocError>
+    ensures { IfOk result (λ solved. solved ≡ prepared.entry) }
 {
-    let marks = demanded_marks(alloc, &lines, &layout)?;
-    let scores = filled_scores(alloc, &lines, &marks, &layout)?;
+    let lines = prepared.lines();
+    let layout = prepared.layout();
+    let marks = demanded_marks(alloc, lines, layout)?;
+    let scores = filled_scores(alloc, lines, &marks, layout)?;
     let cells = marks.count();
-    Ok(Solved::new(lines, marks, scores, cells))
+    Ok(Solved::new(prepared, marks, scores, cells))
 }

@@ -359,18 +359,19 @@ pub(crate) fn judge_block<'p, 't>(
     else {
         return Ok(Outcome::FirstFalse(0));
     };
-    let layout = Layout::new(alloc, problem)?;
-    let block = read_block(alloc, &layout, problem.grammar, rest)?;
+    let prepared = solved.prepared();
+    let layout = prepared.layout();
+    let block = read_block(alloc, layout, problem.grammar, rest)?;
     if !is_right_head(number, block.count, told, cells) {
         return Ok(Outcome::FirstFalse(0));
     }
     let Some(value) = told_value(problem, &block.claims) else {
         return Ok(Outcome::FirstFalse(0));
     };
-    let lines = Lines::new(alloc, problem)?;
-    let said_best = noted_said_best(alloc, &layout, solved, &block.claims)?;
+    let lines = prepared.lines();
+    let said_best = noted_said_best(alloc, layout, solved, &block.claims)?;
     match first_wrong(
-        &lines,
+        lines,
         &block.claims,
         solved,
         &said_best,

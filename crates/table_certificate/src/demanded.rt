@@ -113,25 +113,25 @@ fn rule_count(problem: &Problem<'_>) -> usize
     problem.grammar.rules.as_slice().len()
 }
 
-/// The demanded cells of a problem, in order: by rule, then by start, then by end.
+/// The demanded cells of a problem that is laid out, in order: by rule, then by start, then by end.
 ///
 /// # Errors
 ///
 /// Where there is no memory.
-pub fn demanded_cells<'p, A: DemandedScores>(
+pub fn demanded_cells<A: DemandedScores>(
     alloc: Global,
-    problem: &'p Problem<'p>,
+    layout: &Layout<'_>,
     scores: &A,
 ) -> Result<Vec<Cell>, AllocError>
-    requires { A.problem scores.now ≡ problem.now }
-    ensures { IfOk result (λ cells. AreDemanded problem.now cells.items) }
+    requires { A.problem scores.now ≡ layout.now }
+    ensures { IfOk result (λ cells. AreDemanded layout.now cells.items) }
 {
+    let problem = layout.problem();
     problem.admissible();
     demanded_cells_are_counted();
-    let layout = Layout::new(alloc, problem)?;
     let mut cells = Vec::new(alloc);
     for rule in 0..rule_count(problem) {
-        push_rule(&mut cells, &layout, scores, rule as u32)?;
+        push_rule(&mut cells, layout, scores, rule as u32)?;
     }
     Ok(cells)
 }

@@ -52,7 +52,7 @@ pub(crate) fn noted_said_best<'a>(
     let problem = layout.problem();
     problem.admissible();
     demanded_cells_are_counted();
-    let cells = demanded_cells(alloc, problem, solved)?;
+    let cells = demanded_cells(alloc, layout, solved)?;
     let mut said_best = Noted::new(alloc, layout)?;
     for cell in &cells {
         if is_said_best(solved, claims, *cell) {

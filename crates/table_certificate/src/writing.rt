@@ -8,6 +8,7 @@ ghost use Rattle.table_certificate.specs.WrittenCertificate.{cell_text, score_te
 use crate::demanded::{DemandedScores, demanded_cells};
 use adp_model::laws::demand::demanded_cells_are_counted;
 use adp_model::{Cell, Problem, push_decimal, push_signed};
+use cell_layouts::Layout;
 use std::alloc::{AllocError, Global};
 
 fn push_score(out: &mut Vec<u8>, score: Option<i64>) -> Result<(), AllocError>
@@ -70,22 +71,23 @@ fn best_score<A: DemandedScores>(scores: &A, cell: Cell) -> Option<i64>
     }
 }
 
-/// The block of a word in a certificate: its number, counted from 1, and the number of its demanded cells, then a line
-/// for each of these cells, in order, with its best score.
+/// The block of a word in a certificate, whose problem is laid out: its number, counted from 1, and the number of its
+/// demanded cells, then a line for each of these cells, in order, with its best score.
 ///
 /// # Errors
 ///
 /// Where there is no memory.
-pub fn certificate<'p, A: DemandedScores>(
+pub fn certificate<A: DemandedScores>(
     alloc: Global,
     number: u32,
-    problem: &'p Problem<'p>,
+    layout: &Layout<'_>,
     scores: &A,
 ) -> Result<Vec<u8>, AllocError>
-    requires { A.problem scores.now ≡ problem.now }
-    ensures { IfOk result (λ text. IsCertificate number problem.now text.items) }
+    requires { A.problem scores.now ≡ layout.now }
+    ensures { IfOk result (λ text. IsCertificate number layout.now text.items) }
 {
-    let cells = demanded_cells(alloc, problem, scores)?;
+    let problem = layout.problem();
+    let cells = demanded_cells(alloc, layout, scores)?;
     cells_certificate(alloc, number, problem, &cells, scores)
 }
 

@@ -67,7 +67,8 @@ fn written_outcome<'p, 't>(
     demanded_cells_are_within_the_cell_bound();
     words_keep_their_score_bound();
     parts_have_names();
-    let block = certificate(alloc, number, problem, solved)?;
+    let layout = solved.prepared().layout();
+    let block = certificate(alloc, number, layout, solved)?;
     let Some(behind) = behind_block(problem.grammar, &block, text) else {
         return Ok(None);
     };

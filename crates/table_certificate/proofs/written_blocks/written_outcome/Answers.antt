@@ -1,8 +1,9 @@
-use Rattle.std.proofs.Common.{◌≡◌, ℕ, List, ◌++◌, ap, arith, subst}
+use Rattle.std.proofs.Common.{◌≡◌, ℕ, List, ◌++◌, ap, arith, subst, ◌∙◌}
 use Rattle.adp_model.specs.declared.grammar.Grammar.{Grammar}
 use Rattle.adp_model.specs.PosedProblem.{PosedProblem}
 use Rattle.adp_model.specs.Demand.{IsDemandedCount}
 use Rattle.table_certificate.specs.BlockLines.{IsAtHead}
+use Rattle.table_certificate.specs.WrittenCertificate.{IsCertificate}
 use Rattle.table_certificate.proofs.WrittenBlocks.{few_demanded, written_is_right}
 use Rattle.table_certificate.proofs.written_blocks.written_outcome.Goals as goal
 
@@ -37,6 +38,8 @@ returns-clause-outcome c =
       count = c.demanded_cells_are_unique.ensures.count;
       heads = c.written_lines_are_right.ensures.heads;
       cells = c.written_lines_are_right.ensures.cells;
-    }) p c.admissible.ensures c.args.number (omega arith) c.in_ok-block.block.items c.args.text.now behind c.in_ok-block.ensures
+    }) p c.admissible.ensures c.args.number (omega arith) c.in_ok-block.block.items c.args.text.now behind
+    (subst (λ (q : PosedProblem). IsCertificate c.args.number q c.in_ok-block.block.items)
+    (c.layout-layout.ensures ∙ c.prepared.ensures ∙ c.requires) c.in_ok-block.ensures)
     (subst (λ (x : List ℕ). c.args.text.now ≡ x ++ behind) c.deref.ensures.value c.in-Some.ensures.text) head
     c.word_score.result c.word_score.ensures.within c.word_score.ensures.outside c.cells.result counted

@@ -1,9 +1,7 @@
-use Rattle.std.proofs.Common.{ℕ, refl, ap, sym, subst}
-use Rattle.std.specs.Option.{option_copied}
+use Rattle.std.proofs.Common.{ℕ, refl, ap, subst}
 use Rattle.adp_model.specs.PosedProblem.{PosedProblem}
 use Rattle.evaluators.specs.Runs.{IsNoteOf}
 use Rattle.verdicts.specs.Command.{Command}
-use Rattle.adp_main.specs.Groups.{IsSolvedFor}
 use Rattle.adp_main.specs.RunNotes.{IsRunFor}
 use Rattle.adp_main.proofs.FirstWords.{evaluated}
 use Rattle.adp_main.proofs.slot.Slot.evaluate.Goals as goal
@@ -11,7 +9,6 @@ use Rattle.adp_main.proofs.slot.Slot.evaluate.Goals as goal
 pub returns : goal.returns
 returns g c =
     let command = c.args.self.now.command.now in
-    let made = option_copied c.args.self.now.made in
     let finished = c.in_ok-finished.finished in
     let note = c.in_ok-note.note in
     let seeded = subst (λ (seed : ℕ). IsNoteOf c.problem-problem.result.now seed finished note)
@@ -25,6 +22,5 @@ returns g c =
         subst (λ (p : PosedProblem). IsNoteOf p command.seed finished note) c.problem-problem.ensures seeded,
         refl,
       );
-      report = λ asked solved. c.in_ok-report.ensures asked
-          (subst (λ (p : PosedProblem). IsSolvedFor command made asked p) (sym c.problem-problem.ensures) solved);
+      report = λ asked solved. c.in_ok-report.ensures asked solved;
     }

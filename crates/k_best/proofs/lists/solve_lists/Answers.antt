@@ -4,7 +4,7 @@ use Rattle.adp_model.specs.PosedProblem.{PosedProblem}
 use Rattle.adp_model.specs.Demand.{IsDemanded}
 use Rattle.cell_tables.specs.Marks.{IsMarkedInRow}
 use Rattle.k_best.specs.ListTables.{AreListed}
-use Rattle.k_best.proofs.lists.lists_over.Goals as goal
+use Rattle.k_best.proofs.lists.solve_lists.Goals as goal
 
 pub invariant_of-result : goal.invariant_of-result
 invariant_of-result c =
