@@ -173,8 +173,8 @@ fn read_number(case: &mut Case, word: &str, number: u32) -> Result<bool, AllocEr
     Ok(true)
 }
 
-// The words of a command, with one space between two.
-fn command(alloc: Global, rest: &str) -> Result<Vec<String>, AllocError> {
+/// The words of a command, with one space between two.
+pub(crate) fn command(alloc: Global, rest: &str) -> Result<Vec<String>, AllocError> {
     let mut words = Vec::new(alloc);
     for word in rest.split(' ') {
         words.push(String::from_str(alloc, word)?)?;

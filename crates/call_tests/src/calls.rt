@@ -5,7 +5,6 @@ use crate::grammars::{push_grammar_call, push_spelling};
 use crate::lines::{first_word, push_no_call, push_text};
 use crate::made::push_made_call;
 use crate::plain_texts::push_plain_text;
-use crate::runs::{push_meeting, push_run, push_side_by_side};
 use crate::shares::push_shares;
 use crate::streams::push_stream_call;
 use crate::terms::push_term_call;
@@ -57,7 +56,7 @@ fn push_call<R: Threads + Sync>(
         _ => {
             let (file, rest) = first_word(rest);
             match text_of(jobs, file) {
-                Some(text) => push_job_call(rt, alloc, text, name, rest, out),
+                Some(text) => push_job_call(alloc, text, name, rest, out),
                 None => push_no_call(out),
             }
         }
@@ -75,8 +74,7 @@ fn text_of<'j>(jobs: &'j [JobText], name: &str) -> Option<&'j str> {
 }
 
 /// Appends what a call on a job gave.
-fn push_job_call<R: Threads + Sync>(
-    rt: &R,
+fn push_job_call(
     alloc: Global,
     text: &str,
     name: &str,
@@ -84,9 +82,6 @@ fn push_job_call<R: Threads + Sync>(
     out: &mut Vec<u8>,
 ) -> Result<(), AllocError> {
     match name {
-        "run" => push_run(rt, alloc, text, rest, out),
-        "meet" | "in-step" => push_meeting(rt, alloc, text, name, rest, out),
-        "side-by-side" => push_side_by_side(rt, alloc, text, rest, out),
         "spelling" => push_spelling(alloc, text, out),
         "plain-text" => push_plain_text(alloc, text, out),
         _ => push_grammar_call(alloc, text, name, rest, out),

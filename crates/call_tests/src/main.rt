@@ -6,17 +6,14 @@
 mod calls;
 mod cells;
 mod codes;
-mod gates;
 mod grammars;
 mod lines;
 mod machines;
 mod made;
 mod pairs;
 mod plain_texts;
-mod runs;
 mod schedules;
 mod shares;
-mod sinks;
 mod streams;
 mod terms;
 
@@ -26,13 +23,8 @@ use calls::{JobText, push_line};
 use std::fs;
 
 // The jobs that calls name.
-const JOBS: [&str; 17] = [
+const JOBS: [&str; 12] = [
     "pairs.adp",
-    "pq.adp",
-    "empty.adp",
-    "three.adp",
-    "long.adp",
-    "chain.adp",
     "pieces.adp",
     "fewest.adp",
     "length.adp",

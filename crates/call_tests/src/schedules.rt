@@ -104,7 +104,7 @@ fn push_finished(finished: &Finished<'_>, out: &mut Vec<u8>) -> Result<(), Alloc
 }
 
 /// Appends a score and a choice.
-pub(crate) fn push_answer(answer: Answer, out: &mut Vec<u8>) -> Result<(), AllocError> {
+fn push_answer(answer: Answer, out: &mut Vec<u8>) -> Result<(), AllocError> {
     match answer {
         Answer::NoCandidate => push_text(out, " no candidate"),
         Answer::Best { score, choice } => {
